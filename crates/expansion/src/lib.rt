@@ -1,0 +1,1 @@
+// Expansion of a rule's command.

@@ -1,0 +1,1 @@
+// Logical lines of the allow and deny files, and the parts of a rule.

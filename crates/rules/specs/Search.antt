@@ -1,0 +1,101 @@
+-- Document 01, "EXCEPT", "Search" and "Asking": the walk and the verdict.
+--   search allow deny r == the answer on a request by two sound texts
+--   decide allow deny r == the call: every check, then the search
+-- Assumes nothing: these are definitions.
+use Prim.Native.Nat.{ℕ, _+_, _-_}
+use mathlib.Core.Bool.{Bool, not, _||_}
+use mathlib.Core.List.{List, [], _∷_}
+use mathlib.Core.Option.{Option, none, some, Option·getD}
+use lib.ListN.{length}
+use Rattle.text.specs.Basics.{if_then_else_, _>>=_, _orElse_, given, isEmpty, first}
+use Rattle.text.specs.Text.{bytes}
+use Rattle.section.specs.declared.Fault.the-variants as F
+use Rattle.section.specs.declared.Part.{Part}
+use Rattle.section.specs.Refusal.{Outcome, placeless, refusing}
+use Rattle.section.specs.Section as S
+use Rattle.section.specs.Section.{part, overLimit}
+use Rattle.lines.specs.Line.{Line, lines, isComment, isBlank}
+use Rattle.lines.specs.Rule.{Rule, isExcept, parseRule}
+use Rattle.lines.specs.Command.{trimmed}
+use Rattle.elements.specs.declared.Found.{Found}
+use Rattle.elements.specs.declared.Found.the-variants as Found
+use Rattle.elements.specs.Request.{Request, wellFormed}
+use Rattle.elements.specs.Element.{Element, daemonElement, clientElement}
+use Rattle.rules.specs.declared.Verdict.{Verdict}
+use Rattle.rules.specs.declared.Verdict.the-variants.{Granted, Denied, Ask}
+use Rattle.rules.specs.declared.File.{File}
+use Rattle.rules.specs.declared.File.the-variants.{Neither, Allow, Deny}
+use Rattle.rules.specs.declared.Answer.{Answer}
+use Rattle.rules.specs.Check.{hostsFault}
+
+-- the paper's words, and the section of a file
+abbrev pub verdictWord : Verdict → List ℕ
+verdictWord Granted = bytes "granted"
+verdictWord Denied = bytes "denied"
+verdictWord Ask = bytes "ask"
+
+abbrev pub fileSection : File → ℕ
+fileSection Neither = 0
+fileSection Allow = S.allow .order
+fileSection Deny = S.deny .order
+
+-- asking ends every walk; else what follows a match, or a miss
+abbrev pub onFound : Found → Found → Found → Found
+onFound Found.Yes matched missed = matched
+onFound Found.No matched missed = missed
+onFound Found.Ask matched missed = Found.Ask
+
+-- "What follows EXCEPT is itself a list. A list matches if some element left of its first EXCEPT matches and the list
+-- after it, if any, does not. Elements are looked at left to right until one matches; the right side is looked at only
+-- after the left matched."
+unfoldable mutual
+  pub included : (List ℕ → Found) → List (List ℕ) → Found
+  included m [] = Found.No
+  included m (w ∷ ws) = if isExcept w then Found.No else onFound (m w) (excluded m ws) (included m ws)
+
+  pub excluded : (List ℕ → Found) → List (List ℕ) → Found
+  excluded m [] = Found.Yes
+  excluded m (w ∷ ws) = if isExcept w then onFound (included m ws) Found.No Found.Yes else excluded m ws
+
+abbrev pub lookAt : Request → Element → Found
+lookAt r none = Found.No
+lookAt r (some f) = f r
+
+-- "A rule's client list is looked at only if its daemon list matched."
+unfoldable pub ruleFound : Request → Rule → Found
+ruleFound r u =
+    onFound (included (λ e. lookAt r (daemonElement e)) (u .daemons)) (included (λ e. lookAt r (clientElement e)) (u .clients)) Found.No
+
+-- "a part of the allow file or of the deny file, from after the second separator to before the ending newline; an empty
+-- part where there is none"; "empty means none". The place of an empty part is free.
+abbrev pub rawCommand : Line → Rule → Part
+rawCommand l u =
+    let n : ℕ = length (u .command) in part (l .place + (length (l .raw) - n)) (if isEmpty (trimmed (u .command)) then 0 else n)
+
+abbrev pub answer : Verdict → File → ℕ → Part → Answer
+answer v f n p = record { verdict = v; file = f; line = n; command = p }
+
+-- what the rule u of the line l answers: the verdict v of its file f where it matches
+abbrev pub ruleAnswer : Verdict → File → Line → Rule → Found → Option Answer
+ruleAnswer v f l u Found.Yes = some (answer v f (l .number) (rawCommand l u))
+ruleAnswer v f l u Found.Ask = some (answer Ask f (l .number) (part 0 0))
+ruleAnswer v f l u Found.No = none
+
+unfoldable pub lineAnswer : Verdict → File → Request → Line → Option Answer
+lineAnswer v f r l =
+    if isComment l || isBlank l then none else (parseRule (l .raw) >>= λ u. ruleAnswer v f l u (ruleFound r u))
+
+-- "First matching rule of allow grants; else first matching rule of deny denies; else granted with no file and line 0."
+unfoldable pub search : List ℕ → List ℕ → Request → Answer
+search allow deny r = Option·getD
+    (first (lineAnswer Granted Allow r) (lines allow) orElse first (lineAnswer Denied Deny r) (lines deny))
+    (answer Granted Neither 0 (part 0 0))
+
+-- "per section in turn, .. limit (2) ..; then allow, deny ..; then 13"; "A call that takes only some texts makes only
+-- their checks, over the whole of each text, before any verdict."
+unfoldable pub decide : List ℕ → List ℕ → Request → Outcome Answer
+decide allow deny r = refusing
+    (overLimit S.allow allow orElse overLimit S.deny deny
+    orElse hostsFault S.allow allow orElse hostsFault S.deny deny
+    orElse given (not (wellFormed r)) (placeless F.BadRequest))
+    (search allow deny r)

@@ -1,0 +1,76 @@
+-- Document 01, "Numbers the gate answers with".
+--   faultNumber f    == the paper's number of a fault
+--   lowest cs        == the first fault of cs whose test holds; cs stands in the order of the numbers
+--   Outcome A        == a refusal, or an answer of type A
+--   refusing o a     == the refusal o, else the answer a
+--   withinRoom n t   == t as output into n bytes
+--   lentAfter out o  == what the lent output out holds after the outcome o
+-- Assumes nothing: these are definitions.
+use Prim.Native.Nat.{ℕ}
+use mathlib.Core.Bool.{Bool}
+use mathlib.Core.List.{List, [], _∷_, _++_}
+use mathlib.Core.Option.{Option, none, some}
+use lib.ListN.{length, drop}
+use lib.Dec.{ltb}
+use Rattle.text.specs.Basics.{if_then_else_, given}
+use Rattle.section.specs.declared.Fault.{Fault}
+use Rattle.section.specs.declared.Fault.the-variants as F
+use Rattle.section.specs.declared.Refusal.{Refusal}
+
+-- 0 stands for "answered"; the words of each number are quoted where its test is defined
+abbrev pub faultNumber : Fault → ℕ
+faultNumber F.CutShort = 1
+faultNumber F.OverLimit = 2
+faultNumber F.TrailingBytes = 3
+faultNumber F.Unended = 4
+faultNumber F.BadByte = 5
+faultNumber F.LongLine = 6
+faultNumber F.NoElement = 7
+faultNumber F.MisplacedExcept = 8
+faultNumber F.ReservedStart = 9
+faultNumber F.UnknownElement = 10
+faultNumber F.BadPercent = 11
+faultNumber F.BadEntry = 12
+faultNumber F.BadRequest = 13
+faultNumber F.NoRoom = 14
+
+-- "within a line the lowest number"
+unfoldable pub lowest : List (Fault × Bool) → Option Fault
+lowest [] = none
+lowest (c ∷ cs) = if c .1 then some (c .0) else lowest cs
+
+-- "A refusal carries number, section (1 to 4, or 0) and line (0 where none; the entry number for 12)"
+abbrev pub refusal : Fault → ℕ → ℕ → Refusal
+refusal f s l = record { fault = f; section = s; line = l }
+
+-- the refusal by a fault, if there is one, at a section and a line
+abbrev pub atPlace : ℕ → ℕ → Option Fault → Option Refusal
+atPlace s l none = none
+atPlace s l (some f) = some (refusal f s l)
+
+-- "Section is 0 for 3, 13, 14"
+abbrev pub placeless : Fault → Refusal
+placeless f = refusal f 0 0
+
+-- "A refusal .. writes nothing, and gives no verdict."
+pub data Outcome (A : Type 0) : Type 0 where
+  refused : Refusal → Outcome A
+  answered : A → Outcome A
+
+infixl 20 _>>=_
+abbrev pub _>>=_ : {A B : Type 0} → Outcome A → (A → Outcome B) → Outcome B
+refused r >>= f = refused r
+answered a >>= f = f a
+
+abbrev pub refusing : {A : Type 0} → Option Refusal → A → Outcome A
+refusing none a = answered a
+refusing (some r) a = refused r
+
+-- 14: "the whole output is longer than the lent output"
+abbrev pub withinRoom : ℕ → List ℕ → Outcome (List ℕ)
+withinRoom room t = refusing (given (ltb room (length t)) (placeless F.NoRoom)) t
+
+-- "Bytes past the output are untouched."
+abbrev pub lentAfter : List ℕ → Outcome (List ℕ) → List ℕ
+lentAfter out (refused r) = out
+lentAfter out (answered t) = t ++ drop (length t) out

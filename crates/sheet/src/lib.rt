@@ -1,0 +1,9 @@
+// The station sheet: four texts in one, packed and unpacked.
+
+// The place and length of each text of a sheet.
+pub struct Parts {
+    pub allow: section::Part,
+    pub deny: section::Part,
+    pub byuid: section::Part,
+    pub portacl: section::Part,
+}

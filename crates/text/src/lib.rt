@@ -1,0 +1,1 @@
+// Bytes, texts and numbers: what every chapter is written in.
