@@ -1,0 +1,2 @@
+pub mod ExampleClaims
+pub mod UserClaims
