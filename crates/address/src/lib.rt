@@ -6,3 +6,5 @@ pub enum Addr {
     V4(u32),
     V6(u64, u64),
 }
+
+pub mod prefix;
