@@ -1,3 +1,4 @@
 pub mod BasicLaws
 pub mod Digits
 pub mod ScanLaws
+pub mod Canonical
