@@ -2,3 +2,4 @@ pub mod BasicLaws
 pub mod Digits
 pub mod ScanLaws
 pub mod Canonical
+pub mod Reading
