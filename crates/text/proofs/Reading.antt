@@ -1,4 +1,4 @@
--- Laws of the loop that reads a decimal: what is known at place i, where the digits passed make n, and what each answer follows from.
+-- The loop that reads a decimal: what is known at place i, where the digits passed make n, and what each answer follows from.
 -- Assumes nothing.
 use Prim.Native.Nat.{ℕ, suc, _+_, _-_, _*_, _^_, _<_, _≤_}
 use mathlib.Core.Bool.{Bool, true, false, _&&_, true≢false}
