@@ -1,0 +1,2 @@
+pub mod BasicLaws
+pub mod Digits
