@@ -3,6 +3,7 @@
 -- The longest sheet: its rules are blank lines alone, and its portacl list is one entry 84 times, then a longer one.
 -- Assumes nothing.
 use Prim.Native.Nat.{ℕ, zero, suc, _+_, _≤_, _<_}
+use Prim.Native.Char.{code}
 use native.Mathlib.Omega.{arith}
 use mathlib.Core.Bool.{Bool, true, false}
 use mathlib.Core.List.{List, [], _∷_, _++_}
@@ -11,7 +12,7 @@ use mathlib.Core.Path.{_≡_, refl, sym, ap, subst, _∙_}
 use lib.ListN.{length, take, replicate, length-append, length-replicate}
 use lib.Dec.{ltb}
 use Rattle.text.specs.Basics.{all, any, first}
-use Rattle.text.specs.Text.{bytes, split, equal, splitOnce}
+use Rattle.text.specs.Text.{bytes, equal, split, splitOnce, intercalate}
 use Rattle.text.specs.Number.{readDecimal, numeral, fromDigits, toDigits}
 use Rattle.text.proofs.BasicLaws.{all-append}
 use Rattle.text.proofs.Digits.{length-toDigits, toDigits-below}
@@ -49,6 +50,30 @@ at-most : (sheet : List ℕ) (p : Parts) → unpack sheet ≡ answered p → len
 at-most sheet p e = let f = unpack-answered sheet p e .0 in
     omega (arith, f .end, f .allow .place, f .allow .limit, f .deny .place, f .deny .limit, f .byuid .place, f .byuid .limit, f .portacl .place, f .portacl .limit)
 
-try : hostsFault S.allow (replicate 300 10) ≡ none
-unfolding hostsFault first lineFault lowest lines logicalLines split any all join hasBadByte
-try = refl
+abbrev longestTexts : Texts
+longestTexts = record {
+  allow = replicate 16384 (code "\n");
+  deny = replicate 16384 (code "\n");
+  byuid = replicate 8192 (code "\n");
+  portacl = intercalate (bytes ",") (replicate 84 (bytes "uid:0:tcp:0") ++ (bytes "uid:10:tcp:65535" ∷ []));
+}
+
+longestTexts-sound : textsFault longestTexts ≡ none
+unfolding textsFault hostsFault lineFault lowest lines logicalLines join hasBadByte portaclFault entryFault entries readEntry readDecimal numeral fromDigits split splitOnce equal intercalate first any all
+longestTexts-sound = refl
+
+length-longest : length (sheetOf longestTexts) ≡ 42000
+unfolding sheetOf toDigits intercalate
+length-longest = refl
+
+bytes-longest : AreBytes (sheetOf longestTexts)
+unfolding sheetOf toDigits intercalate all
+bytes-longest = refl
+
+reached : (sheet : List ℕ) × (p : Parts) × AreBytes sheet × (unpack sheet ≡ answered p) × (length sheet ≡ 42000)
+reached =
+    let h = unpack-pack longestTexts 42000 (sheetOf longestTexts) (answered-pack longestTexts 42000 longestTexts-sound (omega (arith, length-longest))) in
+    (sheetOf longestTexts, h .0, bytes-longest, h .1, length-longest)
+
+pub longest : Longest
+longest = record { at-most = at-most; reached = reached }
