@@ -1,2 +1,3 @@
 pub mod ExampleClaims
+pub mod SheetClaims
 pub mod UserClaims
