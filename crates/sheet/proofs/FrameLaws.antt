@@ -79,8 +79,8 @@ module _ (s : Section) (at : ℕ) (sheet : List ℕ) (p : Part) where
       let rest : List ℕ = drop at sheet in
       let n : ℕ = fromDigits 256 0 (take 4 rest) in
       let h =
-          tests-answered (ltb (length rest) 4) (ltb (s .limit) n) (ltb (length rest) (4 + n))
-          (refusal F.CutShort (s .order) 0) (refusal F.OverLimit (s .order) 0) (refusal F.CutShort (s .order) 0) (part (at + 4) n) p e
+      tests-answered (ltb (length rest) 4) (ltb (s .limit) n) (ltb (length rest) (4 + n))
+      (refusal F.CutShort (s .order) 0) (refusal F.OverLimit (s .order) 0) (refusal F.CutShort (s .order) 0) (part (at + 4) n) p e
       in
       record {
         place = sym (ap (λ q. q .place) (h .3));
@@ -148,11 +148,13 @@ frame-answered sheet q e =
 pub answered-frame : (sheet : List ℕ) (p : Parts) → Framed sheet p → frame sheet ≡ answered p
 unfolding frame
 answered-frame sheet p f =
-    rw (answered-sectionAt S.allow 0 sheet (p .allow) (f .allow),
+    rw (
+      answered-sectionAt S.allow 0 sheet (p .allow) (f .allow),
       answered-sectionAt S.deny (partEnd (p .allow)) sheet (p .deny) (f .deny),
       answered-sectionAt S.byuid (partEnd (p .deny)) sheet (p .byuid) (f .byuid),
       answered-sectionAt S.portacl (partEnd (p .byuid)) sheet (p .portacl) (f .portacl),
-      le-ltb (partEnd (p .portacl)) (length sheet) (omega (arith, f .end)))
+      le-ltb (partEnd (p .portacl)) (length sheet) (omega (arith, f .end)),
+    )
 
 -- what is refused by 1 at one of the four sections
 abbrev pub Short : {A : Type 0} → Outcome A → Type 0
@@ -215,13 +217,13 @@ counted-textAt s at sheet p e f =
     let from : List ℕ = drop (p .place) sheet in
     let count : List ℕ = take 4 (drop at sheet) in
     let digits : toDigits 256 4 (length (textAt sheet p)) ≡ count =
-        ap (toDigits 256 4) (length-take-le (p .len) from (rw length-drop (omega (arith, f .place, f .within))) ∙ f .count)
-        ∙ (rw (length-take-le 4 (drop at sheet) (rw length-drop (omega (arith, f .within))))
-        at (toDigits-fromDigits 256 0 count (all-take (λ b. ltb b 256) 4 (drop at sheet) (all-drop (λ b. ltb b 256) at sheet e))))
+    ap (toDigits 256 4) (length-take-le (p .len) from (rw length-drop (omega (arith, f .place, f .within))) ∙ f .count)
+    ∙ (rw (length-take-le 4 (drop at sheet) (rw length-drop (omega (arith, f .within))))
+    at (toDigits-fromDigits 256 0 count (all-take (λ b. ltb b 256) 4 (drop at sheet) (all-drop (λ b. ltb b 256) at sheet e))))
     in
     let rest : textAt sheet p ++ drop (partEnd p) sheet ≡ drop 4 (drop at sheet) =
-        ap (λ (l : List ℕ). textAt sheet p ++ l) (sym (drop-drop (p .len) (p .place) sheet)) ∙ take-append-drop (p .len) from
-        ∙ ap (λ (i : ℕ). drop i sheet) (f .place) ∙ sym (drop-drop 4 at sheet)
+    ap (λ (l : List ℕ). textAt sheet p ++ l) (sym (drop-drop (p .len) (p .place) sheet)) ∙ take-append-drop (p .len) from
+    ∙ ap (λ (i : ℕ). drop i sheet) (f .place) ∙ sym (drop-drop 4 at sheet)
     in
     rw (digits, append-assoc count (textAt sheet p) (drop (partEnd p) sheet), rest, take-append-drop 4 (drop at sheet))
 
@@ -291,19 +293,23 @@ module _ (ts : Texts) (sheet : List ℕ) (is : sheet ≡ inTurn ts) where
 
   pub textsAt-partsOf : textsAt sheet (partsOf ts) ≡ ts
   textsAt-partsOf =
-      rw (textAt-counted 0 sheet (ts .allow) _ is,
+      rw (
+        textAt-counted 0 sheet (ts .allow) _ is,
         textAt-counted (partEnd (partsOf ts .allow)) sheet (ts .deny) _ at-deny,
         textAt-counted (partEnd (partsOf ts .deny)) sheet (ts .byuid) _ at-byuid,
-        textAt-counted (partEnd (partsOf ts .byuid)) sheet (ts .portacl) [] at-portacl)
+        textAt-counted (partEnd (partsOf ts .byuid)) sheet (ts .portacl) [] at-portacl,
+      )
 
 pub sheetOf-textsAt : (sheet : List ℕ) (p : Parts) → all (λ b. ltb b 256) sheet ≡ true → Framed sheet p → sheetOf (textsAt sheet p) ≡ sheet
 sheetOf-textsAt sheet p e f =
     sheetOf-inTurn (textsAt sheet p)
-    ∙ rw (← (drop-of-length-le sheet {i = partEnd (p .portacl)} (omega (arith, f .end))),
+    ∙ rw (
+      ← (drop-of-length-le sheet {i = partEnd (p .portacl)} (omega (arith, f .end))),
       ← (counted-textAt S.portacl (partEnd (p .byuid)) sheet (p .portacl) e (f .portacl)),
       ← (counted-textAt S.byuid (partEnd (p .deny)) sheet (p .byuid) e (f .byuid)),
       ← (counted-textAt S.deny (partEnd (p .allow)) sheet (p .deny) e (f .deny)),
-      ← (counted-textAt S.allow 0 sheet (p .allow) e (f .allow)))
+      ← (counted-textAt S.allow 0 sheet (p .allow) e (f .allow)),
+    )
 
 -- ## Unpacking and packing
 
