@@ -2,16 +2,16 @@
 -- number is such a text.
 -- Assumes nothing.
 use Prim.Native.Nat.{ℕ, zero, suc, _+_, _-_, _*_, _/_, _%_, _^_, _<_, _≤_}
-use mathlib.Core.Bool.{Bool, true, false, _&&_, true≢false}
+use mathlib.Core.Bool.{Bool, true, false, _&&_}
 use mathlib.Core.List.{List, [], _∷_, _++_, map, map-append}
 use mathlib.Core.Option.{none, some}
 use mathlib.Core.Path.{_≡_, refl, sym, ap, ap₂, _∙_}
 use native.Mathlib.Omega.{arith}
 use native.Mathlib.Nat.{one-le-pow, div-eq-of-lt, lt-of-lt-of-le, mul-assoc, add-mul, mul-le-mul-right, pow-succ', one-mul, pow-le-pow-right, div-add-mod', div-lt-iff-lt-mul, le-div-iff-mul-le, mod-lt, mod-eq-of-lt, pow-zero, pow-suc, le-mul-of-pos-right}
-use borrow.Author.Tests.{ltb-true, ltb-false, lt-ltb, le-ltb, leb-true, le-leb, lt-leb, eq-eqb}
-use lib.Dec.{ltb, leb, eqb}
-use lib.ListN.{length, take, drop, getD, length-append, length-map, List·getD-append}
-use lib.Seq.{take-suc, take-all, take-length}
+use borrow.Author.Tests.{ltb-true, ltb-false, lt-ltb, le-ltb, leb-true, le-leb, lt-leb}
+use lib.Dec.{ltb, leb}
+use lib.ListN.{length, take, getD, length-append, length-map, List·getD-append}
+use lib.Seq.{take-suc, take-all}
 use Rattle.text.specs.Basics.{if_then_else_, given, all}
 use Rattle.text.specs.Text.{equal, isDigit}
 use Rattle.text.specs.Number.{fromDigits, digitByte, digitValue, numeral, decimal, readDecimal}
