@@ -1,3 +1,5 @@
 pub mod BasicLaws
 pub mod Digits
 pub mod ScanLaws
+pub mod Canonical
+pub mod Reading
