@@ -1,3 +1,4 @@
 pub mod BasicLaws
 pub mod Digits
 pub mod Numeral
+pub mod Intercalate
