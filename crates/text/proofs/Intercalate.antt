@@ -2,10 +2,10 @@
 --   free c w    == no byte of w is c
 --   isField c w == w is free of c and not empty
 -- Assumes nothing.
-use Prim.Native.Nat.{ℕ}
+use Prim.Native.Nat.{ℕ, _<_}
 use Prim.Native.Char.{Char, code}
 use Prim.Native.String.{String, [] as end, _∷_ as _then_}
-use mathlib.Core.Bool.{Bool, true, false, not, _&&_, _||_, true≢false, or-assoc, or-false, or-true}
+use mathlib.Core.Bool.{Bool, true, false, not, _&&_, _||_, true≢false, or-assoc, or-false, or-true, and-false}
 use mathlib.Core.List.{List, [], _∷_, _++_, map, append-nil, append-assoc}
 use mathlib.Core.Option.{Option, none, some}
 use mathlib.Core.Path.{_≡_, refl, sym, ap, ap₂, subst, _∙_}
@@ -26,6 +26,9 @@ module _ {A : Type 0} (p : A → Bool) where
   any-append [] t = refl
   any-append (x ∷ s) t = rw (any-append s t) (sym (or-assoc (p x) (any p s) (any p t)))
 
+  pub any-between : (s m t : List A) → any p m ≡ true → any p (s ++ m ++ t) ≡ true
+  any-between s m t e = any-append (s ++ m) t ∙ ap (λ (b : Bool). b || any p t) (any-append s m ∙ ap (λ (b : Bool). any p s || b) e ∙ or-true (any p s))
+
   pub all-append-left : (s t : List A) → all p (s ++ t) ≡ true → all p s ≡ true
   unfolding all
   all-append-left [] t e = refl
@@ -35,6 +38,16 @@ module _ {A : Type 0} (p : A → Bool) where
   unfolding all
   all-append-right [] t e = e
   all-append-right (x ∷ s) t e = all-append-right s t (and-true (p x) (all p (s ++ t)) e .1)
+
+  -- where some element passes a test that rules p out
+  pub all-false : (q : A → Bool) → ((x : A) → q x ≡ true → p x ≡ false) → (l : List A) → any q l ≡ true → all p l ≡ false
+  unfolding any all
+  all-false q h [] e = sym e
+  all-false q h (x ∷ l) e = by (q x) refl (all-false q h l)
+    where
+      by : (t : Bool) → q x ≡ t → (any q l ≡ true → all p l ≡ false) → (p x && all p l) ≡ false
+      by true d ih = rw (h x d)
+      by false d ih = rw (ih (rw d at e)) (and-false (p x))
 
   pub all-map : {B : Type 0} (f : B → A) → ((b : B) → p (f b) ≡ true) → (l : List B) → all p (map f l) ≡ true
   unfolding all
@@ -85,8 +98,29 @@ free c w = all (λ b. not (eqb b c)) w
 abbrev pub isField : ℕ → List ℕ → Bool
 isField c w = not (isEmpty w) && free c w
 
+-- where p holds of every byte and not of the mark
+pub free-all : (p : ℕ → Bool) (c : ℕ) → p c ≡ false → (w : List ℕ) → all p w ≡ true → free c w ≡ true
+unfolding all
+free-all p c n [] e = refl
+free-all p c n (x ∷ w) e =
+    let a = and-true (p x) (all p w) e in
+    rw (ne-eqb x c (λ q. true≢false (sym (a .0) ∙ ap p q ∙ n))) (free-all p c n w (a .1))
+
+pub isField-free : (c : ℕ) (w : List ℕ) → 0 < length w → free c w ≡ true → isField c w ≡ true
+isField-free c [] pos e = absurd (omega arith)
+isField-free c (x ∷ w) pos e = e
+
+intercalate-cons : (m : List ℕ) (y : ℕ) (v : List ℕ) (ws : List (List ℕ)) → intercalate m ((y ∷ v) ∷ ws) ≡ y ∷ intercalate m (v ∷ ws)
+unfolding intercalate
+intercalate-cons m y v [] = refl
+intercalate-cons m y v (u ∷ ws) = refl
+
+pub isEmpty-intercalate : (c : ℕ) (m w : List ℕ) (ws : List (List ℕ)) → isField c w ≡ true → isEmpty (intercalate m (w ∷ ws)) ≡ false
+isEmpty-intercalate c m [] ws e = absurd (true≢false (sym e))
+isEmpty-intercalate c m (y ∷ v) ws e = rw (intercalate-cons m y v ws)
+
 module _ (c : Char) where
-  among-one : (b : ℕ) → among (c then end) b ≡ eqb b (code c)
+  pub among-one : (b : ℕ) → among (c then end) b ≡ eqb b (code c)
   unfolding any
   among-one b = or-false (eqb b (code c))
 
@@ -102,13 +136,14 @@ module _ (c : Char) where
   split-append (x ∷ w) t e = let a = and-true (not (eqb x (code c))) (free (code c) w) e in
       rw (among-one x, not-true (eqb x (code c)) (a .0), split-append w t (a .1))
 
-  pub split-intercalate : (w : List ℕ) (ws : List (List ℕ)) → all (free (code c)) (w ∷ ws) ≡ true
-      → split (c then end) (intercalate (code c ∷ []) (w ∷ ws)) ≡ w ∷ ws
+  pub split-intercalate : (ws : List (List ℕ)) → 0 < length ws → all (free (code c)) ws ≡ true → split (c then end) (intercalate (code c ∷ []) ws) ≡ ws
   unfolding intercalate all
-  split-intercalate w [] e = split-free w (and-true (free (code c) w) true e .0)
-  split-intercalate w (v ∷ ws) e = let a = and-true (free (code c) w) (all (free (code c)) (v ∷ ws)) e in
+  split-intercalate [] pos e = absurd (omega arith)
+  split-intercalate (w ∷ []) pos e = split-free w (and-true (free (code c) w) true e .0)
+  split-intercalate (w ∷ v ∷ ws) pos e =
+      let a = and-true (free (code c) w) (all (free (code c)) (v ∷ ws)) e in
       rw (append-assoc w (code c ∷ []) (intercalate (code c ∷ []) (v ∷ ws)))
-      (split-append w (intercalate (code c ∷ []) (v ∷ ws)) (a .0) ∙ ap (λ (r : List (List ℕ)). w ∷ r) (split-intercalate v ws (a .1)))
+      (split-append w (intercalate (code c ∷ []) (v ∷ ws)) (a .0) ∙ ap (λ (r : List (List ℕ)). w ∷ r) (split-intercalate (v ∷ ws) (omega arith) (a .1)))
 
 -- ## The first of a mark of several bytes
 
@@ -150,11 +185,6 @@ appendFirst-cons x w (some p) = refl
 appendFirst-append : (v w : List ℕ) (o : Option (List ℕ × List ℕ)) → appendFirst v (appendFirst w o) ≡ appendFirst (v ++ w) o
 appendFirst-append v w none = refl
 appendFirst-append v w (some p) = simp append-assoc
-
-intercalate-cons : (m : List ℕ) (y : ℕ) (v : List ℕ) (ws : List (List ℕ)) → intercalate m ((y ∷ v) ∷ ws) ≡ y ∷ intercalate m (v ∷ ws)
-unfolding intercalate
-intercalate-cons m y v [] = refl
-intercalate-cons m y v (u ∷ ws) = refl
 
 module _ (c : ℕ) where
   splitOnce-free : (m w t : List ℕ) → free c w ≡ true → splitOnce (c ∷ m) (w ++ t) ≡ appendFirst w (splitOnce (c ∷ m) t)

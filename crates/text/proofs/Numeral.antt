@@ -33,7 +33,7 @@ equal-true (x ∷ s) (y ∷ t) e = let p = and-true (eqb x y) (equal s t) e in a
 -- ## Digits and their bytes
 
 -- either way to write a digit keeps what holds of both
-digitByte-cases : (P : ℕ → Type 0) (d : ℕ) → (d < 10 → P (48 + d)) → (10 ≤ d → P (97 + (d - 10))) → P (digitByte d)
+pub digitByte-cases : (P : ℕ → Type 0) (d : ℕ) → (d < 10 → P (48 + d)) → (10 ≤ d → P (97 + (d - 10))) → P (digitByte d)
 digitByte-cases P d f g = by (ltb d 10) refl
   where
     by : (t : Bool) → ltb d 10 ≡ t → P (digitByte d)
