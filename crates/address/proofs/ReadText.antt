@@ -2,25 +2,24 @@
 -- An IPv4 text is split at its dots into the decimals of its bytes. An IPv6 text either holds no `::` and is split at its colons into the hex
 -- groups, or its only `::` stands between the groups before and after a run of zeros. IPv6 text holds a colon, so it is no IPv4 text.
 -- Assumes nothing.
-use Prim.Native.Nat.{ℕ, zero, suc, _+_, _-_, _*_, _/_, _%_, _^_, _<_, _≤_}
-use mathlib.Core.Bool.{Bool, true, false, not, _&&_, _||_, true≢false, or-true}
+use Prim.Native.Nat.{ℕ, zero, suc, _+_, _-_, _*_, _^_, _<_, _≤_}
+use mathlib.Core.Bool.{Bool, true, false, _||_, or-true}
 use mathlib.Core.List.{List, [], _∷_, _++_, map, append-nil, append-assoc}
 use mathlib.Core.Option.{Option, none, some}
-use mathlib.Core.Path.{_≡_, refl, sym, ap, ap₂, subst, _∙_}
+use mathlib.Core.Path.{_≡_, refl, sym, ap, _∙_}
 use native.Mathlib.Omega.{arith}
-use borrow.Author.Tests.{eqb-true, eqb-false, eq-eqb, ne-eqb, not-true, ltb-true, lt-ltb, le-leb, lt-leb}
-use lib.Dec.{leb, ltb, eqb}
+use borrow.Author.Tests.{eqb-true, ltb-true, lt-ltb, le-leb}
+use lib.Dec.{ltb, eqb}
 use lib.Arith.{digits-lt, digits-div, digits-mod}
 use lib.ListN.{length, replicate, length-append, length-replicate, length-map}
-use Rattle.text.specs.Basics.{if_then_else_, _>>=_, _orElse_, given, isEmpty, any, all, each}
-use Rattle.text.specs.Text.{bytes, among, equal, splitOnce, split, intercalate, inRange, charRange, isDigit}
-use Rattle.text.specs.Number.{fromDigits, toDigits, digitByte, digitValue, numeral, decimal, readDecimal}
-use Rattle.text.proofs.BasicLaws.{and-true, all-append}
+use Rattle.text.specs.Basics.{if_then_else_, isEmpty, any, all, each}
+use Rattle.text.specs.Text.{bytes, among, equal, splitOnce, split, intercalate, charRange, isDigit}
+use Rattle.text.specs.Number.{fromDigits, toDigits, digitByte, numeral, decimal, readDecimal}
+use Rattle.text.proofs.BasicLaws.{and-true}
 use Rattle.text.proofs.Digits.{length-toDigits, toDigits-below, fromDigits-toDigits}
 use Rattle.text.proofs.Numeral.{digitByte-cases, length-numeral, all-numeral, fromDigits-numeral, isDigit-digitByte, readDecimal-decimal, readDecimal-none}
-use Rattle.text.proofs.Intercalate.{any-between, all-append-left, all-append-right, all-false, all-map, each-map, each-none, any-split, free, isField, free-all, isField-free, isEmpty-intercalate, among-one, split-intercalate, splitOnce-some, appendFirst, splitOnce-intercalate}
-use Rattle.section.specs.Refusal.{Outcome, refused, answered}
-use Rattle.address.specs.declared.Addr.{Addr}
+use Rattle.text.proofs.Intercalate.{any-between, all-append-left, all-append-right, all-false, all-map, each-map, each-none, any-split, free, isField, free-all, isField-free, isEmpty-intercalate, among-one, split-intercalate, splitOnce-some, splitOnce-intercalate}
+use Rattle.section.specs.Refusal.{answered}
 use Rattle.address.specs.declared.Addr.the-variants as A
 use Rattle.address.specs.Address.{readV4, readGroup, readLastGroup, readGroups, readCompressed, readV6, hexGroups, compress, textV4, textV6, addrText, readAddress}
 

@@ -6,15 +6,15 @@ use Prim.Native.Nat.{ℕ, _<_}
 use Prim.Native.Char.{Char, code}
 use Prim.Native.String.{String, [] as end, _∷_ as _then_}
 use mathlib.Core.Bool.{Bool, true, false, not, _&&_, _||_, true≢false, or-assoc, or-false, or-true, and-false}
-use mathlib.Core.List.{List, [], _∷_, _++_, map, append-nil, append-assoc}
+use mathlib.Core.List.{List, [], _∷_, _++_, map, append-assoc}
 use mathlib.Core.Option.{Option, none, some}
-use mathlib.Core.Path.{_≡_, refl, sym, ap, ap₂, subst, _∙_}
+use mathlib.Core.Path.{_≡_, refl, sym, ap, subst, _∙_}
 use native.Mathlib.Omega.{arith}
-use borrow.Author.Tests.{eqb-true, eqb-false, eq-eqb, ne-eqb, not-true}
+use borrow.Author.Tests.{eqb-false, eq-eqb, ne-eqb, not-true}
 use lib.Dec.{eqb}
 use lib.ListN.{length, take, drop, take-append-drop}
 use Rattle.text.specs.Basics.{if_then_else_, _>>=_, any, all, each, isEmpty}
-use Rattle.text.specs.Text.{bytes, among, equal, startsWith, consFirst, splitOnce, consHead, split, intercalate}
+use Rattle.text.specs.Text.{among, equal, startsWith, consFirst, splitOnce, consHead, split, intercalate}
 use Rattle.text.proofs.BasicLaws.{and-true}
 use Rattle.text.proofs.Numeral.{equal-true}
 
