@@ -3,6 +3,7 @@
 -- groups, or its only `::` stands between the groups before and after a run of zeros. IPv6 text holds a colon, so it is no IPv4 text.
 -- Assumes nothing.
 use Prim.Native.Nat.{ℕ, zero, suc, _+_, _-_, _*_, _^_, _<_, _≤_}
+use Prim.Native.Char.{code}
 use mathlib.Core.Bool.{Bool, true, false, _||_, or-true}
 use mathlib.Core.List.{List, [], _∷_, _++_, map, append-nil, append-assoc}
 use mathlib.Core.Option.{Option, none, some}
@@ -23,6 +24,12 @@ use Rattle.section.specs.Refusal.{answered}
 use Rattle.address.specs.declared.Addr.the-variants as A
 use Rattle.address.specs.Address.{readV4, readGroup, readLastGroup, readGroups, readCompressed, readV6, hexGroups, compress, textV4, textV6, addrText, readAddress}
 
+abbrev dot : ℕ
+dot = code "."
+
+abbrev colon : ℕ
+colon = code ":"
+
 -- ## IPv4
 
 pub readV4-textV4 : (n : ℕ) → n < 2 ^ 32 → readV4 (textV4 n) ≡ some n
@@ -34,7 +41,7 @@ readV4-textV4 n h =
     "."
     (map decimal ds)
     (omega (arith, length-map ds decimal))
-    (all-map (free 46) decimal (λ d. free-all isDigit 46 refl (decimal d) (all-numeral isDigit 10 (omega arith) isDigit-digitByte 10 d)) ds) in
+    (all-map (free dot) decimal (λ d. free-all isDigit dot refl (decimal d) (all-numeral isDigit 10 (omega arith) isDigit-digitByte 10 d)) ds) in
     let read : each (readDecimal 255) (map decimal ds) ≡ some ds = each-map
     (readDecimal 255)
     decimal
@@ -60,17 +67,17 @@ isHex-digitByte d h =
 isHex-numeral : (g : ℕ) → all isHex (numeral 16 4 g) ≡ true
 isHex-numeral = all-numeral isHex 16 (omega arith) isHex-digitByte 4
 
-free-numeral : (g : ℕ) → free 58 (numeral 16 4 g) ≡ true
-free-numeral g = free-all isHex 58 refl (numeral 16 4 g) (isHex-numeral g)
+free-numeral : (g : ℕ) → free colon (numeral 16 4 g) ≡ true
+free-numeral g = free-all isHex colon refl (numeral 16 4 g) (isHex-numeral g)
 
-isField-numeral : (g : ℕ) → isField 58 (numeral 16 4 g) ≡ true
-isField-numeral g = isField-free 58 (numeral 16 4 g) (length-numeral 16 4 g .1 (omega arith)) (free-numeral g)
+isField-numeral : (g : ℕ) → isField colon (numeral 16 4 g) ≡ true
+isField-numeral g = isField-free colon (numeral 16 4 g) (length-numeral 16 4 g .1 (omega arith)) (free-numeral g)
 
 readGroup-numeral : (g : ℕ) → g < 65536 → readGroup (numeral 16 4 g) ≡ some (g ∷ [])
 unfolding readGroup
 readGroup-numeral g h =
     let long = length-numeral 16 4 g in
-    rw (isHex-numeral g, le-leb 1 (length (numeral 16 4 g)) (length-numeral 16 4 g .1 (omega arith)), le-leb (length (numeral 16 4 g)) 4 (omega arith), fromDigits-numeral 16 (omega arith) (omega arith) 4 g (omega arith))
+    rw (isHex-numeral g, le-leb 1 (length (numeral 16 4 g)) (long .1 (omega arith)), le-leb (length (numeral 16 4 g)) 4 (omega arith), fromDigits-numeral 16 (omega arith) (omega arith) 4 g (omega arith))
 
 readLastGroup-numeral : (g : ℕ) → g < 65536 → readLastGroup (numeral 16 4 g) ≡ some (g ∷ [])
 unfolding readLastGroup
@@ -92,13 +99,13 @@ readGroups-map f h (g ∷ k ∷ gs) e =
     let a = and-true (ltb g 65536) (areGroups (k ∷ gs)) e in
     rw (readGroup-numeral g (ltb-true g 65536 (a .0)), readGroups-map f h (k ∷ gs) (a .1))
 
-fields : (gs : List ℕ) → all (isField 58) (map (numeral 16 4) gs) ≡ true
-fields = all-map (isField 58) (numeral 16 4) isField-numeral
+fields : (gs : List ℕ) → all (isField colon) (map (numeral 16 4) gs) ≡ true
+fields = all-map (isField colon) (numeral 16 4) isField-numeral
 
 -- the texts between colons, also where there is no group
 split-hexGroups : (gs : List ℕ) → 0 < length gs → split ":" (hexGroups gs) ≡ map (numeral 16 4) gs
 split-hexGroups gs pos =
-    split-intercalate ":" (map (numeral 16 4) gs) (omega (arith, length-map gs (numeral 16 4))) (all-map (free 58) (numeral 16 4) free-numeral gs)
+    split-intercalate ":" (map (numeral 16 4) gs) (omega (arith, length-map gs (numeral 16 4))) (all-map (free colon) (numeral 16 4) free-numeral gs)
 
 side-hexGroups : (gs : List ℕ) → (if isEmpty (hexGroups gs) then [] else split ":" (hexGroups gs)) ≡ map (numeral 16 4) gs
 unfolding intercalate
@@ -106,7 +113,7 @@ side-hexGroups [] = refl
 side-hexGroups (g ∷ gs) =
     ap
     (λ (b : Bool). if b then [] else split ":" (hexGroups (g ∷ gs)))
-    (isEmpty-intercalate 58 (bytes ":") (numeral 16 4 g) (map (numeral 16 4) gs) (isField-numeral g))
+    (isEmpty-intercalate colon (bytes ":") (numeral 16 4 g) (map (numeral 16 4) gs) (isField-numeral g))
     ∙ split-hexGroups (g ∷ gs) (omega arith)
 
 -- ## `::`
@@ -137,18 +144,18 @@ written-compress (suc k) gs = by (splitOnce (replicate (suc (suc k)) 0) gs) refl
 -- groups alone hold no `::`, and the first one after groups stands right behind them
 splitOnce-hexGroups : (gs : List ℕ) → splitOnce (bytes "::") (hexGroups gs) ≡ none
 unfolding splitOnce
-splitOnce-hexGroups gs = rw (append-nil (hexGroups gs)) at (splitOnce-intercalate 58 (map (numeral 16 4) gs) [] (fields gs))
+splitOnce-hexGroups gs = rw (append-nil (hexGroups gs)) at (splitOnce-intercalate colon (map (numeral 16 4) gs) [] (fields gs))
 
 splitOnce-compressed : (l r : List ℕ) → splitOnce (bytes "::") (hexGroups l ++ bytes "::" ++ hexGroups r) ≡ some (hexGroups l, hexGroups r)
 unfolding splitOnce equal
 splitOnce-compressed l r =
     rw (append-assoc (hexGroups l) (bytes "::") (hexGroups r))
-    (splitOnce-intercalate 58 (map (numeral 16 4) l) (58 ∷ 58 ∷ hexGroups r) (fields l) ∙ rw (append-nil (hexGroups l)))
+    (splitOnce-intercalate colon (map (numeral 16 4) l) (bytes "::" ++ hexGroups r) (fields l) ∙ rw (append-nil (hexGroups l)))
 
 -- ## IPv6
 
 abbrev isColon : ℕ → Bool
-isColon b = eqb b 58
+isColon b = eqb b colon
 
 colon-hexGroups : (gs : List ℕ) → 2 ≤ length gs → any isColon (hexGroups gs) ≡ true
 unfolding intercalate any
@@ -175,8 +182,8 @@ readV6-written gs t long small (short l r k d e) =
 readV4-none : (t : List ℕ) → any isColon t ≡ true → readV4 t ≡ none
 unfolding readV4
 readV4-none t e =
-    let no-digit : (x : ℕ) → isColon x ≡ true → isDigit x ≡ false = λ x c. ap isDigit (eqb-true x 58 c) in
-    let no-dot : (x : ℕ) → among "." x ≡ true → isColon x ≡ false = λ x c. ap isColon (eqb-true x 46 (sym (among-one "." x) ∙ c)) in
+    let no-digit : (x : ℕ) → isColon x ≡ true → isDigit x ≡ false = λ x c. ap isDigit (eqb-true x colon c) in
+    let no-dot : (x : ℕ) → among "." x ≡ true → isColon x ≡ false = λ x c. ap isColon (eqb-true x dot (sym (among-one "." x) ∙ c)) in
     rw (each-none
     (readDecimal 255)
     (any isColon)
