@@ -14,7 +14,7 @@ use Rattle.address.specs.declared.Addr.the-variants as A
 use Rattle.address.specs.Address.{addrText, readAddress}
 use Rattle.elements.specs.declared.User.{User}
 use Rattle.elements.specs.declared.User.the-variants as U
-use Rattle.elements.specs.Request.{Request, userCase}
+use Rattle.elements.specs.Request.{Request, withUser}
 use Rattle.rules.specs.declared.Answer.{Answer}
 use Rattle.rules.specs.declared.Verdict.{Verdict}
 use Rattle.rules.specs.declared.Verdict.the-variants.{Granted, Denied, Ask}
@@ -59,10 +59,6 @@ pub record ReadWritten : Type 0 where
   pub v6 : (high low : ℕ) → high < 2 ^ 64 → low < 2 ^ 64 → readAddress (addrText (A.V6 high low)) ≡ answered (A.V6 high low)
 
 -- ## Demand 3
-
--- "Two are alike in all else when at most the user differs"
-abbrev pub withUser : Request → User → List ℕ → Request
-withUser r u name = record { daemon = r .daemon; client = r .client; server = r .server; user = u; userName = name }
 
 -- "for every permitted name, and an unknown one": "A permitted name is any known user of 1 to 64 bytes."
 pub data Permitted : User → List ℕ → Type 0 where

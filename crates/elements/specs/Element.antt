@@ -73,3 +73,8 @@ daemonElement e = daemonParts e (halves e)
 
 unfoldable pub clientElement : List ℕ → Element
 clientElement e = clientParts e (halves e)
+
+-- what looking at an element finds; nothing matches one that is of no kind
+abbrev pub lookAt : Request → Element → Found
+lookAt r none = No
+lookAt r (some f) = f r

@@ -20,7 +20,7 @@ use Rattle.lines.specs.Command.{trimmed}
 use Rattle.elements.specs.declared.Found.{Found}
 use Rattle.elements.specs.declared.Found.the-variants as Found
 use Rattle.elements.specs.Request.{Request, wellFormed}
-use Rattle.elements.specs.Element.{Element, daemonElement, clientElement}
+use Rattle.elements.specs.Element.{lookAt, daemonElement, clientElement}
 use Rattle.rules.specs.declared.Verdict.{Verdict}
 use Rattle.rules.specs.declared.Verdict.the-variants.{Granted, Denied, Ask}
 use Rattle.rules.specs.declared.File.{File}
@@ -56,10 +56,6 @@ unfoldable mutual
   pub excluded : (List ℕ → Found) → List (List ℕ) → Found
   excluded m [] = Found.Yes
   excluded m (w ∷ ws) = if isExcept w then onFound (included m ws) Found.No Found.Yes else excluded m ws
-
-abbrev pub lookAt : Request → Element → Found
-lookAt r none = Found.No
-lookAt r (some f) = f r
 
 -- "A rule's client list is looked at only if its daemon list matched."
 unfoldable pub ruleFound : Request → Rule → Found

@@ -16,6 +16,8 @@ use Rattle.text.specs.Basics.{if_then_else_, given}
 use Rattle.section.specs.declared.Fault.{Fault}
 use Rattle.section.specs.declared.Fault.the-variants as F
 use Rattle.section.specs.declared.Refusal.{Refusal}
+use Rattle.section.specs.declared.Written.{Written}
+use Rattle.section.specs.declared.Written.the-variants as W
 
 -- 0 stands for "answered"; the words of each number are quoted where its test is defined
 abbrev pub faultNumber : Fault → ℕ
@@ -74,3 +76,8 @@ withinRoom room t = refusing (given (ltb room (length t)) (placeless F.NoRoom)) 
 abbrev pub lentAfter : List ℕ → Outcome (List ℕ) → List ℕ
 lentAfter out (refused r) = out
 lentAfter out (answered t) = t ++ drop (length t) out
+
+-- what such a call answers: the refusal, else the count of bytes written
+abbrev pub writtenOf : Outcome (List ℕ) → Written
+writtenOf (refused r) = W.Refused r
+writtenOf (answered t) = W.Count (length t)

@@ -1,4 +1,5 @@
 pub mod BasicLaws
 pub mod Digits
+pub mod ScanLaws
 pub mod Numeral
 pub mod Intercalate

@@ -1,1 +1,102 @@
 // Bytes, texts and numbers: what every chapter is written in.
+ghost use mathlib.Core.Path.{_≡_};
+ghost use mathlib.Core.Bool.{_&&_};
+ghost use Prim.Native.Nat.{_+_, _-_, _≤_};
+ghost use lib.Dec.{ltb};
+ghost use lib.ListN.{length, drop};
+ghost use Rattle.text.specs.Text.{isDigit, isLetter};
+ghost use Rattle.text.specs.Text.{lower as lowerOf, equal as equalTo, equalFold};
+ghost use Rattle.text.specs.Scan.{indexOf};
+
+// A number that was read, or none.
+pub enum NumberRead {
+    Nothing,
+    Value(u32),
+}
+
+// b in lower case.
+pub fn lower(b: u8) -> u8
+    ensures { λ r. ⌜ r ≡ lowerOf b ⌝ }
+{
+    if b < 65 {
+        return b;
+    }
+    if 90 < b {
+        return b;
+    }
+    b + 32
+}
+
+// Whether b is a digit.
+pub fn is_digit(b: u8) -> bool
+    ensures { λ r. ⌜ r ≡ isDigit b ⌝ }
+{
+    (48 <= b) & (b <= 57)
+}
+
+// Whether b is an ASCII letter.
+pub fn is_letter(b: u8) -> bool
+    ensures { λ r. ⌜ r ≡ isLetter b ⌝ }
+{
+    ((65 <= b) & (b <= 90)) | ((97 <= b) & (b <= 122))
+}
+
+// Whether two texts are equal.
+pub fn equal(a: &[u8], b: &[u8]) -> bool
+    ensures { λ r. ⌜ r ≡ equalTo (now (a .entry)) (now (b .entry)) ⌝ }
+{
+    if a.len() != b.len() {
+        return false;
+    }
+    let mut i = 0;
+    while i < a.len() {
+        if a[i] != b[i] {
+            return false;
+        }
+        i += 1;
+    }
+    true
+}
+
+// Whether two texts are equal but for ASCII case.
+pub fn equal_fold(a: &[u8], b: &[u8]) -> bool
+    ensures { λ r. ⌜ r ≡ equalFold (now (a .entry)) (now (b .entry)) ⌝ }
+{
+    if a.len() != b.len() {
+        return false;
+    }
+    let mut i = 0;
+    while i < a.len() {
+        if lower(a[i]) != lower(b[i]) {
+            return false;
+        }
+        i += 1;
+    }
+    true
+}
+
+// The first place of b in s, the length where there is none.
+pub fn index_of(s: &[u8], b: u8) -> usize
+    ensures place { λ r. ⌜ r ≡ indexOf b (now (s .entry)) ⌝ }
+    ensures within { λ r. do ⌜ r ≤ (← ⟦s.len()⟧ .entry) ⌝ }
+{
+    let mut i = 0;
+    while i < s.len() {
+        if s[i] == b {
+            return i;
+        }
+        i += 1;
+    }
+    i
+}
+
+// Whether s is longer than the suffix and ends in it, ignoring ASCII case.
+pub fn ends_with_fold(s: &[u8], suffix: &[u8]) -> bool
+    ensures { λ r. ⌜ r ≡ (ltb (length (now (suffix .entry))) (length (now (s .entry))) && equalFold (now (suffix .entry)) (drop (length (now (s .entry)) - length (now (suffix .entry))) (now (s .entry)))) ⌝ }
+{
+    if s.len() <= suffix.len() {
+        return false;
+    }
+    let at = s.len() - suffix.len();
+    equal_fold(suffix, &s[at..])
+}

@@ -1,0 +1,67 @@
+-- The eleven examples hold: each is computed from the definitions.
+-- Assumes nothing.
+use mathlib.Core.Bool.{true}
+use mathlib.Core.List.{flatMap}
+use mathlib.Core.Path.{_≡_, refl}
+use Rattle.text.specs.Basics as Basics
+use Rattle.text.specs.Text as Text
+use Rattle.text.specs.Number as Number
+use Rattle.section.specs.Refusal as Refusal
+use Rattle.address.specs.Address as Address
+use Rattle.lines.specs.Line as Line
+use Rattle.lines.specs.Rule as Rule
+use Rattle.lines.specs.Command as Command
+use Rattle.elements.specs.Request as Request
+use Rattle.elements.specs.Pattern as Pattern
+use Rattle.elements.specs.Element as Element
+use Rattle.rules.specs.Check as Check
+use Rattle.rules.specs.Search as Search
+use Rattle.expansion.specs.Expand as Expand
+use Rattle.byuid.specs.Byuid as Byuid
+use Rattle.portacl.specs.Portacl as Portacl
+use Rattle.sheet.specs.Sheet as Sheet
+use Rattle.claims.specs.Examples.{Examples}
+
+pub examples : Examples
+unfolding
+    Basics.any Basics.all Basics.first Basics.each
+    Text.equal Text.splitOnce Text.split Text.intercalate Text.lower Text.equalFold
+    Number.fromDigits Number.toDigits Number.numeral Number.readDecimal
+    Refusal.lowest
+    Address.samePrefix Address.readV4 Address.readGroup Address.readLastGroup Address.readGroups Address.readCompressed Address.readV6
+    Address.compress Address.addrText Address.readAddress Address.writeAddress
+    Line.join Line.logicalLines Line.lines Line.hasBadByte
+    Rule.splitSeparator Rule.nonEmpty Rule.elements Rule.parseRule
+    Command.skipBlanks Command.trimmed Command.pieces Command.hasBadPercent
+    Request.wellFormed
+    Pattern.wildcard Pattern.isNameByte Pattern.domainPattern Pattern.bracketPattern Pattern.leadingFields Pattern.netMask Pattern.dottedPattern
+    Pattern.namePattern Pattern.hostPattern
+    Element.halves Element.reservedStart Element.isPlainName Element.daemonName Element.userHalf Element.daemonParts Element.clientParts
+    Element.daemonElement Element.clientElement
+    Check.exceptMisplaced Check.ruleFault Check.lineFault Check.hostsFault
+    Search.included Search.excluded Search.ruleFound Search.lineAnswer Search.search Search.decide
+    Expand.inserted Expand.safeByte Expand.pieceText Expand.expansion Expand.expand
+    Byuid.readRange Byuid.readNet Byuid.readCommaForm Byuid.readColonForm Byuid.lineGrants Byuid.byuidDecision Byuid.decideByuid
+    Portacl.readEntry Portacl.entries Portacl.entryFault Portacl.portaclFault Portacl.portaclDecision Portacl.decidePortacl
+    Sheet.textsFault Sheet.sectionAt Sheet.frame Sheet.unpack
+    flatMap
+examples = record {
+  p1 = λ r e. rw e;
+  p2 = λ r e. rw e;
+  p3-yes = refl;
+  p3-no = refl;
+  p4-yes = refl;
+  p4-no = refl;
+  p5-yes = refl;
+  p5-no = refl;
+  p6-yes = refl;
+  p6-no = refl;
+  p7-no = refl;
+  p7-yes = refl;
+  p8 = refl;
+  p9 = refl;
+  p10 = refl;
+  p11-accepted = refl;
+  p11-short = refl;
+  p11-long = refl;
+}

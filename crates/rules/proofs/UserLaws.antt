@@ -1,0 +1,196 @@
+-- Demand 3, first half: a verdict reached without asking for the user is the verdict for every user.
+-- The walk for a user not fetched and the walk for any other user agree, element by element, wherever the first does not ask.
+-- Assumes nothing.
+use Prim.Native.Nat.{ℕ}
+use mathlib.Core.Bool.{Bool, true, false, not, _&&_, _||_}
+use mathlib.Core.List.{List, [], _∷_}
+use mathlib.Core.Option.{Option, none, some, Option·getD}
+use mathlib.Core.Path.{_≡_, refl, ap}
+use Rattle.text.specs.Basics.{if_then_else_, _>>=_, _orElse_, given, first}
+use Rattle.section.specs.declared.Fault.the-variants as F
+use Rattle.section.specs.declared.Refusal.{Refusal}
+use Rattle.section.specs.Refusal.{Outcome, refused, answered, placeless, refusing}
+use Rattle.section.specs.Section as S
+use Rattle.section.specs.Section.{part, overLimit}
+use Rattle.lines.specs.Line.{Line, lines, isComment, isBlank}
+use Rattle.lines.specs.Rule.{Rule, parseRule, isExcept}
+use Rattle.elements.specs.declared.User.{User}
+use Rattle.elements.specs.declared.User.the-variants as U
+use Rattle.elements.specs.declared.Found.{Found}
+use Rattle.elements.specs.declared.Found.the-variants.{No, Yes, Ask}
+use Rattle.elements.specs.Request.{Endpoint, Request, userCase, wellFormed, withUser}
+use Rattle.elements.specs.Pattern.{hostPattern}
+use Rattle.elements.specs.Element.{halves, foundIf, daemonName, userHalf, daemonParts, clientParts, daemonElement, clientElement, lookAt}
+use Rattle.rules.specs.declared.Verdict.{Verdict}
+use Rattle.rules.specs.declared.Verdict.the-variants as Ver
+use Rattle.rules.specs.declared.File.{File}
+use Rattle.rules.specs.declared.File.the-variants as Deciding
+use Rattle.rules.specs.declared.Answer.{Answer}
+use Rattle.rules.specs.Check.{hostsFault}
+use Rattle.rules.specs.Search.{onFound, included, excluded, ruleFound, answer, ruleAnswer, lineAnswer, search, decide}
+
+-- what has not asked: a finding, a verdict, an answer, an outcome
+abbrev pub Quiet : Found → Type 0
+Quiet No = Unit {0}
+Quiet Yes = Unit {0}
+Quiet Ask = ⊥
+
+abbrev pub QuietVerdict : Verdict → Type 0
+QuietVerdict Ver.Granted = Unit {0}
+QuietVerdict Ver.Denied = Unit {0}
+QuietVerdict Ver.Ask = ⊥
+
+abbrev pub QuietAnswer : Option Answer → Type 0
+QuietAnswer none = Unit {0}
+QuietAnswer (some a) = QuietVerdict (a .verdict)
+
+abbrev pub QuietOutcome : Outcome Answer → Type 0
+QuietOutcome (refused r) = Unit {0}
+QuietOutcome (answered a) = QuietVerdict (a .verdict)
+
+-- ## Choices that agree wherever the first is quiet
+
+onFound-same : (x x′ y y′ n n′ : Found) → Quiet (onFound x y n) → (Quiet x → x′ ≡ x) → (Quiet y → y′ ≡ y) → (Quiet n → n′ ≡ n) → onFound x′ y′ n′ ≡ onFound x y n
+onFound-same Yes x′ y y′ n n′ h f g k = rw (f tt) (g h)
+onFound-same No x′ y y′ n n′ h f g k = rw (f tt) (k h)
+onFound-same Ask x′ y y′ n n′ h f g k = absurd h
+
+if-same : (b : Bool) (x x′ y y′ : Found) → Quiet (if b then x else y) → (Quiet x → x′ ≡ x) → (Quiet y → y′ ≡ y) → (if b then x′ else y′) ≡ (if b then x else y)
+if-same true x x′ y y′ h f g = f h
+if-same false x x′ y y′ h f g = g h
+
+module _ (m m′ : List ℕ → Found) (agree : (w : List ℕ) → Quiet (m w) → m′ w ≡ m w) where
+  mutual
+    unfolding included excluded
+
+    included-same : (ws : List (List ℕ)) → Quiet (included m ws) → included m′ ws ≡ included m ws
+    included-same [] h = refl
+    included-same (w ∷ ws) h =
+        if-same (isExcept w) No No (onFound (m w) (excluded m ws) (included m ws)) (onFound (m′ w) (excluded m′ ws) (included m′ ws)) h (λ q. refl)
+        λ q. onFound-same (m w) (m′ w) (excluded m ws) (excluded m′ ws) (included m ws) (included m′ ws) q (agree w) (λ k. excluded-same ws k) (λ k. included-same ws k)
+
+    excluded-same : (ws : List (List ℕ)) → Quiet (excluded m ws) → excluded m′ ws ≡ excluded m ws
+    excluded-same [] h = refl
+    excluded-same (w ∷ ws) h =
+        if-same (isExcept w) (onFound (included m ws) No Yes) (onFound (included m′ ws) No Yes) (excluded m ws) (excluded m′ ws) h
+        (λ q. onFound-same (included m ws) (included m′ ws) No No Yes Yes q (λ k. included-same ws k) (λ k. refl) (λ k. refl))
+        (λ k. excluded-same ws k)
+
+first-same : (f f′ : Line → Option Answer) → ((l : Line) → QuietAnswer (f l) → f′ l ≡ f l) → (ls : List Line) → QuietAnswer (first f ls) → first f′ ls ≡ first f ls
+unfolding first
+first-same f f′ same [] h = refl
+first-same f f′ same (l ∷ ls) h = by (f l) (f′ l) (same l) h (first-same f f′ same ls)
+  where
+    by : (o o′ : Option Answer) → (QuietAnswer o → o′ ≡ o) → QuietAnswer (o orElse first f ls) → (QuietAnswer (first f ls) → first f′ ls ≡ first f ls) → (o′ orElse first f′ ls) ≡ (o orElse first f ls)
+    by none o′ e h ih = rw (e tt) (ih h)
+    by (some a) o′ e h ih = rw (e h)
+
+-- ## From an element to the call
+
+-- one request with its user not fetched, whatever bytes stand beside it, and the same with a user u
+module _ (r : Request) (t₀ : List ℕ) (u : User) (t : List ℕ) where
+  abbrev unasked : Request
+  unasked = withUser r U.NotFetched t₀
+
+  abbrev asked : Request
+  asked = withUser r u t
+
+  -- a daemon element knows no user
+  daemon-same : (e : List ℕ) → lookAt asked (daemonElement e) ≡ lookAt unasked (daemonElement e)
+  unfolding daemonElement daemonParts
+  daemon-same e = by (halves e)
+    where
+      half : (o : Option (List ℕ → Bool)) (o′ : Option (Endpoint → Bool))
+          → lookAt asked (o >>= λ f. o′ >>= λ g. some λ q. foundIf (f (q .daemon) && g (q .server))) ≡ lookAt unasked (o >>= λ f. o′ >>= λ g. some λ q. foundIf (f (q .daemon) && g (q .server)))
+      half none o′ = refl
+      half (some f) none = refl
+      half (some f) (some g) = refl
+
+      name : (o : Option (List ℕ → Bool)) → lookAt asked (o >>= λ f. some λ q. foundIf (f (q .daemon))) ≡ lookAt unasked (o >>= λ f. some λ q. foundIf (f (q .daemon)))
+      name none = refl
+      name (some f) = refl
+
+      by : (o : Option (List ℕ × List ℕ)) → lookAt asked (daemonParts e o) ≡ lookAt unasked (daemonParts e o)
+      by none = name (daemonName e)
+      by (some p) = half (daemonName (p .0)) (hostPattern (p .1))
+
+  -- a client element that does not ask knows none either
+  client-same : (e : List ℕ) → Quiet (lookAt unasked (clientElement e)) → lookAt asked (clientElement e) ≡ lookAt unasked (clientElement e)
+  unfolding clientElement clientParts
+  client-same e = by (halves e)
+    where
+      asks : (b : Bool) (f : Request → Bool) → Quiet (if b then Ask else No)
+          → (if b then userCase asked Ask (foundIf (f asked)) (foundIf (f asked)) else No) ≡ (if b then Ask else No)
+      asks true f h = absurd h
+      asks false f h = refl
+
+      half : (o : Option (Request → Bool)) (o′ : Option (Endpoint → Bool))
+          → Quiet (lookAt unasked (o >>= λ f. o′ >>= λ g. some λ q. if g (q .client) then userCase q Ask (foundIf (f q)) (foundIf (f q)) else No))
+          → lookAt asked (o >>= λ f. o′ >>= λ g. some λ q. if g (q .client) then userCase q Ask (foundIf (f q)) (foundIf (f q)) else No)
+          ≡ lookAt unasked (o >>= λ f. o′ >>= λ g. some λ q. if g (q .client) then userCase q Ask (foundIf (f q)) (foundIf (f q)) else No)
+      half none o′ h = refl
+      half (some f) none h = refl
+      half (some f) (some g) h = asks (g (r .client)) f h
+
+      name : (o : Option (Endpoint → Bool)) → lookAt asked (o >>= λ g. some λ q. foundIf (g (q .client))) ≡ lookAt unasked (o >>= λ g. some λ q. foundIf (g (q .client)))
+      name none = refl
+      name (some g) = refl
+
+      by : (o : Option (List ℕ × List ℕ)) → Quiet (lookAt unasked (clientParts e o)) → lookAt asked (clientParts e o) ≡ lookAt unasked (clientParts e o)
+      by none h = name (hostPattern e)
+      by (some p) h = half (userHalf (p .0)) (hostPattern (p .1)) h
+
+  rule-same : (x : Rule) → Quiet (ruleFound unasked x) → ruleFound asked x ≡ ruleFound unasked x
+  unfolding ruleFound
+  rule-same x h = onFound-same
+      (included (λ e. lookAt unasked (daemonElement e)) (x .daemons)) (included (λ e. lookAt asked (daemonElement e)) (x .daemons))
+      (included (λ e. lookAt unasked (clientElement e)) (x .clients)) (included (λ e. lookAt asked (clientElement e)) (x .clients)) No No h
+      (included-same (λ e. lookAt unasked (daemonElement e)) (λ e. lookAt asked (daemonElement e)) (λ w q. daemon-same w) (x .daemons))
+      (included-same (λ e. lookAt unasked (clientElement e)) (λ e. lookAt asked (clientElement e)) client-same (x .clients))
+      (λ q. refl)
+
+  line-same : (v : Verdict) (f : File) (l : Line) → QuietAnswer (lineAnswer v f unasked l) → lineAnswer v f asked l ≡ lineAnswer v f unasked l
+  unfolding lineAnswer
+  line-same v f l = by (isComment l || isBlank l) (parseRule (l .raw))
+    where
+      quiet : (x : Rule) (y : Found) → QuietAnswer (ruleAnswer v f l x y) → Quiet y
+      quiet x No h = tt
+      quiet x Yes h = tt
+      quiet x Ask h = h
+
+      by : (b : Bool) (o : Option Rule) → QuietAnswer (if b then none else (o >>= λ x. ruleAnswer v f l x (ruleFound unasked x)))
+          → (if b then none else (o >>= λ x. ruleAnswer v f l x (ruleFound asked x))) ≡ (if b then none else (o >>= λ x. ruleAnswer v f l x (ruleFound unasked x)))
+      by true o h = refl
+      by false none h = refl
+      by false (some x) h = ap (ruleAnswer v f l x) (rule-same x (quiet x (ruleFound unasked x) h))
+
+  pub search-same : (allow deny : List ℕ) → QuietVerdict (search allow deny unasked .verdict) → search allow deny asked ≡ search allow deny unasked
+  unfolding search
+  search-same allow deny = two
+      (first (lineAnswer Ver.Granted Deciding.Allow unasked) (lines allow)) (first (lineAnswer Ver.Granted Deciding.Allow asked) (lines allow))
+      (first (lineAnswer Ver.Denied Deciding.Deny unasked) (lines deny)) (first (lineAnswer Ver.Denied Deciding.Deny asked) (lines deny))
+      (first-same (lineAnswer Ver.Granted Deciding.Allow unasked) (lineAnswer Ver.Granted Deciding.Allow asked) (line-same Ver.Granted Deciding.Allow) (lines allow))
+      (first-same (lineAnswer Ver.Denied Deciding.Deny unasked) (lineAnswer Ver.Denied Deciding.Deny asked) (line-same Ver.Denied Deciding.Deny) (lines deny))
+    where
+      none-matched : Answer
+      none-matched = answer Ver.Granted Deciding.Neither 0 (part 0 0)
+
+      two : (o o′ p p′ : Option Answer) → (QuietAnswer o → o′ ≡ o) → (QuietAnswer p → p′ ≡ p)
+          → QuietVerdict (Option·getD (o orElse p) none-matched .verdict) → Option·getD (o′ orElse p′) none-matched ≡ Option·getD (o orElse p) none-matched
+      two (some a) o′ p p′ f g h = rw (f h)
+      two none o′ none p′ f g h = rw (f tt, g tt)
+      two none o′ (some a) p′ f g h = rw (f tt, g h)
+
+  -- a call that neither asks nor is refused gives every user that fits the same outcome; so does one that is refused
+  pub decide-same : wellFormed asked ≡ wellFormed unasked → (allow deny : List ℕ) → QuietOutcome (decide allow deny unasked)
+      → decide allow deny asked ≡ decide allow deny unasked
+  unfolding decide
+  decide-same e a d = by
+      (overLimit S.allow a orElse overLimit S.deny d orElse hostsFault S.allow a orElse hostsFault S.deny d)
+      (wellFormed unasked) (wellFormed asked) e
+    where
+      by : (o : Option Refusal) (b b′ : Bool) → b′ ≡ b → QuietOutcome (refusing (o orElse given (not b) (placeless F.BadRequest)) (search a d unasked))
+          → refusing (o orElse given (not b′) (placeless F.BadRequest)) (search a d asked) ≡ refusing (o orElse given (not b) (placeless F.BadRequest)) (search a d unasked)
+      by (some f) b b′ e h = refl
+      by none false b′ e h = rw e
+      by none true b′ e h = rw e (ap answered (search-same a d h))
