@@ -16,7 +16,7 @@ use lib.ListN.{length, take, drop, take-append-drop}
 use Rattle.text.specs.Basics.{if_then_else_, _>>=_, any, all, each, isEmpty}
 use Rattle.text.specs.Text.{among, equal, startsWith, consFirst, splitOnce, consHead, split, intercalate}
 use Rattle.text.proofs.BasicLaws.{and-true}
-use Rattle.text.proofs.Numeral.{equal-true}
+use Rattle.text.proofs.ScanLaws.{eq-of-equal}
 
 -- ## Tests and answers along a list
 
@@ -163,7 +163,7 @@ parts m (x ∷ t) = by (startsWith m (x ∷ t)) refl (parts m t)
 
     by : (b : Bool) → startsWith m (x ∷ t) ≡ b → Parts m t (splitOnce m t)
         → Parts m (x ∷ t) (if startsWith m (x ∷ t) then some ([], drop (length m) (x ∷ t)) else consFirst x (splitOnce m t))
-    by true e ih = rw e (sym (take-append-drop (length m) (x ∷ t)) ∙ ap (λ (l : List ℕ). l ++ drop (length m) (x ∷ t)) (sym (equal-true m (take (length m) (x ∷ t)) e)))
+    by true e ih = rw e (sym (take-append-drop (length m) (x ∷ t)) ∙ ap (λ (l : List ℕ). l ++ drop (length m) (x ∷ t)) (sym (eq-of-equal m (take (length m) (x ∷ t)) e)))
     by false e ih = rw e (cons (splitOnce m t) ih)
 
 pub splitOnce-some : (m t : List ℕ) (p : List ℕ × List ℕ) → splitOnce m t ≡ some p → t ≡ p .0 ++ (m ++ p .1)

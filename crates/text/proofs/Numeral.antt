@@ -4,31 +4,18 @@ use Prim.Native.Nat.{ℕ, zero, suc, _+_, _-_, _/_, _%_, _^_, _<_, _≤_}
 use mathlib.Core.Bool.{Bool, true, false, _&&_, true≢false}
 use mathlib.Core.List.{List, [], _∷_, _++_, map, map-append}
 use mathlib.Core.Option.{none, some}
-use mathlib.Core.Path.{_≡_, refl, sym, ap, ap₂, _∙_}
+use mathlib.Core.Path.{_≡_, refl, sym, ap, _∙_}
 use native.Mathlib.Omega.{arith}
 use native.Mathlib.Nat.{div-add-mod', div-lt-iff-lt-mul, mod-lt, mod-eq-of-lt, pow-zero, pow-suc}
-use borrow.Author.Tests.{ltb-true, ltb-false, lt-ltb, le-leb, lt-leb, eqb-true, eq-eqb}
-use lib.Dec.{leb, ltb, eqb}
+use borrow.Author.Tests.{ltb-true, ltb-false, lt-ltb, le-leb, lt-leb}
+use lib.Dec.{leb, ltb}
 use lib.ListN.{length, length-append}
 use Rattle.text.specs.Basics.{if_then_else_, given, all}
 use Rattle.text.specs.Text.{equal, isDigit, lower}
 use Rattle.text.specs.Number.{fromDigits, digitByte, digitValue, numeral, decimal, readDecimal}
 use Rattle.text.proofs.BasicLaws.{and-true, all-append}
 use Rattle.text.proofs.Digits.{fromDigits-append}
-
--- ## Equality of texts
-
-pub equal-refl : (t : List ℕ) → equal t t ≡ true
-unfolding equal
-equal-refl [] = refl
-equal-refl (x ∷ t) = rw (eq-eqb x x refl) (equal-refl t)
-
-pub equal-true : (s t : List ℕ) → equal s t ≡ true → s ≡ t
-unfolding equal
-equal-true [] [] e = refl
-equal-true [] (y ∷ t) e = absurd (true≢false (sym e))
-equal-true (x ∷ s) [] e = absurd (true≢false (sym e))
-equal-true (x ∷ s) (y ∷ t) e = let p = and-true (eqb x y) (equal s t) e in ap₂ (λ (a : ℕ) (l : List ℕ). a ∷ l) (eqb-true x y (p .0)) (equal-true s t (p .1))
+use Rattle.text.proofs.ScanLaws.{equal-refl, eq-of-equal}
 
 -- ## Digits and their bytes
 
@@ -116,5 +103,5 @@ readDecimal-none m t e = by (leb n m && equal t (decimal n)) refl
     n = fromDigits 10 0 (map digitValue t)
 
     by : (x : Bool) → (leb n m && equal t (decimal n)) ≡ x → given x n ≡ none
-    by true f = absurd (true≢false (sym (ap (all isDigit) (equal-true t (decimal n) (and-true (leb n m) (equal t (decimal n)) f .1)) ∙ all-numeral isDigit 10 (omega arith) isDigit-digitByte 10 n) ∙ e))
+    by true f = absurd (true≢false (sym (ap (all isDigit) (eq-of-equal t (decimal n) (and-true (leb n m) (equal t (decimal n)) f .1)) ∙ all-numeral isDigit 10 (omega arith) isDigit-digitByte 10 n) ∙ e))
     by false f = refl
