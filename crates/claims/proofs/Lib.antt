@@ -1,3 +1,4 @@
+pub mod AddressClaims
 pub mod ExampleClaims
 pub mod SheetClaims
 pub mod UserClaims
