@@ -1,1 +1,2 @@
 // Logical lines of the allow and deny files, and the parts of a rule.
+pub mod line;
