@@ -1,1 +1,3 @@
 // Logical lines of the allow and deny files, and the parts of a rule.
+pub mod command;
+pub mod rule;
