@@ -55,17 +55,17 @@ module _ (P : Bool → List ℕ → Type 0)
     (pair : (t : List ℕ) → P false t → P true (10 ∷ t))
     (byte : (b : Bool) (x : ℕ) (t : List ℕ) → (x ≡ 10 → ⊥) → P (eqb x 92) t → P b (x ∷ t))
   where
-  newline : (b : Bool) (t : List ℕ) → P false t → P b (10 ∷ t)
-  newline true t h = pair t h
-  newline false t h = stop t
+    newline : (b : Bool) (t : List ℕ) → P false t → P b (10 ∷ t)
+    newline true t h = pair t h
+    newline false t h = stop t
 
-  pub scan-ind : (b : Bool) (t : List ℕ) → P b t
-  scan-ind b [] = at-end b
-  scan-ind b (x ∷ t) = by (eqb x 10) refl (scan-ind false t) (scan-ind (eqb x 92) t)
-    where
-      by : (c : Bool) → eqb x 10 ≡ c → P false t → P (eqb x 92) t → P b (x ∷ t)
-      by true e h k = rw (eqb-true x 10 e) (newline b t h)
-      by false e h k = byte b x t (λ q. true≢false (sym (eq-eqb x 10 q) ∙ e)) k
+    pub scan-ind : (b : Bool) (t : List ℕ) → P b t
+    scan-ind b [] = at-end b
+    scan-ind b (x ∷ t) = by (eqb x 10) refl (scan-ind false t) (scan-ind (eqb x 92) t)
+      where
+        by : (c : Bool) → eqb x 10 ≡ c → P false t → P (eqb x 92) t → P b (x ∷ t)
+        by true e h k = rw (eqb-true x 10 e) (newline b t h)
+        by false e h k = byte b x t (λ q. true≢false (sym (eq-eqb x 10 q) ∙ e)) k
 
 pub scan-byte : (b : Bool) (x : ℕ) (t : List ℕ) → (x ≡ 10 → ⊥)
     → scan b (x ∷ t)
@@ -283,7 +283,7 @@ module _ (s : List ℕ) (i : ℕ) (h : i < length s) (x : Bool) (is-x : x ≡ pa
       let f = and-true (eqb (getD s i 0) 92) (eqb (getD s (i + 1) 0) 10) (sym is-x ∙ e) in
       let k : suc i < length s = omega (arith, pairAt-within e) in
       let d : drop i s ≡ getD s i 0 ∷ getD s (i + 1) 0 ∷ drop (i + 2) s =
-          rw (add-two i, add-one i) (drop-cons s i 0 h ∙ ap (λ (l : List ℕ). getD s i 0 ∷ l) (drop-cons s (suc i) 0 k)) in
+      rw (add-two i, add-one i) (drop-cons s i 0 h ∙ ap (λ (l : List ℕ). getD s i 0 ∷ l) (drop-cons s (suc i) 0 k)) in
       ap join d ∙ rw (eqb-true (getD s i 0) 92 (f .0), eqb-true (getD s (i + 1) 0) 10 (f .1)) (join-pair (drop (i + 2) s))
 
   pub join-keep : x ≡ false → join (drop i s) ≡ getD s i 0 ∷ join (drop (i + 1) s)
@@ -362,8 +362,8 @@ module _ {s o₀ o : List ℕ} {i n : ℕ} (inv : Joining s o₀ o i n) where
     pub joining-room : x ≡ false → length (join s) ≤ length o₀ → n < length o
     joining-room e k =
         let l : length (join s) ≡ n + suc (length (join (drop (i + 1) s))) =
-            ap length (inv .text) ∙ length-append (take n o) (join (drop i s))
-            ∙ ap₂ _+_ (length-take-le n o (inv .room)) (ap length (join-keep s i h x is-x e)) in
+        ap length (inv .text) ∙ length-append (take n o) (join (drop i s))
+        ∙ ap₂ _+_ (length-take-le n o (inv .room)) (ap length (join-keep s i h x is-x e)) in
         omega (arith, inv .long)
 
     pub joining-byte : x ≡ false → length (join s) ≤ length o₀ → Joining s o₀ (set o n (getD s i 0)) (i + 1) (n + 1)
@@ -371,11 +371,12 @@ module _ {s o₀ o : List ℕ} {i n : ℕ} (inv : Joining s o₀ o i n) where
         let b : ℕ = getD s i 0 in
         let r : n < length o = joining-room e k in
         record {
-            within = omega arith;
-            room = rw (length-set o n b) (omega arith);
-            long = length-set o n b ∙ inv .long;
-            text = rw (add-one n, take-suc-set o n b r) (inv .text ∙ ap (λ (l : List ℕ). take n o ++ l) (join-keep s i h x is-x e) ∙ sym (append-snoc (take n o) b (join (drop (i + 1) s))));
-            rest = drop-set-lt (n + 1) o n b (omega arith) ∙ sym (drop-drop 1 n o) ∙ ap (drop 1) (inv .rest) ∙ drop-drop 1 n o₀ }
+          within = omega arith;
+          room = rw (length-set o n b) (omega arith);
+          long = length-set o n b ∙ inv .long;
+          text = rw (add-one n, take-suc-set o n b r) (inv .text ∙ ap (λ (l : List ℕ). take n o ++ l) (join-keep s i h x is-x e) ∙ sym (append-snoc (take n o) b (join (drop (i + 1) s))));
+          rest = drop-set-lt (n + 1) o n b (omega arith) ∙ sym (drop-drop 1 n o) ∙ ap (drop 1) (inv .rest) ∙ drop-drop 1 n o₀;
+        }
 
 -- ## The line that was scanned from i, a part of the text t
 
@@ -463,10 +464,11 @@ module _ {t : List ℕ} {start i j : ℕ} {c : Bool} (inv : Scanning t start i j
         let p : i + suc (l .end) ≡ suc i + l .end = omega arith in
         let q : j + suc (l .joins) ≡ j + 1 + l .joins = omega arith in
         record {
-            from = omega (arith, inv .from);
-            within = omega arith;
-            few = omega (arith, inv .few);
-            so-far = inv .so-far ∙ rw (slash-next t start i (inv .from), drop-cons t i 0 h, e, ← is-x, f, scan-pair (drop (suc i) t), add-one i, p, q) }
+          from = omega (arith, inv .from);
+          within = omega arith;
+          few = omega (arith, inv .few);
+          so-far = inv .so-far ∙ rw (slash-next t start i (inv .from), drop-cons t i 0 h, e, ← is-x, f, scan-pair (drop (suc i) t), add-one i, p, q);
+        }
 
     scanning-byte : (getD t i 0 ≡ 10 → ⊥) → Scanning t start (i + 1) j (c && isLineByte (getD t i 0))
     scanning-byte n =
@@ -474,10 +476,11 @@ module _ {t : List ℕ} {start i j : ℕ} {c : Bool} (inv : Scanning t start i j
         let l : LineSpan = scan (eqb x 92) (drop (suc i) t) in
         let p : i + suc (l .end) ≡ suc i + l .end = omega arith in
         record {
-            from = omega (arith, inv .from);
-            within = omega arith;
-            few = omega (arith, inv .few);
-            so-far = inv .so-far ∙ rw (slash-next t start i (inv .from), drop-cons t i 0 h, scan-byte (slashBefore t start i) x (drop (suc i) t) n, add-one i, p, and-assoc c (isLineByte x) (l .clean)) }
+          from = omega (arith, inv .from);
+          within = omega arith;
+          few = omega (arith, inv .few);
+          so-far = inv .so-far ∙ rw (slash-next t start i (inv .from), drop-cons t i 0 h, scan-byte (slashBefore t start i) x (drop (suc i) t) n, add-one i, p, and-assoc c (isLineByte x) (l .clean));
+        }
 
     pub scanning-plain : (leb 32 (getD t i 0) && leb (getD t i 0) 126) ≡ true → Scanning t start (i + 1) j c
     scanning-plain e =
