@@ -7,7 +7,7 @@ use mathlib.Core.List.{List, [], _∷_, _++_, map, map-append}
 use mathlib.Core.Option.{none, some}
 use mathlib.Core.Path.{_≡_, refl, sym, ap, ap₂, _∙_}
 use native.Mathlib.Omega.{arith}
-use native.Mathlib.Nat.{div-eq-of-lt, lt-of-lt-of-le, mul-assoc, add-mul, mul-le-mul-right, pow-succ', one-mul, pow-le-pow-right, div-add-mod', div-lt-iff-lt-mul, le-div-iff-mul-le, mod-lt, mod-eq-of-lt, pow-zero, pow-suc, le-mul-of-pos-right}
+use native.Mathlib.Nat.{one-le-pow, div-eq-of-lt, lt-of-lt-of-le, mul-assoc, add-mul, mul-le-mul-right, pow-succ', one-mul, pow-le-pow-right, div-add-mod', div-lt-iff-lt-mul, le-div-iff-mul-le, mod-lt, mod-eq-of-lt, pow-zero, pow-suc, le-mul-of-pos-right}
 use borrow.Author.Tests.{ltb-true, ltb-false, lt-ltb, le-ltb, leb-true, le-leb, lt-leb, eq-eqb}
 use lib.Dec.{ltb, leb, eqb}
 use lib.ListN.{length, take, drop, getD, length-append, length-map, List·getD-append}
@@ -170,6 +170,31 @@ length-numeral-le b (suc j) n =
     by : (t : Bool) → length (numeral b j (n / b)) ≤ j → length (if t then [] else numeral b j (n / b)) + 1 ≤ suc j
     by true h = omega arith
     by false h = omega arith
+
+length-numeral-suc : (b j n : ℕ) → b ≤ n → length (numeral b (suc j) n) ≡ length (numeral b j (n / b)) + 1
+unfolding numeral
+length-numeral-suc b j n h = rw (le-ltb n b h) (length-append (numeral b j (n / b)) (digitByte (n % b) ∷ []))
+
+-- a number below a power has at most as many digits, one from a power on has more
+pub length-numeral-below : (b j k n : ℕ) → 1 < b → n < b ^ suc k → length (numeral b j n) ≤ suc k
+unfolding numeral
+length-numeral-below b zero k n big lt = omega arith
+length-numeral-below b (suc j) k n big lt = by (ltb n b) refl k lt (λ (k : ℕ) (lt : n / b < b ^ suc k). length-numeral-below b j k (n / b) big lt)
+  where
+    by : (t : Bool) → ltb n b ≡ t → (k : ℕ) → n < b ^ suc k → ((k : ℕ) → n / b < b ^ suc k → length (numeral b j (n / b)) ≤ suc k) → length (numeral b (suc j) n) ≤ suc k
+    by true e k lt ih = let l : n < b = ltb-true n b e in rw (numeral-digit b j n l) (omega arith)
+    by false e zero lt ih = let l : n < 1 * b = rw (pow-suc b 0, pow-zero b) at lt in absurd (omega (arith, ltb-false n b e))
+    by false e (suc k) lt ih =
+        omega (arith, length-numeral-suc b j n (ltb-false n b e), ih k (div-lt-iff-lt-mul {k = b} {x = n} {y = b ^ suc k} (omega arith) .1 (rw (pow-suc b (suc k)) at lt)))
+
+pub length-numeral-above : (b j k n : ℕ) → 1 < b → b ^ k ≤ n → k < j → k < length (numeral b j n)
+length-numeral-above b zero k n big le h = absurd (omega arith)
+length-numeral-above b (suc j) zero n big le h = numeral-some b j n
+length-numeral-above b (suc j) (suc k) n big le h =
+    let l : b ^ k * b ≤ n = rw (pow-suc b k) at le in
+    let m : b ≤ b ^ k * b = rw (one-mul b) at (mul-le-mul-right b (one-le-pow k b (omega arith))) in
+    let ih : k < length (numeral b j (n / b)) = length-numeral-above b j k (n / b) big (le-div-iff-mul-le {k = b} {x = b ^ k} {y = n} (omega arith) .1 l) (omega arith) in
+    omega (arith, length-numeral-suc b j n (omega arith))
 
 pub isDigit-digitByte : (d : ℕ) → d < 10 → isDigit (digitByte d) ≡ true
 isDigit-digitByte d h = rw (lt-ltb d 10 h, le-leb 48 (48 + d) (omega arith), le-leb (48 + d) 57 (omega arith))
