@@ -14,7 +14,8 @@ use lib.Seq.{length-take-le, take-at, drop-at, take-length, drop-length, take-su
 use Rattle.text.specs.Basics.{if_then_else_}
 use Rattle.text.specs.Number.{digitByte, numeral, decimal}
 use Rattle.text.specs.Scan.{putAt}
-use Rattle.text.proofs.Canonical.{numeral-some, length-numeral-le, length-numeral-below, length-numeral-above}
+use Rattle.text.proofs.Canonical.{length-numeral-below, length-numeral-above}
+use Rattle.text.proofs.Numeral.{length-numeral}
 
 -- ## Measuring
 
@@ -27,7 +28,7 @@ pub record Measured (n power k : ℕ) : Type 0 where
   pub digits : k ≤ length (decimal n)
 
 pub measured-start : (n : ℕ) → Measured n 10 1
-measured-start n = record { is-power = refl; low = omega arith; some = omega arith; few = omega arith; digits = numeral-some 10 9 n }
+measured-start n = record { is-power = refl; low = omega arith; some = omega arith; few = omega arith; digits = length-numeral 10 10 n .1 (omega arith) }
 
 module _ (n power k : ℕ) (m : Measured n power k) where
   pub measured-step : n < 4294967296 → power ≤ n → Measured n (power * 10) (k + 1)
@@ -64,7 +65,7 @@ pub record Written (d o : List ℕ) (at n m j : ℕ) : Type 0 where
 
 pub written-start : (d : List ℕ) (at n k : ℕ) → k ≡ length (decimal n) → Written d d at n n k
 written-start d at n k e =
-    let l : length (decimal n) ≤ 10 = length-numeral-le 10 10 n in
+    let l : length (decimal n) ≤ 10 = length-numeral 10 10 n .0 in
     let f : 10 - length (decimal n) + length (decimal n) ≡ 10 = omega arith in
     rw e
     (record {
