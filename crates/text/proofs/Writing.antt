@@ -3,17 +3,19 @@
 use Prim.Native.Nat.{ℕ, zero, suc, _+_, _-_, _*_, _/_, _%_, _^_, _<_, _≤_}
 use mathlib.Core.Bool.{Bool, true, false}
 use mathlib.Core.List.{List, [], _∷_, _++_, append-assoc, append-nil}
-use mathlib.Core.Path.{_≡_, refl, sym, ap, ap₂, _∙_}
+use mathlib.Core.Path.{_≡_, refl, sym, ap, _∙_}
 use native.Mathlib.Numerals.{add-one}
 use native.Mathlib.Omega.{arith}
 use native.Mathlib.Nat.{mod-lt, pow-suc, pow-le-pow-right}
 use borrow.Author.Tests.{ltb-true, ltb-false, lt-ltb}
 use lib.Dec.{ltb}
-use lib.ListN.{length, take, drop, getD, set, length-append, length-set, length-take, take-append-drop}
-use lib.Seq.{paste, length-take-le, take-at, drop-at, take-length, drop-length, take-suc, drop-cons, set-at}
+use lib.ListN.{length, take, drop, getD, set, length-append, length-set, take-append-drop}
+use lib.Seq.{length-take-le, take-at, drop-at, take-length, drop-length, take-suc, drop-cons, set-at}
 use Rattle.text.specs.Basics.{if_then_else_}
 use Rattle.text.specs.Number.{digitByte, numeral, decimal}
-use Rattle.text.proofs.Canonical.{numeral-some, length-numeral-le, length-numeral-below, length-numeral-above}
+use Rattle.text.specs.Scan.{putAt}
+use Rattle.text.proofs.Canonical.{length-numeral-below, length-numeral-above}
+use Rattle.text.proofs.Numeral.{length-numeral}
 
 -- ## Measuring
 
@@ -26,7 +28,7 @@ pub record Measured (n power k : ℕ) : Type 0 where
   pub digits : k ≤ length (decimal n)
 
 pub measured-start : (n : ℕ) → Measured n 10 1
-measured-start n = record { is-power = refl; low = omega arith; some = omega arith; few = omega arith; digits = numeral-some 10 9 n }
+measured-start n = record { is-power = refl; low = omega arith; some = omega arith; few = omega arith; digits = length-numeral 10 10 n .1 (omega arith) }
 
 module _ (n power k : ℕ) (m : Measured n power k) where
   pub measured-step : n < 4294967296 → power ≤ n → Measured n (power * 10) (k + 1)
@@ -63,7 +65,7 @@ pub record Written (d o : List ℕ) (at n m j : ℕ) : Type 0 where
 
 pub written-start : (d : List ℕ) (at n k : ℕ) → k ≡ length (decimal n) → Written d d at n n k
 written-start d at n k e =
-    let l : length (decimal n) ≤ 10 = length-numeral-le 10 10 n in
+    let l : length (decimal n) ≤ 10 = length-numeral 10 10 n .0 in
     let f : 10 - length (decimal n) + length (decimal n) ≡ 10 = omega arith in
     rw e
     (record {
@@ -118,7 +120,8 @@ module _ (d o : List ℕ) (at n m : ℕ) (room : at + length (decimal n) ≤ len
   written-step zero w h = absurd (omega arith)
   written-step (suc i) w h = let e : suc i - 1 ≡ i = omega arith in rw e (written-suc i w)
 
-  pub written-all : (j : ℕ) → Written d o at n m j → j ≤ 0 → o ≡ paste d at (decimal n) (length (decimal n))
+  pub written-all : (j : ℕ) → Written d o at n m j → j ≤ 0 → o ≡ putAt d at (decimal n)
+  unfolding putAt
   written-all j w h =
       let e : j ≡ 0 = omega arith in
       let f : at + 0 ≡ at = omega arith in

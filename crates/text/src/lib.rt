@@ -6,9 +6,8 @@ ghost use lib.Dec.{ltb};
 ghost use lib.ListN.{length, drop};
 ghost use Rattle.text.specs.Text.{isDigit, isLetter};
 ghost use Rattle.text.specs.Text.{lower as lowerOf, equal as equalTo, equalFold};
-ghost use Rattle.text.specs.Scan.{indexOf, asNumber};
+ghost use Rattle.text.specs.Scan.{indexOf, asNumber, putAt};
 ghost use Rattle.text.specs.Number.{decimal, readDecimal};
-ghost use lib.Seq.{paste};
 
 // A number that was read, or none.
 pub enum NumberRead {
@@ -137,7 +136,7 @@ pub fn read_decimal(s: &[u8], max: u32) -> NumberRead
 pub fn put(out: &mut [u8], at: usize, s: &[u8]) -> usize
     requires { ⌜ at + length (now s) ≤ length (now out) ⌝ }
     ensures next { λ r. ⌜ r ≡ at + length (now (s .entry)) ⌝ }
-    ensures written { λ _. ⌜ now (out .exit) ≡ paste (now (out .entry)) at (now (s .entry)) (length (now (s .entry))) ⌝ }
+    ensures written { λ _. ⌜ now (out .exit) ≡ putAt (now (out .entry)) at (now (s .entry)) ⌝ }
 {
     let mut j = 0;
     while j < s.len() {
@@ -165,7 +164,7 @@ pub fn decimal_len(n: u32) -> usize
 pub fn put_decimal(out: &mut [u8], at: usize, n: u32) -> usize
     requires { ⌜ at + length (decimal n) ≤ length (now out) ⌝ }
     ensures next { λ r. ⌜ r ≡ at + length (decimal n) ⌝ }
-    ensures written { λ _. ⌜ now (out .exit) ≡ paste (now (out .entry)) at (decimal n) (length (decimal n)) ⌝ }
+    ensures written { λ _. ⌜ now (out .exit) ≡ putAt (now (out .entry)) at (decimal n) ⌝ }
 {
     let k = decimal_len(n);
     let mut m = n;
