@@ -80,11 +80,7 @@ fn is_pair(s: &[u8], i: usize) -> bool
         return false;
     }
     let k = i + 1;
-    if k < s.len() {
-        s[k] == 10
-    } else {
-        false
-    }
+    if k < s.len() { s[k] == 10 } else { false }
 }
 
 // Writes s, joined, and answers its length.
