@@ -69,7 +69,6 @@ pub record SectionAt (s : Section) (at : ℕ) (sheet : List ℕ) (p : Part) : Ty
   pub limit : p .len ≤ s .limit
   pub within : at + 4 + p .len ≤ length sheet
 
-<<<<<<< HEAD
 pub sectionAt-answered : (s : Section) (at : ℕ) (sheet : List ℕ) (p : Part) → sectionAt s at sheet ≡ answered p → SectionAt s at sheet p
 unfolding sectionAt
 sectionAt-answered s at sheet p e =
@@ -85,24 +84,6 @@ sectionAt-answered s at sheet p e =
       limit = omega (arith, ap (λ q. q .len) same, ltb-false (s .limit) n (b .0));
       within = omega (arith, ap (λ q. q .len) same, ltb-false (length rest) (4 + n) (c .0), length-drop at sheet);
     }
-=======
-module _ (s : Section) (at : ℕ) (sheet : List ℕ) (p : Part) where
-  pub sectionAt-answered : sectionAt s at sheet ≡ answered p → SectionAt s at sheet p
-  unfolding sectionAt
-  sectionAt-answered e =
-      let rest : List ℕ = drop at sheet in
-      let n : ℕ = fromDigits 256 0 (take 4 rest) in
-      let h =
-      tests-answered (ltb (length rest) 4) (ltb (s .limit) n) (ltb (length rest) (4 + n))
-      (refusal F.CutShort (s .order) 0) (refusal F.OverLimit (s .order) 0) (refusal F.CutShort (s .order) 0) (part (at + 4) n) p e
-      in
-      record {
-        place = sym (ap (λ q. q .place) (h .3));
-        count = sym (ap (λ q. q .len) (h .3));
-        limit = omega (arith, ap (λ q. q .len) (h .3), ltb-false (s .limit) n (h .1));
-        within = omega (arith, ap (λ q. q .len) (h .3), ltb-false (length rest) (4 + n) (h .2), length-drop at sheet);
-      }
->>>>>>> text
 
 module _ {s : Section} {at : ℕ} {sheet : List ℕ} {p : Part} (f : SectionAt s at sheet p) where
   pub answered-sectionAt : sectionAt s at sheet ≡ answered p
@@ -163,21 +144,12 @@ frame-answered sheet q e =
 
 pub answered-frame : {sheet : List ℕ} {p : Parts} → Framed sheet p → frame sheet ≡ answered p
 unfolding frame
-<<<<<<< HEAD
 answered-frame {sheet} {p} f =
     rw (
       answered-sectionAt (f .allow),
       answered-sectionAt (f .deny),
       answered-sectionAt (f .byuid),
       answered-sectionAt (f .portacl),
-=======
-answered-frame sheet p f =
-    rw (
-      answered-sectionAt S.allow 0 sheet (p .allow) (f .allow),
-      answered-sectionAt S.deny (partEnd (p .allow)) sheet (p .deny) (f .deny),
-      answered-sectionAt S.byuid (partEnd (p .deny)) sheet (p .byuid) (f .byuid),
-      answered-sectionAt S.portacl (partEnd (p .byuid)) sheet (p .portacl) (f .portacl),
->>>>>>> text
       le-ltb (partEnd (p .portacl)) (length sheet) (omega (arith, f .end)),
     )
 
@@ -235,7 +207,6 @@ module _ (at : ℕ) (sheet t rest : List ℕ) (here : drop at sheet ≡ counted 
         within = omega (arith, length-drop at sheet, simp (length-append, length-toDigits) at (ap length here));
       }
 
-<<<<<<< HEAD
 -- a section's bytes are its count and its text
 module _ {s : Section} {at : ℕ} {sheet : List ℕ} {p : Part} (are-bytes : all (λ b. ltb b 256) sheet ≡ true) (f : SectionAt s at sheet p) where
   length-textAt : length (textAt sheet p) ≡ p .len
@@ -254,24 +225,6 @@ module _ {s : Section} {at : ℕ} {sheet : List ℕ} {p : Part} (are-bytes : all
   pub counted-textAt : drop at sheet ≡ counted (textAt sheet p) ++ drop (partEnd p) sheet
   counted-textAt =
       rw (count-textAt, append-assoc (take 4 (drop at sheet)) (textAt sheet p) (drop (partEnd p) sheet), after-textAt, take-append-drop 4 (drop at sheet))
-=======
--- a section's bytes are its text with its count
-pub counted-textAt : (s : Section) (at : ℕ) (sheet : List ℕ) (p : Part) → all (λ b. ltb b 256) sheet ≡ true → SectionAt s at sheet p
-    → drop at sheet ≡ counted (textAt sheet p) ++ drop (partEnd p) sheet
-counted-textAt s at sheet p e f =
-    let from : List ℕ = drop (p .place) sheet in
-    let count : List ℕ = take 4 (drop at sheet) in
-    let digits : toDigits 256 4 (length (textAt sheet p)) ≡ count =
-    ap (toDigits 256 4) (length-take-le (p .len) from (rw length-drop (omega (arith, f .place, f .within))) ∙ f .count)
-    ∙ (rw (length-take-le 4 (drop at sheet) (rw length-drop (omega (arith, f .within))))
-    at (toDigits-fromDigits 256 0 count (all-take (λ b. ltb b 256) 4 (drop at sheet) (all-drop (λ b. ltb b 256) at sheet e))))
-    in
-    let rest : textAt sheet p ++ drop (partEnd p) sheet ≡ drop 4 (drop at sheet) =
-    ap (λ (l : List ℕ). textAt sheet p ++ l) (sym (drop-drop (p .len) (p .place) sheet)) ∙ take-append-drop (p .len) from
-    ∙ ap (λ (i : ℕ). drop i sheet) (f .place) ∙ sym (drop-drop 4 at sheet)
-    in
-    rw (digits, append-assoc count (textAt sheet p) (drop (partEnd p) sheet), rest, take-append-drop 4 (drop at sheet))
->>>>>>> text
 
 -- ## Four texts
 
@@ -351,17 +304,10 @@ sheetOf-textsAt {sheet} {p} e f =
     sheetOf-inTurn (textsAt sheet p)
     ∙ rw (
       ← (drop-of-length-le sheet {i = partEnd (p .portacl)} (omega (arith, f .end))),
-<<<<<<< HEAD
       ← (counted-textAt e (f .portacl)),
       ← (counted-textAt e (f .byuid)),
       ← (counted-textAt e (f .deny)),
       ← (counted-textAt e (f .allow)),
-=======
-      ← (counted-textAt S.portacl (partEnd (p .byuid)) sheet (p .portacl) e (f .portacl)),
-      ← (counted-textAt S.byuid (partEnd (p .deny)) sheet (p .byuid) e (f .byuid)),
-      ← (counted-textAt S.deny (partEnd (p .allow)) sheet (p .deny) e (f .deny)),
-      ← (counted-textAt S.allow 0 sheet (p .allow) e (f .allow)),
->>>>>>> text
     )
 
 -- ## Unpacking and packing
