@@ -11,8 +11,6 @@ ghost use mathlib.Core.Path.{_≡_};
 ghost use lib.Dec.{eqb};
 ghost use Rattle.text.specs.Basics.{if_then_else_, any};
 ghost use Rattle.text.specs.Text.{equal};
-ghost use Rattle.text.specs.Scan.{asNumber};
-ghost use Rattle.text.specs.Number.{readDecimal};
 ghost use Rattle.portacl.specs.Portacl.{protocolWord, rulingOf, portaclFault, decidePortacl};
 ghost use Rattle.portacl.specs.Code.{bind, checkedOf, asEntry, entryData, idData, protocolData, portData, grantsTo, entriesData, walk, decisionOf};
 
@@ -69,18 +67,11 @@ pub enum Walked {
     Sound(bool),
 }
 
-// Stub.
-fn read_decimal(s: &[u8], max: u32) -> NumberRead
-    ensures { λ r. ⌜ r ≡ asNumber (readDecimal max (now (s .entry))) ⌝ }
-{
-    NumberRead::Nothing
-}
-
 // An entry's port, the last of its parts.
 fn read_port(group: bool, id: u32, protocol: Protocol, s: &[u8]) -> EntryRead
     ensures { λ r. ⌜ r ≡ asEntry (portData group id protocol (now (s .entry))) ⌝ }
 {
-    match read_decimal(s, 65535) {
+    match text::read_decimal(s, 65535) {
         NumberRead::Nothing => EntryRead::Nothing,
         NumberRead::Value(port) => EntryRead::Value(
             Entry {
@@ -120,7 +111,7 @@ fn read_id(group: bool, s: &[u8]) -> EntryRead
         return EntryRead::Nothing;
     }
     let after = colon + 1;
-    match read_decimal(&s[..colon], 4294967295) {
+    match text::read_decimal(&s[..colon], 4294967295) {
         NumberRead::Nothing => EntryRead::Nothing,
         NumberRead::Value(id) => read_protocol(group, id, &s[after..]),
     }

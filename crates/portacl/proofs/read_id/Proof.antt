@@ -8,7 +8,7 @@ use Rattle.portacl.proofs.read_id.Statement.{statement}
 use Rattle.portacl.proofs.read_id.Tie as tie
 use Rattle.portacl.proofs.read_id.Reads as reads
 use Rattle.portacl.proofs.read_id.Lts as lts
-use Rattle.portacl.proofs.read_decimal.Reads as read-decimal-reads
+use Rattle.text.proofs.read_decimal.Reads as read-decimal-reads
 use Rattle.portacl.proofs.read_protocol.Reads as read-protocol-reads
 use Rattle.text.proofs.index_of.Reads as index-of-reads
 

@@ -5,7 +5,7 @@ use Rattle.portacl.proofs.read_port.Statement.{statement}
 use Rattle.portacl.proofs.read_port.Tie as tie
 use Rattle.portacl.proofs.read_port.Reads as reads
 use Rattle.portacl.proofs.read_port.Lts as lts
-use Rattle.portacl.proofs.read_decimal.Reads as read-decimal-reads
+use Rattle.text.proofs.read_decimal.Reads as read-decimal-reads
 
 -- src/lib.rt:82:11
 read-decimal-requires : tie.Need-read-decimal-requires
