@@ -1,13 +1,13 @@
 -- Laws that tie what the code computes to the definitions of the decision.
 -- Assumes nothing.
 use Prim.Native.Nat.{ℕ, _+_, _<_, _≤_}
-use mathlib.Core.Bool.{Bool, true, false, _||_, or-false, or-assoc}
+use mathlib.Core.Bool.{Bool, true, false, not, _&&_, _||_, or-false, or-assoc}
 use mathlib.Core.List.{List, [], _∷_, map}
 use mathlib.Core.Option.{Option, none, some}
 use mathlib.Core.Path.{_≡_, refl, sym, ap, ap₂, _∙_}
 use native.Mathlib.Omega.{arith}
-use borrow.Author.Tests.{lt-ltb, le-ltb}
-use lib.Dec.{ltb}
+use borrow.Author.Tests.{eq-eqb, ne-eqb, lt-ltb, le-ltb}
+use lib.Dec.{ltb, eqb}
 use lib.ListN.{length}
 use Rattle.text.specs.Basics.{_>>=_, holds, any}
 use Rattle.text.specs.Text.{bytes, splitOnce, split}
@@ -19,6 +19,7 @@ use Rattle.section.specs.Section as S
 use Rattle.portacl.specs.declared.Checked.{Checked}
 use Rattle.portacl.specs.declared.Checked.the-variants as C
 use Rattle.portacl.specs.declared.Decision.{Decision}
+use Rattle.portacl.specs.declared.Decision.the-variants.{NotRuled, Exempt, Granted, Denied}
 use Rattle.portacl.specs.declared.Entry.{Entry}
 use Rattle.portacl.specs.declared.Protocol.{Protocol}
 use Rattle.portacl.specs.declared.Protocol.the-variants.{Tcp, Udp}
@@ -109,6 +110,40 @@ checkedOf-refused (some q) r e = cc
 checkedOf-sound : (o : Option Refusal) → checkedOf o ≡ C.Sound → o ≡ none
 checkedOf-sound none e = refl
 checkedOf-sound (some q) e = let z : _≡_ {A = ℕ} 0 1 = cc in absurd (omega arith)
+
+-- ## By the settings
+
+module _ (s : Settings) (uid port : ℕ) (granted : Bool) where
+  abbrev decided : Decision
+  decided = decisionOf s uid port granted
+
+  pub decided-off : s .enabled ≡ 0 → NotRuled ≡ decided
+  unfolding decisionOf
+  decided-off e = rw (eq-eqb (s .enabled) 0 e)
+
+  module _ (on : s .enabled ≡ 0 → ⊥) where
+    pub decided-autoport : (not (eqb (s .«autoport_exempt») 0) && eqb port 0) ≡ true → Exempt ≡ decided
+    unfolding decisionOf
+    decided-autoport e = rw (ne-eqb (s .enabled) 0 on, e)
+
+    module _ (a : (not (eqb (s .«autoport_exempt») 0) && eqb port 0) ≡ false) where
+      pub decided-high : s .«port_high» < port → NotRuled ≡ decided
+      unfolding decisionOf
+      decided-high h = rw (ne-eqb (s .enabled) 0 on, a, lt-ltb (s .«port_high») port h)
+
+      module _ (h : port ≤ s .«port_high») where
+        pub decided-suser : (not (eqb (s .«suser_exempt») 0) && eqb uid 0) ≡ true → Exempt ≡ decided
+        unfolding decisionOf
+        decided-suser e = rw (ne-eqb (s .enabled) 0 on, a, le-ltb (s .«port_high») port h, e)
+
+        module _ (u : (not (eqb (s .«suser_exempt») 0) && eqb uid 0) ≡ false) where
+          pub decided-granted : granted ≡ true → Granted ≡ decided
+          unfolding decisionOf
+          decided-granted e = rw (ne-eqb (s .enabled) 0 on, a, le-ltb (s .«port_high») port h, u, e)
+
+          pub decided-denied : granted ≡ false → Denied ≡ decided
+          unfolding decisionOf
+          decided-denied e = rw (ne-eqb (s .enabled) 0 on, a, le-ltb (s .«port_high») port h, u, e)
 
 -- ## The decision
 

@@ -1,18 +1,18 @@
--- Laws of reading one entry, and of what it grants.
+-- Laws of looking for an id, and of reading one entry.
 -- Assumes nothing.
 use Prim.Native.Nat.{ℕ, _+_, _-_, _<_, _≤_}
 use Prim.Native.String.{String}
 use mathlib.Core.Bool.{Bool, true, false}
-use mathlib.Core.List.{List, [], _∷_}
+use mathlib.Core.List.{List}
 use mathlib.Core.Option.{Option, none, some}
-use mathlib.Core.Path.{_≡_, refl, sym, ap, _∙_}
+use mathlib.Core.Path.{_≡_, refl, sym, _∙_}
 use native.Mathlib.Numerals.{add-one}
 use native.Mathlib.Omega.{arith}
 use borrow.Author.Tests.{eq-eqb, ne-eqb}
 use lib.Dec.{eqb}
 use lib.ListN.{length, take, drop, getD, drop-of-length-le}
 use lib.Seq.{drop-cons}
-use Rattle.text.specs.Basics.{if_then_else_, _>>=_, any}
+use Rattle.text.specs.Basics.{_>>=_, any}
 use Rattle.text.specs.Text.{bytes, equal, splitOnce}
 use Rattle.text.specs.Number.{readDecimal}
 use Rattle.text.specs.Scan.{indexOf, asNumber}

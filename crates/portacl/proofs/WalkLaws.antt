@@ -4,11 +4,11 @@ use Prim.Native.Nat.{ℕ, _+_, _-_, _<_, _≤_}
 use mathlib.Core.Bool.{Bool, true, false, _||_}
 use mathlib.Core.List.{List, [], _∷_, map}
 use mathlib.Core.Option.{Option, none, some}
-use mathlib.Core.Path.{_≡_, refl, sym, ap, _∙_}
+use mathlib.Core.Path.{_≡_, refl, sym, _∙_}
 use native.Mathlib.Omega.{arith}
 use borrow.Author.Tests.{le-leb, lt-leb, leb-true, leb-false}
 use lib.Dec.{leb}
-use lib.ListN.{length, take, drop, length-drop, drop-of-length-le}
+use lib.ListN.{length, take, drop, length-drop}
 use lib.Seq.{take-all, drop-drop}
 use Rattle.text.specs.Basics.{if_then_else_}
 use Rattle.text.specs.Text.{split}
@@ -86,4 +86,5 @@ module _ (t : List ℕ) (b : Bind) (g : Bool) (n at : ℕ) (w : Walking t b g n 
     walking-on x e y is-y = record {
       within = let k : i ≤ length t - at = rw (take-rest t at, length-drop at t) at l in omega arith;
       numbered = let k = w .numbered in omega arith;
-      so-far = more ∙ rw (asEntry-some x (entryData (take (at + i - at) (drop at t))) (sym is-r ∙ e), is-y) }
+      so-far = more ∙ rw (asEntry-some x (entryData (take (at + i - at) (drop at t))) (sym is-r ∙ e), is-y);
+    }

@@ -1,10 +1,11 @@
--- What the code computes on the way. Nothing here needs to be believed for the meaning of document 01: the public promises are stated
--- over Portacl alone, and the inner contracts cite these definitions.
---   entryData e      == the entry that e writes, as a value; none where it is not of its form
+-- What the code computes on the way. Nothing here needs to be believed for the decision: decide is promised over Portacl alone, and the
+-- other contracts cite these definitions.
+--   checkedOf o      == o as check answers it
+--   entryData e      == the entry that e writes, as a value, none where it is not of its form
 --   grantsTo x b     == the entry x grants the bind b
---   walk b n g es    == of entries numbered from n, the first bad one; else g, or whether one grants b
+--   entriesData t    == the entries of t
+--   walk b n g es    == the number of the first bad entry of es, numbered from n; else whether g, or an entry grants b
 --   decisionOf ..    == the decision, where it is known whether an entry grants
---   checkedOf o      == o as the code answers it
 -- Assumes nothing: these are definitions.
 use Prim.Native.Nat.{ℕ, _+_}
 use mathlib.Core.Bool.{Bool, true, false, not, _&&_, _||_}
@@ -45,7 +46,7 @@ asEntry (some x) = Value x
 abbrev pub entry : Bool → ℕ → Protocol → ℕ → Entry
 entry group id protocol port = record { group = group; id = id; protocol = protocol; port = port }
 
--- an entry from its port, its protocol and its id on
+-- an entry from its port on, from its protocol on, and from its id on
 unfoldable pub portData : Bool → ℕ → Protocol → List ℕ → Option Entry
 portData group id protocol t = do
   port ← readDecimal 65535 t

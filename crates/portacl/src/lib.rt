@@ -4,7 +4,6 @@
 use section::Fault;
 use section::Refusal;
 use text::NumberRead;
-
 ghost use mathlib.Core.Bool.{false};
 ghost use mathlib.Core.List.{[], _∷_};
 ghost use mathlib.Core.Path.{_≡_};
@@ -43,12 +42,12 @@ pub enum Ruling {
 
 // What check answers: the refusal of a bad entry, or that there is none.
 pub enum Checked {
-    Refused(Refusal),
     Sound,
+    Refused(Refusal),
 }
 
 // Who may bind what: the user id, or the group id, a port of a protocol.
-pub struct Entry {
+struct Entry {
     pub group: bool,
     pub id: u32,
     pub protocol: Protocol,
@@ -56,13 +55,13 @@ pub struct Entry {
 }
 
 // An entry that was read, or none.
-pub enum EntryRead {
+enum EntryRead {
     Nothing,
     Value(Entry),
 }
 
 // What the walk over the entries finds: the number of the first bad one, or whether one grants.
-pub enum Walked {
+enum Walked {
     Bad(usize),
     Sound(bool),
 }
@@ -73,14 +72,12 @@ fn read_port(group: bool, id: u32, protocol: Protocol, s: &[u8]) -> EntryRead
 {
     match text::read_decimal(s, 65535) {
         NumberRead::Nothing => EntryRead::Nothing,
-        NumberRead::Value(port) => EntryRead::Value(
-            Entry {
-                group,
-                id,
-                protocol,
-                port,
-            },
-        ),
+        NumberRead::Value(port) => EntryRead::Value(Entry {
+            group,
+            id,
+            protocol,
+            port,
+        }),
     }
 }
 
@@ -247,7 +244,14 @@ pub fn check(text: &[u8]) -> Checked
 }
 
 // Every check, then the decision on a bind.
-pub fn decide(text: &[u8], settings: Settings, uid: u32, groups: &[u32], protocol: Protocol, port: u16) -> Ruling
+pub fn decide(
+    text: &[u8],
+    settings: Settings,
+    uid: u32,
+    groups: &[u32],
+    protocol: Protocol,
+    port: u16,
+) -> Ruling
     ensures { λ r. ⌜ r ≡ rulingOf (decidePortacl (now (text .entry)) settings (record { uid = uid; groups = now (groups .entry); protocol = protocol; port = port })) ⌝ }
 {
     if section::Portacl::over(text.len()) {
