@@ -10,7 +10,7 @@ use mathlib.Core.List.{List, [], _∷_}
 use mathlib.Core.Option.{Option, none, some}
 use lib.Dec.{ltb, eqb, leb·suc-suc}
 use lib.ListN.{length, take, drop, getD, length-drop, drop-of-length-le}
-use lib.Seq.{drop-cons, drop-drop, take-all}
+use lib.Seq.{drop-cons, drop-drop, drop-length, take-all}
 use borrow.Author.Tests.{eqb-true, ltb-true, ltb-false, ne-eqb, lt-ltb, le-ltb}
 use Rattle.text.specs.Basics.{if_then_else_, given, any}
 use Rattle.text.specs.Text.{among, split, consFirst}
@@ -18,7 +18,7 @@ use Rattle.text.specs.Scan.{spanLen, indexOf}
 use Rattle.text.proofs.ScanLaws.{take-rest, spanLen-stop, spanLen-more}
 use Rattle.lines.specs.Line.{join}
 use Rattle.lines.specs.Rule.{splitSeparator, nonEmpty, elements, Rule, parseRule}
-use Rattle.lines.specs.Parts.{isSeparator, insideAfter, separatorIndex, words, isParting, isElementByte, partingLength, elementLength}
+use Rattle.lines.specs.Parts.{isSeparator, insideAfter, separatorIndex, afterSeparator, words, isParting, isElementByte, partingLength, elementLength}
 use Rattle.lines.specs.Parts.{elementSpan, firstElement, afterElement}
 use Rattle.lines.specs.declared.rule.ElementSpan.{ElementSpan}
 
@@ -128,6 +128,24 @@ module _ (raw : List ℕ) (i : ℕ) (is-i : i ≡ separatorIndex false raw) wher
             let k : length rest ≤ j = ltb-false j (length rest) e in
             let m : length rest ≤ j + 1 = omega arith in
             parseRule-short k ∙ rw (take-all j rest k, drop-of-length-le rest m)
+
+-- the same of the parts as they are lent
+pub parseRule-parts : (raw : List ℕ) (i : ℕ) → i ≡ separatorIndex false raw → i < length raw → (rest : List ℕ) → rest ≡ afterSeparator i raw
+    → (j : ℕ) → j ≡ separatorIndex false rest → (command : List ℕ) → command ≡ afterSeparator j rest
+    → parseRule raw ≡ some (rule (elements (take i raw)) (elements (take j rest)) command)
+unfolding afterSeparator
+parseRule-parts raw i is-i l rest is-rest j is-j command is-command = rw is-command (parseRule-some raw i is-i l rest is-rest j is-j)
+
+module _ (s : List ℕ) (i : ℕ) where
+  pub afterSeparator-end : length s ≤ i → take (length s - length s) (drop (length s) s) ≡ afterSeparator i s
+  unfolding afterSeparator
+  afterSeparator-end l =
+      let m : length s ≤ i + 1 = omega arith in
+      take-rest s (length s) ∙ rw (drop-length, drop-of-length-le s m)
+
+  pub afterSeparator-part : take (length s - (i + 1)) (drop (i + 1) s) ≡ afterSeparator i s
+  unfolding afterSeparator
+  afterSeparator-part = take-rest s (i + 1)
 
 -- ## Spans
 

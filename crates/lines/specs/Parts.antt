@@ -29,6 +29,10 @@ unfoldable pub separatorIndex : Bool → List ℕ → ℕ
 separatorIndex inside [] = 0
 separatorIndex inside (x ∷ t) = if isSeparator inside x then 0 else suc (separatorIndex (insideAfter inside x) t)
 
+-- what follows the separator at i; nothing where that is the end
+unfoldable pub afterSeparator : ℕ → List ℕ → List ℕ
+afterSeparator i t = drop (i + 1) t
+
 -- ## The elements of a list
 
 unfoldable pub words : List ℕ → List (List ℕ)

@@ -3,7 +3,7 @@ ghost use mathlib.Core.Path.{_≡_};
 ghost use mathlib.Core.Bool.{false};
 ghost use Prim.Native.Nat.{_≤_};
 ghost use Rattle.lines.specs.Rule.{isExcept};
-ghost use Rattle.lines.specs.Parts.{separatorIndex, isParting, isElementByte, partingLength, elementLength};
+ghost use Rattle.lines.specs.Parts.{separatorIndex, afterSeparator, isParting, isElementByte, partingLength, elementLength};
 ghost use Rattle.lines.specs.Parts.{elementSpan, firstElement, afterElement};
 
 // Where an element starts and ends; both are the text's length where there is none.
@@ -30,6 +30,18 @@ pub fn separator(s: &[u8]) -> usize
         }
     }
     i
+}
+
+// What follows the separator at i, empty where that is the end.
+pub fn after_separator(s: &[u8], i: usize) -> &[u8]
+    ensures { λ r. ⌜ now r ≡ afterSeparator i (now (s .entry)) ⌝ }
+{
+    if s.len() <= i {
+        let n = s.len();
+        return &s[n..];
+    }
+    let a = i + 1;
+    &s[a..]
 }
 
 // Whether b parts elements.
