@@ -1,3 +1,5 @@
+pub mod AddressClaims
 pub mod ExampleClaims
 pub mod SheetClaims
 pub mod UserClaims
+pub mod Claims

@@ -1,7 +1,9 @@
--- Laws of the station sheet's frame.
---   sectionAt-answered, answered-sectionAt == a section is answered where it is `SectionAt`: place, count, limit, and bytes present
---   sectionAt-kept, sectionAt-cut == the same section in the sheet cut after its end, and before it
---   frame-answered, answered-frame == a frame is answered where it is `Framed`: four sections in turn, to the end of the sheet
+-- Laws of the station sheet: what an accepted sheet is, and what packing and unpacking make of it.
+--   SectionAt, Framed == what an answered section, and an answered frame, says of the sheet; each law has its converse
+--   sectionAt-kept, sectionAt-cut == a section in the sheet cut after its end, and before it
+--   frame-cut == the frame of an accepted sheet cut short anywhere
+--   framed-partsOf, textsAt-partsOf == the frame of the sheet of four texts, and the texts found by it
+--   sheetOf-textsAt == the sheet of an accepted sheet's texts
 -- Assumes nothing.
 use Prim.Native.Nat.{ℕ, zero, suc, _+_, _-_, _≤_, _<_, _^_}
 use native.Mathlib.Omega.{arith}
@@ -29,30 +31,25 @@ use Rattle.sheet.specs.Sheet.{Texts, textAt, textsAt, textsFault, sectio
 -- ## Outcomes
 
 module _ {A : Type 0} where
-  -- an answer after three tests
-  pub tests-answered : (a b c : Bool) (r t u : Refusal) (x y : A)
-      → (if a then refused r else if b then refused t else if c then refused u else answered x) ≡ answered y
-      → (a ≡ false) × (b ≡ false) × (c ≡ false) × (x ≡ y)
-  tests-answered true b c r t u x y e = let z : _≡_ {A = ℕ} 0 1 = cc in absurd (omega arith)
-  tests-answered false true c r t u x y e = let z : _≡_ {A = ℕ} 0 1 = cc in absurd (omega arith)
-  tests-answered false false true r t u x y e = let z : _≡_ {A = ℕ} 0 1 = cc in absurd (omega arith)
-  tests-answered false false false r t u x y e = (refl, refl, refl, cc)
+  pub if-answered : (b : Bool) (r : Refusal) (o : Outcome A) (a : A) → (if b then refused r else o) ≡ answered a → (b ≡ false) × (o ≡ answered a)
+  if-answered true r o a e = (cc, cc)
+  if-answered false r o a e = (refl, e)
 
   pub refusing-answered : (o : Option Refusal) (a b : A) → refusing o a ≡ answered b → (o ≡ none) × (a ≡ b)
   refusing-answered none a b e = (refl, cc)
-  refusing-answered (some r) a b e = let z : _≡_ {A = ℕ} 0 1 = cc in absurd (omega arith)
+  refusing-answered (some r) a b e = (cc, cc)
 
   pub bind-answered : {B : Type 0} (o : Outcome A) (f : A → Outcome B) (b : B) → (o >>= f) ≡ answered b → (a : A) × (o ≡ answered a) × (f a ≡ answered b)
   bind-answered (refused r) f b e = let z : _≡_ {A = ℕ} 0 1 = cc in absurd (omega arith)
   bind-answered (answered a) f b e = (a, refl, e)
 
   pub given-none : (b : Bool) (a : A) → given b a ≡ none → b ≡ false
-  given-none true a e = let z : _≡_ {A = ℕ} 0 1 = cc in absurd (omega arith)
+  given-none true a e = cc
   given-none false a e = refl
 
   pub orElse-none : (o u : Option A) → o orElse u ≡ none → (o ≡ none) × (u ≡ none)
   orElse-none none u e = (refl, e)
-  orElse-none (some a) u e = let z : _≡_ {A = ℕ} 0 1 = cc in absurd (omega arith)
+  orElse-none (some a) u e = (cc, cc)
 
   pub append-four : (a b c d : List A) → a ++ b ++ c ++ d ≡ a ++ (b ++ (c ++ (d ++ [])))
   append-four a b c d = simp (append-assoc, append-nil)
@@ -72,31 +69,31 @@ pub record SectionAt (s : Section) (at : ℕ) (sheet : List ℕ) (p : Part) : Ty
   pub limit : p .len ≤ s .limit
   pub within : at + 4 + p .len ≤ length sheet
 
-module _ (s : Section) (at : ℕ) (sheet : List ℕ) (p : Part) where
-  pub sectionAt-answered : sectionAt s at sheet ≡ answered p → SectionAt s at sheet p
-  unfolding sectionAt
-  sectionAt-answered e =
-      let rest : List ℕ = drop at sheet in
-      let n : ℕ = fromDigits 256 0 (take 4 rest) in
-      let h =
-      tests-answered (ltb (length rest) 4) (ltb (s .limit) n) (ltb (length rest) (4 + n))
-      (refusal F.CutShort (s .order) 0) (refusal F.OverLimit (s .order) 0) (refusal F.CutShort (s .order) 0) (part (at + 4) n) p e
-      in
-      record {
-        place = sym (ap (λ q. q .place) (h .3));
-        count = sym (ap (λ q. q .len) (h .3));
-        limit = omega (arith, ap (λ q. q .len) (h .3), ltb-false (s .limit) n (h .1));
-        within = omega (arith, ap (λ q. q .len) (h .3), ltb-false (length rest) (4 + n) (h .2), length-drop at sheet);
-      }
+pub sectionAt-answered : (s : Section) (at : ℕ) (sheet : List ℕ) (p : Part) → sectionAt s at sheet ≡ answered p → SectionAt s at sheet p
+unfolding sectionAt
+sectionAt-answered s at sheet p e =
+    let rest : List ℕ = drop at sheet in
+    let n : ℕ = fromDigits 256 0 (take 4 rest) in
+    let a = if-answered (ltb (length rest) 4) _ _ p e in
+    let b = if-answered (ltb (s .limit) n) _ _ p (a .1) in
+    let c = if-answered (ltb (length rest) (4 + n)) _ (answered (part (at + 4) n)) p (b .1) in
+    let same : part (at + 4) n ≡ p = cc (c .1) in
+    record {
+      place = sym (ap (λ q. q .place) same);
+      count = sym (ap (λ q. q .len) same);
+      limit = omega (arith, ap (λ q. q .len) same, ltb-false (s .limit) n (b .0));
+      within = omega (arith, ap (λ q. q .len) same, ltb-false (length rest) (4 + n) (c .0), length-drop at sheet);
+    }
 
-  pub answered-sectionAt : SectionAt s at sheet p → sectionAt s at sheet ≡ answered p
+module _ {s : Section} {at : ℕ} {sheet : List ℕ} {p : Part} (f : SectionAt s at sheet p) where
+  pub answered-sectionAt : sectionAt s at sheet ≡ answered p
   unfolding sectionAt
-  answered-sectionAt f =
+  answered-sectionAt =
       let h : 4 + p .len ≤ length (drop at sheet) = simp length-drop (omega arith) in
       rw (← (f .count), le-ltb (length (drop at sheet)) 4 (omega arith), le-ltb (s .limit) (p .len) (f .limit), le-ltb (length (drop at sheet)) (4 + p .len) h, ← (f .place))
 
   -- in the sheet cut after the section's end, and before it
-  module _ (k : ℕ) (f : SectionAt s at sheet p) (short : k ≤ length sheet) where
+  module _ (k : ℕ) (short : k ≤ length sheet) where
     pub sectionAt-kept : partEnd p ≤ k → SectionAt s at (take k sheet) p
     sectionAt-kept h = record {
       place = f .place;
@@ -145,14 +142,14 @@ frame-answered sheet q e =
       end = omega (arith, portacl .place, portacl .within, ltb-false (partEnd (p .0)) (length sheet) (given-none _ _ (r .0)));
     })
 
-pub answered-frame : (sheet : List ℕ) (p : Parts) → Framed sheet p → frame sheet ≡ answered p
+pub answered-frame : {sheet : List ℕ} {p : Parts} → Framed sheet p → frame sheet ≡ answered p
 unfolding frame
-answered-frame sheet p f =
+answered-frame {sheet} {p} f =
     rw (
-      answered-sectionAt S.allow 0 sheet (p .allow) (f .allow),
-      answered-sectionAt S.deny (partEnd (p .allow)) sheet (p .deny) (f .deny),
-      answered-sectionAt S.byuid (partEnd (p .deny)) sheet (p .byuid) (f .byuid),
-      answered-sectionAt S.portacl (partEnd (p .byuid)) sheet (p .portacl) (f .portacl),
+      answered-sectionAt (f .allow),
+      answered-sectionAt (f .deny),
+      answered-sectionAt (f .byuid),
+      answered-sectionAt (f .portacl),
       le-ltb (partEnd (p .portacl)) (length sheet) (omega (arith, f .end)),
     )
 
@@ -162,23 +159,23 @@ Short o = (s : ℕ) × (1 ≤ s) × (s ≤ 4) × (o ≡ refused (refusal F.CutSh
 
 module _ (sheet : List ℕ) (k : ℕ) (less : k < length sheet) where
   -- a cut in a section, or after its end
-  sectionAt-short : {A : Type 0} (s : Section) (at : ℕ) (p : Part) (f : Part → Outcome A) → 1 ≤ s .order → s .order ≤ 4 → SectionAt s at sheet p
+  sectionAt-short : {A : Type 0} {s : Section} {at : ℕ} {p : Part} (f : Part → Outcome A) → 1 ≤ s .order → s .order ≤ 4 → SectionAt s at sheet p
       → (partEnd p ≤ k → Short (f p)) → Short (sectionAt s at (take k sheet) >>= f)
-  sectionAt-short s at p f low high h after = by (ltb k (partEnd p)) refl
+  sectionAt-short {s = s} {at} {p} f low high h after = by (ltb k (partEnd p)) refl
     where
       by : (b : Bool) → ltb k (partEnd p) ≡ b → Short (sectionAt s at (take k sheet) >>= f)
-      by true e = rw (sectionAt-cut s at sheet p k h (omega arith) (ltb-true k (partEnd p) e)) (s .order, low, high, refl)
+      by true e = rw (sectionAt-cut h k (omega arith) (ltb-true k (partEnd p) e)) (s .order, low, high, refl)
       by false e =
           let on : partEnd p ≤ k = ltb-false k (partEnd p) e in
-          rw (answered-sectionAt s at (take k sheet) p (sectionAt-kept s at sheet p k h (omega arith) on)) (after on)
+          rw (answered-sectionAt (sectionAt-kept h k (omega arith) on)) (after on)
 
-  pub frame-cut : (p : Parts) → Framed sheet p → Short (frame (take k sheet))
+  pub frame-cut : {p : Parts} → Framed sheet p → Short (frame (take k sheet))
   unfolding frame
-  frame-cut p f =
-      sectionAt-short S.allow 0 (p .allow) _ (omega arith) (omega arith) (f .allow) λ _.
-      sectionAt-short S.deny (partEnd (p .allow)) (p .deny) _ (omega arith) (omega arith) (f .deny) λ _.
-      sectionAt-short S.byuid (partEnd (p .deny)) (p .byuid) _ (omega arith) (omega arith) (f .byuid) λ _.
-      sectionAt-short S.portacl (partEnd (p .byuid)) (p .portacl) _ (omega arith) (omega arith) (f .portacl) λ h.
+  frame-cut f =
+      sectionAt-short _ (omega arith) (omega arith) (f .allow) λ _.
+      sectionAt-short _ (omega arith) (omega arith) (f .deny) λ _.
+      sectionAt-short _ (omega arith) (omega arith) (f .byuid) λ _.
+      sectionAt-short _ (omega arith) (omega arith) (f .portacl) λ h.
       absurd (omega (arith, f .end))
 
 -- ## Texts in a sheet
@@ -210,22 +207,24 @@ module _ (at : ℕ) (sheet t rest : List ℕ) (here : drop at sheet ≡ counted 
         within = omega (arith, length-drop at sheet, simp (length-append, length-toDigits) at (ap length here));
       }
 
--- a section's bytes are its text with its count
-pub counted-textAt : (s : Section) (at : ℕ) (sheet : List ℕ) (p : Part) → all (λ b. ltb b 256) sheet ≡ true → SectionAt s at sheet p
-    → drop at sheet ≡ counted (textAt sheet p) ++ drop (partEnd p) sheet
-counted-textAt s at sheet p e f =
-    let from : List ℕ = drop (p .place) sheet in
-    let count : List ℕ = take 4 (drop at sheet) in
-    let digits : toDigits 256 4 (length (textAt sheet p)) ≡ count =
-    ap (toDigits 256 4) (length-take-le (p .len) from (rw length-drop (omega (arith, f .place, f .within))) ∙ f .count)
-    ∙ (rw (length-take-le 4 (drop at sheet) (rw length-drop (omega (arith, f .within))))
-    at (toDigits-fromDigits 256 0 count (all-take (λ b. ltb b 256) 4 (drop at sheet) (all-drop (λ b. ltb b 256) at sheet e))))
-    in
-    let rest : textAt sheet p ++ drop (partEnd p) sheet ≡ drop 4 (drop at sheet) =
-    ap (λ (l : List ℕ). textAt sheet p ++ l) (sym (drop-drop (p .len) (p .place) sheet)) ∙ take-append-drop (p .len) from
-    ∙ ap (λ (i : ℕ). drop i sheet) (f .place) ∙ sym (drop-drop 4 at sheet)
-    in
-    rw (digits, append-assoc count (textAt sheet p) (drop (partEnd p) sheet), rest, take-append-drop 4 (drop at sheet))
+-- a section's bytes are its count and its text
+module _ {s : Section} {at : ℕ} {sheet : List ℕ} {p : Part} (are-bytes : all (λ b. ltb b 256) sheet ≡ true) (f : SectionAt s at sheet p) where
+  length-textAt : length (textAt sheet p) ≡ p .len
+  length-textAt = length-take-le (p .len) (drop (p .place) sheet) (rw length-drop (omega (arith, f .place, f .within)))
+
+  count-textAt : toDigits 256 4 (length (textAt sheet p)) ≡ take 4 (drop at sheet)
+  count-textAt =
+      let four : length (take 4 (drop at sheet)) ≡ 4 = length-take-le 4 (drop at sheet) (rw length-drop (omega (arith, f .within))) in
+      let small = all-take (λ b. ltb b 256) 4 (drop at sheet) (all-drop (λ b. ltb b 256) at sheet are-bytes) in
+      ap (toDigits 256 4) (length-textAt ∙ f .count) ∙ (rw four at (toDigits-fromDigits 256 0 (take 4 (drop at sheet)) small))
+
+  after-textAt : textAt sheet p ++ drop (partEnd p) sheet ≡ drop 4 (drop at sheet)
+  after-textAt =
+      rw (← (drop-drop (p .len) (p .place) sheet), take-append-drop (p .len) (drop (p .place) sheet), f .place, ← (drop-drop 4 at sheet))
+
+  pub counted-textAt : drop at sheet ≡ counted (textAt sheet p) ++ drop (partEnd p) sheet
+  counted-textAt =
+      rw (count-textAt, append-assoc (take 4 (drop at sheet)) (textAt sheet p) (drop (partEnd p) sheet), after-textAt, take-append-drop 4 (drop at sheet))
 
 -- ## Four texts
 
@@ -300,15 +299,15 @@ module _ (ts : Texts) (sheet : List ℕ) (is : sheet ≡ inTurn ts) where
         textAt-counted (partEnd (partsOf ts .byuid)) sheet (ts .portacl) [] at-portacl,
       )
 
-pub sheetOf-textsAt : (sheet : List ℕ) (p : Parts) → all (λ b. ltb b 256) sheet ≡ true → Framed sheet p → sheetOf (textsAt sheet p) ≡ sheet
-sheetOf-textsAt sheet p e f =
+pub sheetOf-textsAt : {sheet : List ℕ} {p : Parts} → all (λ b. ltb b 256) sheet ≡ true → Framed sheet p → sheetOf (textsAt sheet p) ≡ sheet
+sheetOf-textsAt {sheet} {p} e f =
     sheetOf-inTurn (textsAt sheet p)
     ∙ rw (
       ← (drop-of-length-le sheet {i = partEnd (p .portacl)} (omega (arith, f .end))),
-      ← (counted-textAt S.portacl (partEnd (p .byuid)) sheet (p .portacl) e (f .portacl)),
-      ← (counted-textAt S.byuid (partEnd (p .deny)) sheet (p .byuid) e (f .byuid)),
-      ← (counted-textAt S.deny (partEnd (p .allow)) sheet (p .deny) e (f .deny)),
-      ← (counted-textAt S.allow 0 sheet (p .allow) e (f .allow)),
+      ← (counted-textAt e (f .portacl)),
+      ← (counted-textAt e (f .byuid)),
+      ← (counted-textAt e (f .deny)),
+      ← (counted-textAt e (f .allow)),
     )
 
 -- ## Unpacking and packing
@@ -320,9 +319,9 @@ unpack-answered sheet p e =
     let r = refusing-answered (textsFault (textsAt sheet (b .0))) (b .0) p (b .2) in
     subst (λ q. Framed sheet q × (textsFault (textsAt sheet q) ≡ none)) (r .1) (frame-answered sheet (b .0) (b .1), r .0)
 
-pub answered-unpack : (sheet : List ℕ) (p : Parts) → Framed sheet p → textsFault (textsAt sheet p) ≡ none → unpack sheet ≡ answered p
+pub answered-unpack : {sheet : List ℕ} {p : Parts} → Framed sheet p → textsFault (textsAt sheet p) ≡ none → unpack sheet ≡ answered p
 unfolding unpack
-answered-unpack sheet p f e = rw (answered-frame sheet p f, e)
+answered-unpack f e = rw (answered-frame f, e)
 
 pub pack-answered : (ts : Texts) (room : ℕ) (sheet : List ℕ) → pack ts room ≡ answered sheet → (textsFault ts ≡ none) × (sheetOf ts ≡ sheet)
 unfolding pack

@@ -3,3 +3,7 @@ pub mod Digits
 pub mod ScanLaws
 pub mod Canonical
 pub mod Reading
+pub mod Numeral
+pub mod Intercalate
+pub mod PasteLaws
+pub mod Writing
