@@ -1,8 +1,8 @@
 -- Laws of reading IPv6 text: groups in a row, on both sides of `::`, and as one number.
 -- Assumes nothing.
 use Prim.Native.Nat.{ℕ, zero, suc, _+_, _-_, _*_, _/_, _%_, _^_, _<_, _≤_}
-use mathlib.Core.Bool.{Bool, true, false, _&&_, _||_, true≢false}
-use mathlib.Core.List.{List, [], _∷_, _++_, map}
+use mathlib.Core.Bool.{Bool, true, false, _&&_, true≢false}
+use mathlib.Core.List.{List, [], _∷_, _++_}
 use mathlib.Core.Option.{Option, none, some}
 use mathlib.Core.Path.{_≡_, refl, sym, ap, ap₂, _∙_}
 use native.Mathlib.Nat.{lt-of-lt-of-le, add-zero, zero-add, mod-le, mod-lt, mul-mod-left, mul-div-cancel, mul-one, mul-assoc, mul-lt-mul-of-pos-right, pow-zero, pow-suc, one-le-pow, pow-le-pow-right}
@@ -13,8 +13,8 @@ use lib.Arith.{digits-lt, mod-mul}
 use lib.Dec.{leb, ltb, eqb}
 use lib.ListN.{length, replicate, take, drop, getD, length-append, length-replicate, length-drop}
 use lib.Pow.{pow-add, shr-lt, high, low}
-use lib.Seq.{drop-cons, take-all, drop-drop}
-use Rattle.text.specs.Basics.{if_then_else_, _>>=_, _orElse_, given, isEmpty, any, all, each}
+use lib.Seq.{drop-cons, drop-drop}
+use Rattle.text.specs.Basics.{if_then_else_, _>>=_, _orElse_, given, any, all, each}
 use Rattle.text.specs.Text.{bytes, among, equal, startsWith, consHead, splitOnce, split}
 use Rattle.text.specs.Number.{fromDigits, toDigits, numeral, readDecimal}
 use Rattle.text.specs.Scan.{indexOf, asNumber}
@@ -27,8 +27,13 @@ use Rattle.text.proofs.BasicLaws.{and-true, all-append}
 use Rattle.text.proofs.Canonical.{fromDigits-lt}
 use Rattle.text.proofs.Digits.{fromDigits-append, length-toDigits, toDigits-below}
 use Rattle.text.proofs.ScanLaws.{take-rest, split-mark, split-no-mark}
-use Rattle.address.specs.Address.{readV4, readGroup, readLastGroup, readGroups, readCompressed, readV6}
+use Rattle.section.specs.declared.Fault.the-variants as F
+use Rattle.section.specs.declared.Refusal.{Refusal}
+use Rattle.section.specs.Refusal.{placeless}
+use Rattle.address.specs.Address.{readV4, readGroup, readLastGroup, readGroups, readCompressed, readV6, readAddress, asRead}
 use Rattle.address.specs.Code.{numberOf, words, wordsOf, groupValue, groupAt, firstGroup, groupsFrom, readTail, readsLast, sideParts, placeOf, ofGroups, asV6}
+use Rattle.address.specs.declared.Addr.the-variants as A
+use Rattle.address.specs.declared.read.AddressRead.the-variants as W
 use Rattle.address.specs.declared.read.Group.{Group}
 use Rattle.address.specs.declared.read.Group.the-variants as G
 use Rattle.address.specs.declared.read.GroupsRead.{GroupsRead}
@@ -748,3 +753,31 @@ module _ (t : List ℕ) (i : ℕ) (is-i : i ≡ placeOf (bytes "::") t) where
 
         pub v6-fewer : (c ≡ 8 → ⊥) → S.Nothing ≡ asV6 (readV6 t)
         v6-fewer k = sym (ap asV6 readV6-plain ∙ ofGroups-are (readGroups readLastGroup (sideParts t)) c w (sym is-g ∙ e) ∙ rw (ne-eqb c 8 k))
+
+-- ## An address of either kind
+
+-- what was read, by what the code answers
+pub asV6-none : (o : Option ℕ) → asV6 o ≡ S.Nothing → o ≡ none
+asV6-none none e = refl
+asV6-none (some n) e = let z : _≡_ {A = ℕ} 0 1 = cc in absurd (omega arith)
+
+pub asV6-some : (o : Option ℕ) (a b : ℕ) → asV6 o ≡ S.Value a b → o ≡ some (a * 2 ^ 64 + b)
+asV6-some none a b e = let z : _≡_ {A = ℕ} 0 1 = cc in absurd (omega arith)
+asV6-some (some n) a b e =
+    let p : n / 2 ^ 64 ≡ a = cc in
+    let q : n % 2 ^ 64 ≡ b = cc in
+    ap some (sym (numberOf-wordsOf n) ∙ ap₂ (λ (x y : ℕ). x * 2 ^ 64 + y) p q)
+
+module _ (t : List ℕ) (v : NumberRead) (is-v : v ≡ asNumber (readV4 t)) where
+  pub address-v4 : (n : ℕ) → v ≡ N.Value n → W.Address (A.V4 n) ≡ asRead (readAddress t)
+  unfolding readAddress
+  address-v4 n e = sym (rw (asNumber-some (readV4 t) n (sym is-v ∙ e)))
+
+  module _ (e : v ≡ N.Nothing) (w : V6Read) (is-w : w ≡ asV6 (readV6 t)) where
+    pub address-none : w ≡ S.Nothing → (r : Refusal) → r ≡ placeless F.BadRequest → W.Refused r ≡ asRead (readAddress t)
+    unfolding readAddress
+    address-none f r is-r = ap W.Refused is-r ∙ sym (rw (asNumber-none (readV4 t) (sym is-v ∙ e), asV6-none (readV6 t) (sym is-w ∙ f)))
+
+    pub address-v6 : (a b : ℕ) → w ≡ S.Value a b → b < 18446744073709551616 → W.Address (A.V6 a b) ≡ asRead (readAddress t)
+    unfolding readAddress
+    address-v6 a b f h = sym (rw (asNumber-none (readV4 t) (sym is-v ∙ e), asV6-some (readV6 t) a b (sym is-w ∙ f), high a 64 h, low a 64 h))

@@ -1,6 +1,10 @@
 // Reading addresses: the text's parts are found by its dots and colons, and each is read once.
 //   read_v4(s)      == the number of the IPv4 address that s writes
 //   read_v6(s)      == the two words of the IPv6 address that s writes
+//   read_address(s) == the address that s writes, of either kind, or the refusal
+use crate::Addr;
+use section::Fault;
+use section::Refusal;
 use text::NumberRead;
 ghost use mathlib.Core.Path.{_≡_};
 ghost use Prim.Native.Nat.{_+_, _-_, _*_, _^_, _<_, _≤_};
@@ -9,14 +13,45 @@ ghost use lib.ListN.{length, take, drop};
 ghost use Rattle.text.specs.Basics.{given};
 ghost use Rattle.text.specs.Text.{bytes};
 ghost use Rattle.text.specs.Scan.{asNumber};
-ghost use Rattle.address.specs.Address.{readV4, readV6, readGroups, readCompressed};
+ghost use Rattle.address.specs.Address.{readV4, readV6, readGroups, readCompressed, readAddress, asRead};
 ghost use Rattle.address.specs.Code.{firstField, numberOf, wordsOf, hexValue, groupValue, firstGroup, groupsFrom, readsLast, readTail, sideParts, placeOf, ofGroups, asV6};
+
+// An IPv6 address that was read, by its two words, or none.
+pub enum V6Read {
+    Nothing,
+    Value(u64, u64),
+}
+
+// What reading an address answers: a refusal, or the address.
+pub enum AddressRead {
+    Refused(Refusal),
+    Address(Addr),
+}
 
 // The field at the front of a dotted text: none, the last one, or one with the place after its dot.
 enum Field {
     Nothing,
     Last(u32),
     More(u32, usize),
+}
+
+// The group at the front of a text with colons: one that is none, the last one, or one with the place after its colon.
+enum Group {
+    Nothing,
+    Last,
+    More(u32, usize),
+}
+
+// A number of 128 bits, as its two words.
+struct Words {
+    high: u64,
+    low: u64,
+}
+
+// Groups that were read: how many, at most eight, and the number that they make.
+enum GroupsRead {
+    Nothing,
+    Groups(u32, Words),
 }
 
 // The field at the front of s.
@@ -64,31 +99,6 @@ pub fn read_v4(s: &[u8]) -> NumberRead
         }
     }
     NumberRead::Nothing
-}
-
-// A number of 128 bits, as its two words.
-struct Words {
-    high: u64,
-    low: u64,
-}
-
-// An IPv6 address that was read, by its two words, or none.
-pub enum V6Read {
-    Nothing,
-    Value(u64, u64),
-}
-
-// The group at the front of a text with colons: one that is none, the last one, or one with the place after its colon.
-enum Group {
-    Nothing,
-    Last,
-    More(u32, usize),
-}
-
-// Groups that were read: how many, at most eight, and the number that they make.
-enum GroupsRead {
-    Nothing,
-    Groups(u32, Words),
 }
 
 // The value of a hex digit, 16 where b is none.
@@ -310,5 +320,22 @@ pub fn read_v6(s: &[u8]) -> V6Read
                 V6Read::Nothing
             }
         }
+    }
+}
+
+// The address that s writes, of either kind.
+pub fn read_address(s: &[u8]) -> AddressRead
+    ensures { λ r. ⌜ r ≡ asRead (readAddress (now (s .entry))) ⌝ }
+{
+    let v = read_v4(s);
+    match v {
+        NumberRead::Nothing => {
+            let w = read_v6(s);
+            match w {
+                V6Read::Nothing => AddressRead::Refused(section::placeless(Fault::BadRequest)),
+                V6Read::Value(high, low) => AddressRead::Address(Addr::V6(high, low)),
+            }
+        }
+        NumberRead::Value(n) => AddressRead::Address(Addr::V4(n)),
     }
 }
