@@ -13,7 +13,7 @@ use borrow.Author.Tests.{leb-true, leb-false, ltb-true, ltb-false, le-leb, lt-le
 use lib.Arith.{digits-lt}
 use lib.Bits.{bitOr, or-shifted}
 use lib.Dec.{leb, ltb, eqb}
-use lib.ListN.{length, take, drop, getD, length-drop, drop-of-length-le}
+use lib.ListN.{length, take, drop, getD, length-drop, length-map, drop-of-length-le}
 use lib.Pow.{pow-pos, pow-add, split, high, low, shl-exact, shl-shr, shr-lt, mod-pow-add}
 use lib.Seq.{drop-cons, take-all, drop-drop}
 use Rattle.text.specs.Basics.{if_then_else_, _>>=_, _orElse_, given, all}
@@ -23,6 +23,7 @@ use Rattle.text.specs.Scan.{asNumber}
 use Rattle.text.specs.declared.NumberRead.{NumberRead}
 use Rattle.text.specs.declared.NumberRead.the-variants as N
 use Rattle.text.proofs.BasicLaws.{and-true}
+use Rattle.text.proofs.Canonical.{fromDigits-lt}
 use Rattle.address.specs.Address.{readGroup}
 use Rattle.address.specs.Code.{numberOf, words, wordsOf, isHex, hexValue, groupValue}
 use Rattle.address.specs.declared.read.Words.{Words}
@@ -184,6 +185,9 @@ hexValue-is : (b : ℕ) → isHex b ≡ true → hexValue b ≡ digitValue b
 unfolding hexValue
 hexValue-is b e = rw e
 
+digitValue-lt : (b : ℕ) → isHex b ≡ true → digitValue b < 16
+digitValue-lt b e = rw (hexValue-is b e) at (⊎-elim (λ p. p .1) (λ p. absurd (true≢false (sym e ∙ p .0))) (hex-cases b))
+
 -- the answers before the loop
 module _ (s : List ℕ) where
   no-group : inRange 1 4 (length s) ≡ false → N.Nothing ≡ asNumber (groupValue s)
@@ -241,3 +245,32 @@ module _ (s : List ℕ) (n i : ℕ) (r : HexDigits s n i) where
       let e : all isHex s ≡ true = r .digits ∙ rw (drop-of-length-le s h) in
       let v : fromDigits 16 0 (map digitValue s) ≡ n = r .rest ∙ rw (drop-of-length-le s h) in
       sym (rw (e, inRange-in 1 4 (length s) (omega arith) l, v))
+
+-- a group is below 65536
+digits-below : (t : List ℕ) → all isHex t ≡ true → all (λ d. ltb d 16) (map digitValue t) ≡ true
+unfolding all
+digits-below [] e = refl
+digits-below (x ∷ t) e =
+    let p : (isHex x ≡ true) × (all isHex t ≡ true) = and-true (isHex x) (all isHex t) e in
+    rw (lt-ltb (digitValue x) 16 (digitValue-lt x (p .0))) (digits-below t (p .1))
+
+pub groupValue-lt : (t : List ℕ) (g : ℕ) → groupValue t ≡ some g → g < 65536
+unfolding groupValue
+groupValue-lt t g e = by (all isHex t) (inRange 1 4 (length t)) refl refl e
+  where
+    by : (a b : Bool) → all isHex t ≡ a → inRange 1 4 (length t) ≡ b → given (a && b) (fromDigits 16 0 (map digitValue t)) ≡ some g → g < 65536
+    by true true p q r =
+        let v : fromDigits 16 0 (map digitValue t) ≡ g = cc in
+        let l : length (map digitValue t) ≤ 4 = rw (length-map t digitValue) (leb-true (length t) 4 (and-true (leb 1 (length t)) (leb (length t) 4) q .1)) in
+        omega (arith, fromDigits-lt 16 0 (map digitValue t) (digits-below t p), pow-le-pow-right {n = 16} (omega arith) {i = length (map digitValue t)} {j = 4} l)
+    by true false p q r = let z : _≡_ {A = ℕ} 0 1 = cc in absurd (omega arith)
+    by false b p q r = let z : _≡_ {A = ℕ} 0 1 = cc in absurd (omega arith)
+
+-- the definition's group is the code's
+pub readGroup-value : (t : List ℕ) → readGroup t ≡ (groupValue t >>= λ g. some (g ∷ []))
+unfolding readGroup groupValue
+readGroup-value t = by (all isHex t && inRange 1 4 (length t))
+  where
+    by : (b : Bool) → given b (fromDigits 16 0 (map digitValue t) ∷ []) ≡ (given b (fromDigits 16 0 (map digitValue t)) >>= λ g. some (g ∷ []))
+    by true = refl
+    by false = refl

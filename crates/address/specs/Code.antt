@@ -15,11 +15,11 @@ use mathlib.Core.List.{List, [], _∷_, map}
 use mathlib.Core.Option.{Option, none, some}
 use lib.ListN.{length, take}
 use lib.Dec.{leb, ltb, eqb}
-use Rattle.text.specs.Basics.{if_then_else_, given, isEmpty, all}
+use Rattle.text.specs.Basics.{if_then_else_, _>>=_, given, isEmpty, all}
 use Rattle.text.specs.Text.{inRange, charRange, isDigit, split}
-use Rattle.text.specs.Number.{fromDigits, digitValue, readDecimal}
+use Rattle.text.specs.Number.{fromDigits, toDigits, digitValue, readDecimal}
 use Rattle.text.specs.Scan.{indexOf}
-use Rattle.address.specs.Address.{readGroup, readLastGroup}
+use Rattle.address.specs.Address.{readV4, readGroup, readLastGroup}
 use Rattle.address.specs.declared.read.Field.{Field}
 use Rattle.address.specs.declared.read.Field.the-variants as F
 use Rattle.address.specs.declared.read.Group.{Group}
@@ -79,6 +79,10 @@ firstGroup t = groupAt (indexOf 58 t) (ltb (indexOf 58 t) (length t)) (groupValu
 abbrev pub groupsFrom : ℕ → ℕ → Option (List ℕ) → GroupsRead
 groupsFrom k n none = R.Nothing
 groupsFrom k n (some gs) = if leb (k + length gs) 8 then R.Groups (k + length gs) (wordsOf (fromDigits 65536 n gs)) else R.Nothing
+
+-- IPv4 text as two groups
+abbrev pub readTail : List ℕ → Option (List ℕ)
+readTail t = readV4 t >>= λ n. some (toDigits 65536 2 n)
 
 -- what reads the last of several groups: with IPv4 text among them, or without
 abbrev pub readsLast : Bool → List ℕ → Option (List ℕ)

@@ -5,8 +5,8 @@ use text::NumberRead;
 ghost use mathlib.Core.Path.{_≡_};
 ghost use Prim.Native.Nat.{_+_, _-_, _*_, _^_, _<_, _≤_};
 ghost use Rattle.text.specs.Scan.{asNumber};
-ghost use Rattle.address.specs.Address.{readV4, readV6};
-ghost use Rattle.address.specs.Code.{firstField, numberOf, wordsOf, hexValue, groupValue, firstGroup, groupsFrom, readsLast};
+ghost use Rattle.address.specs.Address.{readV4, readV6, readGroups};
+ghost use Rattle.address.specs.Code.{firstField, numberOf, wordsOf, hexValue, groupValue, firstGroup, groupsFrom, readsLast, readTail, sideParts};
 
 // The field at the front of a dotted text: none, the last one, or one with the place after its dot.
 enum Field {
@@ -147,4 +147,84 @@ fn push_v4(w: Words, n: u32) -> Words
         high: (w.high << 32) | (w.low >> 32),
         low: (w.low << 32) | (n as u64),
     }
+}
+
+// The group at the front of s.
+fn first_group(s: &[u8]) -> Group
+    ensures { λ r. ⌜ r ≡ firstGroup (now (s .entry)) ⌝ }
+{
+    let i = text::index_of(s, 58);
+    if i == s.len() {
+        return Group::Last;
+    }
+    let v = read_group(&s[..i]);
+    match v {
+        NumberRead::Nothing => Group::Nothing,
+        NumberRead::Value(n) => Group::More(n, i + 1),
+    }
+}
+
+// The groups so far, and IPv4 text as the last two.
+fn last_v4(s: &[u8], count: u32, w: Words) -> GroupsRead
+    requires { ⌜ (count < 8) × (numberOf w < 65536 ^ count) ⌝ }
+    ensures { λ r. ⌜ r ≡ groupsFrom count (numberOf w) (readTail (now (s .entry))) ⌝ }
+{
+    let v = read_v4(s);
+    match v {
+        NumberRead::Nothing => GroupsRead::Nothing,
+        NumberRead::Value(n) => {
+            if count == 7 {
+                GroupsRead::Nothing
+            } else {
+                GroupsRead::Groups(count + 2, push_v4(w, n))
+            }
+        }
+    }
+}
+
+// The groups so far, and the last one, or where tail holds IPv4 text as the last two.
+fn last_group(s: &[u8], tail: bool, count: u32, w: Words) -> GroupsRead
+    requires { ⌜ (count < 8) × (numberOf w < 65536 ^ count) ⌝ }
+    ensures { λ r. ⌜ r ≡ groupsFrom count (numberOf w) (readsLast tail (now (s .entry))) ⌝ }
+{
+    let v = read_group(s);
+    match v {
+        NumberRead::Nothing => {
+            if tail {
+                last_v4(s, count, w)
+            } else {
+                GroupsRead::Nothing
+            }
+        }
+        NumberRead::Value(g) => GroupsRead::Groups(count + 1, push_group(w, g)),
+    }
+}
+
+// The groups of s, parted by colons; where tail holds the last two may be IPv4 text.
+fn read_groups(s: &[u8], tail: bool) -> GroupsRead
+    ensures { λ r. ⌜ r ≡ groupsFrom 0 0 (readGroups (readsLast tail) (sideParts (now (s .entry)))) ⌝ }
+{
+    let mut w = Words { high: 0, low: 0 };
+    if s.len() == 0 {
+        return GroupsRead::Groups(0, w);
+    }
+    let mut count: u32 = 0;
+    let mut at = 0;
+    while count < 8 {
+        let g = first_group(&s[at..]);
+        match g {
+            Group::Nothing => {
+                return GroupsRead::Nothing;
+            }
+            Group::Last => {
+                return last_group(&s[at..], tail, count, w);
+            }
+            Group::More(n, next) => {
+                w = push_group(w, n);
+                count += 1;
+                at += next;
+            }
+        }
+    }
+    GroupsRead::Nothing
 }
