@@ -1,7 +1,8 @@
 // The decision by an authbind byuid file.
 //   decide(text, port, addr, uid) == the call: every check, then the decision
 use address::Addr;
-use section::{Fault, Refusal};
+use section::Fault;
+use section::Refusal;
 ghost use mathlib.Core.Path.{_≡_};
 ghost use Rattle.text.specs.Basics.{any};
 ghost use Rattle.text.specs.Text.{split};
