@@ -35,12 +35,6 @@ one-word n = omega arith
 
 -- ## Answers
 
-pub both-nothing : (x y : Held) → x ≡ H.Nothing → H.Nothing ≡ bothOf x y
-both-nothing x y e = rw e
-
-pub both-second : (x y : Held) (a : Bool) → x ≡ H.Is a → y ≡ H.Nothing → H.Nothing ≡ bothOf x y
-both-second x y a e f = rw (e, f)
-
 pub both-is : (x y : Held) (a b : Bool) → x ≡ H.Is a → y ≡ H.Is b → H.Is (a && b) ≡ bothOf x y
 both-is x y a b e f = rw (e, f)
 

@@ -60,9 +60,6 @@ asV6-some (some n) a b e =
     let q : n % 2 ^ 64 ≡ b = cc in
     ap some (sym (div-add-mod' n (2 ^ 64)) ∙ rw (p, q))
 
-pub wide-nothing : (v : NumberRead) → v ≡ N.Nothing → W.Nothing ≡ wideOf v
-wide-nothing v e = rw e
-
 pub wide-value : (v : NumberRead) (n : ℕ) → v ≡ N.Value n → n < 2 ^ 64 → W.Value 0 n ≡ wideOf v
 wide-value v n e h = rw (e, div-eq-of-lt h, mod-eq-of-lt h)
 

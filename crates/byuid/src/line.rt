@@ -53,7 +53,7 @@ fn read_number(s: &[u8], kind: Kind) -> V6Read
     match kind {
         Kind::Port => widen(text::read_decimal(s, 65535)),
         Kind::V4 => widen(address::read::read_v4(s)),
-        Kind::V6 => V6Read::Nothing,
+        Kind::V6 => address::read::read_v6(s),
     }
 }
 
