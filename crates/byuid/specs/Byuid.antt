@@ -11,13 +11,15 @@ use Rattle.text.specs.Basics.{if_then_else_, _>>=_, _orElse_, given, holds, any
 use Rattle.text.specs.Text.{bytes, splitOnce, split, inRange}
 use Rattle.text.specs.Number.{readDecimal}
 use Rattle.section.specs.declared.Fault.the-variants as F
-use Rattle.section.specs.Refusal.{Outcome, placeless, refusing}
+use Rattle.section.specs.Refusal.{Outcome, refused, answered, placeless, refusing}
 use Rattle.section.specs.Section as S
 use Rattle.section.specs.Section.{overLimit}
 use Rattle.address.specs.declared.Addr.{Addr}
 use Rattle.address.specs.Address.{addrCase, readV4, readV6}
 use Rattle.byuid.specs.declared.Decision.{Decision}
 use Rattle.byuid.specs.declared.Decision.the-variants.{NotRuled, Granted, NoLine}
+use Rattle.byuid.specs.declared.Ruling.{Ruling}
+use Rattle.byuid.specs.declared.Ruling.the-variants as R
 
 -- the paper's words
 abbrev pub decisionWord : Decision → List ℕ
@@ -88,3 +90,8 @@ unfoldable pub decideByuid : List ℕ → ℕ → Addr → ℕ → Outcome Decis
 decideByuid t p a uid = refusing
     (overLimit S.byuid t orElse given (addrCase a true (λ n. false) (λ n. false)) (placeless F.BadRequest))
     (byuidDecision t p a uid)
+
+-- what the call answers
+abbrev pub rulingOf : Outcome Decision → Ruling
+rulingOf (refused r) = R.Refused r
+rulingOf (answered d) = R.Answered d
