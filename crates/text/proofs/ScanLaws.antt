@@ -8,12 +8,12 @@ use mathlib.Core.Option.{Option, none, some}
 use mathlib.Core.Path.{_≡_, refl, sym, ap, ap₂, _∙_}
 use native.Mathlib.Numerals.{add-one}
 use native.Mathlib.Omega.{arith}
-use borrow.Author.Tests.{eqb-true, eq-eqb, ne-eqb}
+use borrow.Author.Tests.{eqb-true, eqb-false, eq-eqb, ne-eqb}
 use lib.Dec.{eqb}
 use lib.ListN.{length, take, drop, getD, length-drop, length-map, drop-of-length-le}
 use lib.Seq.{drop-cons, take-all}
 use Rattle.text.specs.Basics.{if_then_else_, any}
-use Rattle.text.specs.Text.{among, equal, equalFold, lower, splitOnce, split}
+use Rattle.text.specs.Text.{bytes, among, equal, equalFold, lower, splitOnce, split}
 use Rattle.text.specs.Scan.{spanLen, indexOf}
 use Rattle.text.proofs.BasicLaws.{and-true}
 
@@ -113,3 +113,89 @@ module _ (b : ℕ) (s : List ℕ) (i : ℕ) (so-far : indexOf b s ≡ i + indexO
   pub indexOf-end : length s ≤ i → i ≡ indexOf b s
   unfolding indexOf
   indexOf-end h = spanLen-end (λ (x : ℕ). not (eqb x b)) s i so-far h
+
+-- ## Parting
+
+-- at the first mark, with p what is no mark
+module _ (marks : String) (p : ℕ → Bool) (is-p : (x : ℕ) → p x ≡ not (among marks x)) where
+  abbrev parted : List ℕ → ℕ → List (List ℕ)
+  parted s i = take i s ∷ split marks (drop (suc i) s)
+
+  split-some : (s : List ℕ) → spanLen p s < length s → split marks s ≡ parted s (spanLen p s)
+  unfolding split spanLen
+  split-some [] h = absurd (omega arith)
+  split-some (x ∷ s) h = by (among marks x) refl (split-some s)
+    where
+      by : (b : Bool) → among marks x ≡ b → (spanLen p s < length s → split marks s ≡ parted s (spanLen p s)) → split marks (x ∷ s) ≡ parted (x ∷ s) (spanLen p (x ∷ s))
+      by true e ih = rw (is-p x, e)
+      by false e ih =
+          let k : suc (spanLen p s) < length (x ∷ s) = simp (is-p x, e) at h in
+          simp (is-p x, e) (rw (ih (omega arith)))
+
+  split-none : (s : List ℕ) → length s ≤ spanLen p s → split marks s ≡ s ∷ []
+  unfolding split spanLen
+  split-none [] h = refl
+  split-none (x ∷ s) h = by (among marks x) refl (split-none s)
+    where
+      by : (b : Bool) → among marks x ≡ b → (length s ≤ spanLen p s → split marks s ≡ s ∷ []) → split marks (x ∷ s) ≡ (x ∷ s) ∷ []
+      by true e ih = let k : length (x ∷ s) ≤ 0 = simp (is-p x, e) at h in absurd (omega arith)
+      by false e ih =
+          let k : length (x ∷ s) ≤ suc (spanLen p s) = simp (is-p x, e) at h in
+          simp (is-p x, e) (rw (ih (omega arith)))
+
+-- at the first of several marks
+module _ (marks : String) (s : List ℕ) (i : ℕ) (is-i : i ≡ spanLen (λ x. not (among marks x)) s) where
+  pub split-marks : i < length s → split marks s ≡ take i s ∷ split marks (drop (i + 1) s)
+  split-marks h = rw (add-one, is-i) (split-some marks (λ x. not (among marks x)) (λ x. refl) s (rw is-i at h))
+
+  pub split-no-marks : length s ≤ i → split marks s ≡ s ∷ []
+  split-no-marks h = split-none marks (λ x. not (among marks x)) (λ x. refl) s (rw is-i at h)
+
+-- at the first b, the only mark
+module _ (marks : String) (b : ℕ) (only : bytes marks ≡ b ∷ []) (s : List ℕ) (i : ℕ) (is-i : i ≡ indexOf b s) where
+  no-mark : (x : ℕ) → not (eqb x b) ≡ not (among marks x)
+  unfolding any
+  no-mark x = rw only (by (eqb x b))
+    where
+      by : (t : Bool) → not t ≡ not (t || false)
+      by true = refl
+      by false = refl
+
+  pub split-mark : i < length s → split marks s ≡ take i s ∷ split marks (drop (i + 1) s)
+  unfolding indexOf
+  split-mark h = rw (add-one, is-i) (split-some marks (λ x. not (eqb x b)) no-mark s (rw is-i at h))
+
+  pub split-no-mark : length s ≤ i → split marks s ≡ s ∷ []
+  unfolding indexOf
+  split-no-mark h = split-none marks (λ x. not (eqb x b)) no-mark s (rw is-i at h)
+
+-- once, at the first b
+pub splitOnce-some : (b : ℕ) (s : List ℕ) → indexOf b s < length s → splitOnce (b ∷ []) s ≡ some (take (indexOf b s) s, drop (suc (indexOf b s)) s)
+unfolding splitOnce equal indexOf spanLen
+splitOnce-some b [] h = absurd (omega arith)
+splitOnce-some b (x ∷ s) h = by (eqb x b) refl (splitOnce-some b s)
+  where
+    by : (t : Bool) → eqb x b ≡ t → (indexOf b s < length s → splitOnce (b ∷ []) s ≡ some (take (indexOf b s) s, drop (suc (indexOf b s)) s))
+        → splitOnce (b ∷ []) (x ∷ s) ≡ some (take (indexOf b (x ∷ s)) (x ∷ s), drop (suc (indexOf b (x ∷ s))) (x ∷ s))
+    by true e ih = simp (e, eq-eqb b x (sym (eqb-true x b e)))
+    by false e ih =
+        let k : suc (indexOf b s) < length (x ∷ s) = simp e at h in
+        simp (e, ne-eqb b x (λ q. eqb-false x b e (sym q))) (rw (ih (omega arith)))
+
+splitOnce-none : (b : ℕ) (s : List ℕ) → length s ≤ indexOf b s → splitOnce (b ∷ []) s ≡ none
+unfolding splitOnce equal indexOf spanLen
+splitOnce-none b [] h = refl
+splitOnce-none b (x ∷ s) h = by (eqb x b) refl (splitOnce-none b s)
+  where
+    by : (t : Bool) → eqb x b ≡ t → (length s ≤ indexOf b s → splitOnce (b ∷ []) s ≡ none) → splitOnce (b ∷ []) (x ∷ s) ≡ none
+    by true e ih = let k : length (x ∷ s) ≤ 0 = simp e at h in absurd (omega arith)
+    by false e ih =
+        let k : length (x ∷ s) ≤ suc (indexOf b s) = simp e at h in
+        simp (e, ne-eqb b x (λ q. eqb-false x b e (sym q))) (rw (ih (omega arith)))
+
+module _ (b : ℕ) (s : List ℕ) (i : ℕ) (is-i : i ≡ indexOf b s) where
+  pub splitOnce-mark : i < length s → splitOnce (b ∷ []) s ≡ some (take i s, drop (i + 1) s)
+  splitOnce-mark h = rw (add-one, is-i) (splitOnce-some b s (rw is-i at h))
+
+  pub splitOnce-no-mark : length s ≤ i → splitOnce (b ∷ []) s ≡ none
+  splitOnce-no-mark h = splitOnce-none b s (rw is-i at h)

@@ -1,3 +1,5 @@
+-- `text::ends_with_fold` meets its contract: the part from at on is what the definition drops to.
+-- Assumes nothing.
 use lib.ListN.{length}
 use Prim.Native.Nat.{_-_}
 use borrow.Author.Tests.{le-ltb, lt-ltb}
@@ -5,35 +7,25 @@ use Rattle.text.proofs.ScanLaws.{take-rest}
 use borrow.Author.Needs.{needs}
 use Rattle.text.proofs.ends_with_fold.Statement.{statement}
 use Rattle.text.proofs.ends_with_fold.Tie as tie
-use Rattle.text.proofs.ends_with_fold.Reads as reads
-use Rattle.text.proofs.ends_with_fold.Lts as lts
-use Rattle.text.proofs.equal_fold.Reads as equal-fold-reads
 
--- src/lib.rt:98:9
 returns : tie.Need-returns
 returns c = rw (le-ltb _ _ (c .if1 .taken))
 
--- src/lib.rt:100:14
 sub-at : tie.Need-sub-at
 sub-at c = search needs
 
--- src/lib.rt:101:24
 sub-equal-fold : tie.Need-sub-equal-fold
 sub-equal-fold c = search needs
 
--- src/lib.rt:101:24
 part-equal-fold-start : tie.Need-part-equal-fold-start
 part-equal-fold-start c = search needs
 
--- src/lib.rt:101:24
 part-equal-fold-end : tie.Need-part-equal-fold-end
 part-equal-fold-end c = search needs
 
--- src/lib.rt:101:5
 equal-fold-requires : tie.Need-equal-fold-requires
 equal-fold-requires c κs = search needs
 
--- src/lib.rt:94:1
 returns-2 : tie.Need-returns-2
 returns-2 c =
     let a = c .before .before .before .before .before .args in

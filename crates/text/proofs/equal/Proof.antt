@@ -1,3 +1,5 @@
+-- `text::equal` meets its contract. The loop's invariant: the texts are as long as each other, and equal when what is left of them from i on is.
+-- The measure is what is left of the length. Assumes nothing.
 use Prim.Native.Nat.{_≤_, _-_}
 use mathlib.Core.Path.{_≡_, refl, sym}
 use lib.ListN.{length, drop}
@@ -6,8 +8,6 @@ use Rattle.text.proofs.ScanLaws.{equal-by, equal-lengths, differs, agre
 use borrow.Author.Needs.{needs}
 use Rattle.text.proofs.equal.Statement.{statement}
 use Rattle.text.proofs.equal.Tie as tie
-use Rattle.text.proofs.equal.Reads as reads
-use Rattle.text.proofs.equal.Lts as lts
 
 abbrev Inv-loop : tie.InvT-loop
 Inv-loop a b i₀ i = (i ≤ length a) × ((length a ≡ length b) × (equal a b ≡ equal (drop i a) (drop i b)))
@@ -15,43 +15,34 @@ Inv-loop a b i₀ i = (i ≤ length a) × ((length a ≡ length b) × (equal a b
 abbrev μ-loop : tie.MeasureT-loop
 μ-loop a b i₀ i = length a - i
 
--- src/lib.rt:49:9
 returns : tie.Need-returns Inv-loop μ-loop
 returns c = sym (equal-lengths _ _ (c .if1 .taken))
 
--- src/lib.rt:52:5
 loop-holds : tie.Need-loop-holds Inv-loop μ-loop
 loop-holds c = search needs
 
--- src/lib.rt:53:12
 shared-slice-read-if2 : tie.Need-shared-slice-read-if2 Inv-loop μ-loop
 shared-slice-read-if2 c = search needs
 
--- src/lib.rt:53:20
 shared-slice-read-if2-2 : tie.Need-shared-slice-read-if2-2 Inv-loop μ-loop
 shared-slice-read-if2-2 c = search needs
 
--- src/lib.rt:54:13
 returns-2 : tie.Need-returns-2 Inv-loop μ-loop
 returns-2 c =
     let l = c .before .before .before .before .loop in
     differs equal-by _ _ (l .i) (l .inv .1 .0) (l .inv .1 .1) (search needs) _ _ refl refl (c .if2 .taken)
 
--- src/lib.rt:56:9
 add-i : tie.Need-add-i Inv-loop μ-loop
 add-i c = search needs
 
--- src/lib.rt:52:5
 loop-less : tie.Need-loop-less Inv-loop μ-loop
 loop-less c = search needs
 
--- src/lib.rt:52:5
 loop-again : tie.Need-loop-again Inv-loop μ-loop
 loop-again c =
     let l = c .before .before .before .before .loop in
     (search needs, (l .inv .1 .0, agrees equal-by _ _ (l .i) (l .inv .1 .0) (l .inv .1 .1) (search needs) _ _ refl refl (c .if2 .left)))
 
--- src/lib.rt:45:1
 returns-3 : tie.Need-returns-3 Inv-loop μ-loop
 returns-3 c = search (all-agree equal-by, needs)
 

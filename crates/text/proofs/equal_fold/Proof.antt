@@ -1,3 +1,5 @@
+-- `text::equal_fold` meets its contract. The loop's invariant: the texts are as long as each other, and equal when what is left of them from i on is.
+-- The measure is what is left of the length. Assumes nothing.
 use Prim.Native.Nat.{_≤_, _-_}
 use mathlib.Core.Path.{_≡_, sym}
 use lib.ListN.{length, drop}
@@ -6,9 +8,6 @@ use Rattle.text.proofs.ScanLaws.{equalFold-by, equalFold-lengths, diffe
 use borrow.Author.Needs.{needs}
 use Rattle.text.proofs.equal_fold.Statement.{statement}
 use Rattle.text.proofs.equal_fold.Tie as tie
-use Rattle.text.proofs.equal_fold.Reads as reads
-use Rattle.text.proofs.equal_fold.Lts as lts
-use Rattle.text.proofs.lower.Reads as lower-reads
 
 abbrev Inv-loop : tie.InvT-loop
 Inv-loop a b i₀ i = (i ≤ length a) × ((length a ≡ length b) × (equalFold a b ≡ equalFold (drop i a) (drop i b)))
@@ -16,49 +15,38 @@ Inv-loop a b i₀ i = (i ≤ length a) × ((length a ≡ length b) × (equalFold
 abbrev μ-loop : tie.MeasureT-loop
 μ-loop a b i₀ i = length a - i
 
--- src/lib.rt:66:9
 returns : tie.Need-returns Inv-loop μ-loop
 returns c = sym (equalFold-lengths _ _ (c .if1 .taken))
 
--- src/lib.rt:69:5
 loop-holds : tie.Need-loop-holds Inv-loop μ-loop
 loop-holds c = search needs
 
--- src/lib.rt:70:18
 shared-slice-read-lower : tie.Need-shared-slice-read-lower Inv-loop μ-loop
 shared-slice-read-lower c = search needs
 
--- src/lib.rt:70:12
 lower-requires : tie.Need-lower-requires Inv-loop μ-loop
 lower-requires c κs = search needs
 
--- src/lib.rt:70:33
 shared-slice-read-lower-2 : tie.Need-shared-slice-read-lower-2 Inv-loop μ-loop
 shared-slice-read-lower-2 c = search needs
 
--- src/lib.rt:70:27
 lower-requires-2 : tie.Need-lower-requires-2 Inv-loop μ-loop
 lower-requires-2 c κs = search needs
 
--- src/lib.rt:71:13
 returns-2 : tie.Need-returns-2 Inv-loop μ-loop
 returns-2 c = search (differs equalFold-by, needs)
 
--- src/lib.rt:73:9
 add-i : tie.Need-add-i Inv-loop μ-loop
 add-i c = search needs
 
--- src/lib.rt:69:5
 loop-less : tie.Need-loop-less Inv-loop μ-loop
 loop-less c = search needs
 
--- src/lib.rt:69:5
 loop-again : tie.Need-loop-again Inv-loop μ-loop
 loop-again c =
     let l = c .before .before .before .before .before .before .loop in
     (search needs, (l .inv .1 .0, agrees equalFold-by _ _ (l .i) (l .inv .1 .0) (l .inv .1 .1) (search needs) _ _ (search needs) (search needs) (c .if2 .left)))
 
--- src/lib.rt:62:1
 returns-3 : tie.Need-returns-3 Inv-loop μ-loop
 returns-3 c = search (all-agree equalFold-by, needs)
 
