@@ -1,2 +1,4 @@
+pub mod AddressClaims
 pub mod ExampleClaims
+pub mod SheetClaims
 pub mod UserClaims

@@ -28,6 +28,12 @@ pub record Request : Type 0 where
   pub user : User
   pub userName : List ℕ
 
+abbrev pub endpoint : Host → List ℕ → Endpoint
+endpoint h name = record { host = h; name = name }
+
+abbrev pub requestOf : List ℕ → Endpoint → Endpoint → User → List ℕ → Request
+requestOf d c s u name = record { daemon = d; client = c; server = s; user = u; userName = name }
+
 abbrev pub nameCase {ℓ} : {B : Type ℓ} → Endpoint → B → B → B → B
 nameCase h unknown paranoid known = elim (h .host .name) [ N.Unknown ↦ unknown | N.Paranoid ↦ paranoid | N.Known ↦ known ]
 

@@ -1,2 +1,3 @@
 pub mod Check
 pub mod Search
+pub mod Code

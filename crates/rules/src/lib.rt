@@ -21,3 +21,9 @@ pub struct Answer {
     pub line: usize,
     pub command: section::Part,
 }
+
+// What checking a rule finds.
+pub enum Checked {
+    Sound,
+    Faulty(section::Fault),
+}

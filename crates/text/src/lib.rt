@@ -6,7 +6,8 @@ ghost use lib.Dec.{ltb};
 ghost use lib.ListN.{length, drop};
 ghost use Rattle.text.specs.Text.{isDigit, isLetter};
 ghost use Rattle.text.specs.Text.{lower as lowerOf, equal as equalTo, equalFold};
-ghost use Rattle.text.specs.Scan.{indexOf};
+ghost use Rattle.text.specs.Scan.{indexOf, asNumber};
+ghost use Rattle.text.specs.Number.{readDecimal};
 
 // A number that was read, or none.
 pub enum NumberRead {
@@ -99,4 +100,34 @@ pub fn ends_with_fold(s: &[u8], suffix: &[u8]) -> bool
     }
     let at = s.len() - suffix.len();
     equal_fold(suffix, &s[at..])
+}
+
+// The number of at most max that s writes in fewest decimal digits.
+pub fn read_decimal(s: &[u8], max: u32) -> NumberRead
+    ensures { λ r. ⌜ r ≡ asNumber (readDecimal max (now (s .entry))) ⌝ }
+{
+    if s.len() == 0 {
+        return NumberRead::Nothing;
+    }
+    if (s[0] == 48) & (1 < s.len()) {
+        return NumberRead::Nothing;
+    }
+    let limit = max as u64;
+    let mut n: u64 = 0;
+    let mut i = 0;
+    while i < s.len() {
+        let b = s[i];
+        if b < 48 {
+            return NumberRead::Nothing;
+        }
+        if 57 < b {
+            return NumberRead::Nothing;
+        }
+        n = n * 10 + (b - 48) as u64;
+        if limit < n {
+            return NumberRead::Nothing;
+        }
+        i += 1;
+    }
+    NumberRead::Value(n as u32)
 }

@@ -1,0 +1,30 @@
+-- `command::blank_length` meets its contract. The loop's invariant is `Passed`: the bytes passed are blank. The measure is what is left of the text.
+-- Assumes nothing.
+use Prim.Native.Nat.{_-_}
+use borrow.Author.Needs.{needs}
+use lib.ListN.{length}
+use Rattle.lines.specs.Parts.{isBlankByte}
+use Rattle.lines.proofs.RuleLaws.{Passed, passed-none, passed-more, span-stop, span-end}
+use Rattle.lines.proofs.command.blank_length.Statement.{statement}
+use Rattle.lines.proofs.command.blank_length.Tie as tie
+
+abbrev Inv-loop : tie.InvT-loop
+Inv-loop s i₀ i = Passed isBlankByte s i
+
+abbrev μ-loop : tie.MeasureT-loop
+μ-loop s i₀ i = length s - i
+
+pub blank-length-spec : {M : Type 1} → statement M
+blank-length-spec =
+    tie.close
+    (tie.spec
+    Inv-loop
+    μ-loop
+    (λ c. search (passed-none, needs))
+    (λ c. search needs)
+    (λ c κs. search needs)
+    (λ c. search needs)
+    (λ c. search needs)
+    (λ c. search (passed-more, needs))
+    (λ c. search (span-stop, needs))
+    (λ c. search (span-end, needs)))

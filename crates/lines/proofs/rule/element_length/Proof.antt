@@ -1,0 +1,30 @@
+-- `rule::element_length` meets its contract. The loop's invariant is `Passed`: the bytes passed belong to an element. The measure is what is left of the text.
+-- Assumes nothing.
+use Prim.Native.Nat.{_-_}
+use borrow.Author.Needs.{needs}
+use lib.ListN.{length}
+use Rattle.lines.specs.Parts.{isElementByte}
+use Rattle.lines.proofs.RuleLaws.{Passed, passed-none, passed-more, span-stop, span-end}
+use Rattle.lines.proofs.rule.element_length.Statement.{statement}
+use Rattle.lines.proofs.rule.element_length.Tie as tie
+
+abbrev Inv-loop : tie.InvT-loop
+Inv-loop s i₀ i = Passed isElementByte s i
+
+abbrev μ-loop : tie.MeasureT-loop
+μ-loop s i₀ i = length s - i
+
+pub element-length-spec : {M : Type 1} → statement M
+element-length-spec =
+    tie.close
+    (tie.spec
+    Inv-loop
+    μ-loop
+    (λ c. search (passed-none, needs))
+    (λ c. search needs)
+    (λ c κs. search needs)
+    (λ c. search needs)
+    (λ c. search needs)
+    (λ c. search (passed-more, needs))
+    (λ c. search (span-stop, needs))
+    (λ c. search (span-end, needs)))

@@ -1,0 +1,28 @@
+-- `rule::separator` meets its contract. The loop's invariant is `Searched`: the bytes passed hold no separator, and inside says
+-- whether a bracket is open. The measure is what is left of the text. Assumes nothing.
+use Prim.Native.Nat.{_-_}
+use borrow.Author.Needs.{needs}
+use lib.ListN.{length}
+use Rattle.lines.proofs.RuleLaws.{Searched, searched-none, searched-more, separator-here, separator-end}
+use Rattle.lines.proofs.rule.separator.Statement.{statement}
+use Rattle.lines.proofs.rule.separator.Tie as tie
+
+abbrev Inv-loop : tie.InvT-loop
+Inv-loop s inside₀ i₀ inside i = Searched s inside i
+
+abbrev μ-loop : tie.MeasureT-loop
+μ-loop s inside₀ i₀ inside i = length s - i
+
+pub separator-spec : {M : Type 1} → statement M
+separator-spec =
+    tie.close
+    (tie.spec
+    Inv-loop
+    μ-loop
+    (λ c. search (searched-none, needs))
+    (λ c. search needs)
+    (λ c. search (separator-here, needs))
+    (λ c. search needs)
+    (λ c. search needs)
+    (λ c. search (searched-more, needs))
+    (λ c. search (separator-end, needs)))

@@ -1,0 +1,108 @@
+// The parts of a rule: its separators and the elements of its lists.
+ghost use mathlib.Core.Path.{_≡_};
+ghost use mathlib.Core.Bool.{false};
+ghost use Prim.Native.Nat.{_≤_};
+ghost use Rattle.lines.specs.Parts.{separatorIndex, isParting, isElementByte, partingLength, elementLength};
+ghost use Rattle.lines.specs.Parts.{elementSpan, firstElement, afterElement};
+
+// Where an element starts and ends; both the length's place where there is none.
+pub struct ElementSpan {
+    pub start: usize,
+    pub end: usize,
+}
+
+// The place of the first separator, the length where there is none.
+pub fn separator(s: &[u8]) -> usize
+    ensures place { λ r. ⌜ r ≡ separatorIndex false (now (s .entry)) ⌝ }
+    ensures within { λ r. do ⌜ r ≤ (← ⟦s.len()⟧ .entry) ⌝ }
+{
+    let mut inside = false;
+    let mut i = 0;
+    while i < s.len() {
+        let b = s[i];
+        if !inside & (b == 58) {
+            return i;
+        }
+        inside = (inside & (b != 93)) | (b == 91);
+        i += 1;
+    }
+    i
+}
+
+// Whether b parts elements.
+fn is_parting(b: u8) -> bool
+    ensures { λ r. ⌜ r ≡ isParting b ⌝ }
+{
+    (b == 32) | ((b == 9) | (b == 44))
+}
+
+// Whether b belongs to an element.
+fn is_element_byte(b: u8) -> bool
+    ensures { λ r. ⌜ r ≡ isElementByte b ⌝ }
+{
+    !is_parting(b)
+}
+
+// How many bytes at the front of s part elements.
+fn parting_length(s: &[u8]) -> usize
+    ensures count { λ r. ⌜ r ≡ partingLength (now (s .entry)) ⌝ }
+    ensures within { λ r. do ⌜ r ≤ (← ⟦s.len()⟧ .entry) ⌝ }
+{
+    let mut i = 0;
+    while i < s.len() {
+        if is_parting(s[i]) {
+            i += 1;
+        } else {
+            return i;
+        }
+    }
+    i
+}
+
+// How many bytes at the front of s belong to one element.
+fn element_length(s: &[u8]) -> usize
+    ensures count { λ r. ⌜ r ≡ elementLength (now (s .entry)) ⌝ }
+    ensures within { λ r. do ⌜ r ≤ (← ⟦s.len()⟧ .entry) ⌝ }
+{
+    let mut i = 0;
+    while i < s.len() {
+        if is_element_byte(s[i]) {
+            i += 1;
+        } else {
+            return i;
+        }
+    }
+    i
+}
+
+// Where the first element of s stands.
+pub fn element_span(s: &[u8]) -> ElementSpan
+    ensures place { λ r. ⌜ r ≡ elementSpan (now (s .entry)) ⌝ }
+    ensures within { λ r. do ⌜ (r .start ≤ r .end) × (r .end ≤ (← ⟦s.len()⟧ .entry)) ⌝ }
+{
+    let a = parting_length(s);
+    let n = element_length(&s[a..]);
+    ElementSpan {
+        start: a,
+        end: a + n,
+    }
+}
+
+// The first element of s, empty where there is none.
+pub fn element(s: &[u8], at: ElementSpan) -> &[u8]
+    requires { ⌜ at ≡ elementSpan (now s) ⌝ }
+    ensures { λ r. ⌜ now r ≡ firstElement (now (s .entry)) ⌝ }
+{
+    let a = at.start;
+    let e = at.end;
+    &s[a..e]
+}
+
+// What follows the first element of s.
+pub fn after_element(s: &[u8], at: ElementSpan) -> &[u8]
+    requires { ⌜ at ≡ elementSpan (now s) ⌝ }
+    ensures { λ r. ⌜ now r ≡ afterElement (now (s .entry)) ⌝ }
+{
+    let e = at.end;
+    &s[e..]
+}
