@@ -2,19 +2,32 @@
 --   wildcardOf e == the wildcard that e is
 --   formOf e     == what e is read as where it is no wildcard
 -- Assumes nothing: these are definitions.
-use Prim.Native.Nat.{ℕ, _-_}
+use Prim.Native.Nat.{ℕ, _+_, _-_, _*_, _/_, _%_, _^_}
 use mathlib.Core.Bool.{Bool, true, false, not, _&&_, _||_}
 use mathlib.Core.List.{List, [], _∷_}
 use mathlib.Core.Option.{Option, none, some}
-use lib.Dec.{ltb}
-use lib.ListN.{length, drop}
-use Rattle.text.specs.Basics.{if_then_else_, holds, isSome, any, all}
-use Rattle.text.specs.Text.{among, firstAmong, isDigit, equalFold, isWord}
+use lib.Dec.{leb, ltb, eqb}
+use lib.ListN.{length, take, drop}
+use Rattle.text.specs.Basics.{if_then_else_, _>>=_, _orElse_, given, holds, isSome, any, all, each}
+use Rattle.text.specs.Text.{bytes, among, firstAmong, lastAmong, splitOnce, split, isDigit, equalFold, isWord}
+use Rattle.text.specs.Number.{fromDigits, readDecimal}
+use Rattle.text.specs.Scan.{indexOf}
+use Rattle.text.specs.declared.NumberRead.{NumberRead}
+use Rattle.text.specs.declared.NumberRead.the-variants as T
+use Rattle.address.specs.Address.{readV4, readV6}
+use Rattle.elements.specs.declared.stub.V6Read.{V6Read}
+use Rattle.elements.specs.declared.stub.V6Read.the-variants as V6
 use Rattle.elements.specs.declared.Host.{Host}
 use Rattle.elements.specs.declared.pattern.Wildcard.{Wildcard}
 use Rattle.elements.specs.declared.pattern.Wildcard.the-variants as W
 use Rattle.elements.specs.declared.pattern.Form.{Form}
 use Rattle.elements.specs.declared.pattern.Form.the-variants as F
+use Rattle.elements.specs.declared.net.NetRead.{NetRead}
+use Rattle.elements.specs.declared.net.NetRead.the-variants as R
+use Rattle.elements.specs.declared.net.PrefixRead.{PrefixRead}
+use Rattle.elements.specs.declared.net.PrefixRead.the-variants as P
+use Rattle.elements.specs.declared.net.Field.{Field}
+use Rattle.elements.specs.declared.net.Field.the-variants as L
 use Rattle.elements.specs.Request.{Endpoint, nameCase, nameKnown, addrKnown}
 use Rattle.elements.specs.Pattern.{Pattern, domainPattern, bracketPattern, dottedPattern, namePattern, hostPattern}
 
@@ -45,9 +58,6 @@ wildcardPattern W.Known = some λ h. nameKnown h && addrKnown h
 wildcardPattern W.Unknown = some λ h. nameCase h true false false || not (addrKnown h)
 wildcardPattern W.Paranoid = some λ h. nameCase h false true false
 
-abbrev pub endpoint : Host → List ℕ → Endpoint
-endpoint h n = record { host = h; name = n }
-
 abbrev pub matchesPattern : Pattern → Endpoint → Bool
 matchesPattern p h = holds (λ f. f h) p
 
@@ -67,3 +77,70 @@ formPattern F.Plain e = namePattern e
 
 unfoldable pub hostMatches : List ℕ → Endpoint → Bool
 hostMatches e h = matchesPattern (hostPattern e) h
+
+-- ## Nets and prefixes
+
+abbrev pub asNet : Option (ℕ × ℕ) → NetRead
+asNet none = R.Nothing
+asNet (some p) = R.Net (p .0) (p .1)
+
+-- a field that a dot follows, and the place after the dot
+abbrev pub fieldWith : ℕ → Option ℕ → Field
+fieldWith i none = L.Nothing
+fieldWith i (some n) = L.Value n (i + 1)
+
+unfoldable pub fieldOf : List ℕ → Field
+fieldOf t = if eqb (indexOf 46 t) (length t) then L.Nothing else fieldWith (indexOf 46 t) (readDecimal 255 (take (indexOf 46 t) t))
+
+-- the net of the k leading fields that write n
+abbrev pub leadingNet : ℕ → ℕ → ℕ × ℕ
+leadingNet k n = (n * 2 ^ (32 - 8 * k), 2 ^ 32 - 2 ^ (32 - 8 * k))
+
+-- the fields of t, each followed by a dot
+unfoldable pub dottedFields : List ℕ → Option (List ℕ)
+dottedFields t = if lastAmong "." t then each (readDecimal 255) (split "." (take (length t - 1) t)) else none
+
+-- the net of the fields of t, after k fields that write n
+unfoldable pub fieldsNet : ℕ → ℕ → List ℕ → Option (ℕ × ℕ)
+fieldsNet k n t = do
+  fs ← dottedFields t
+  given (leb (k + length fs) 3) (leadingNet (k + length fs) (fromDigits 256 n fs))
+
+abbrev pub pairNet : NumberRead → NumberRead → NetRead
+pairNet T.Nothing m = R.Nothing
+pairNet (T.Value n) T.Nothing = R.Nothing
+pairNet (T.Value n) (T.Value m) = R.Net n m
+
+unfoldable pub maskNet : List ℕ → Option (ℕ × ℕ)
+maskNet e = do
+  p ← splitOnce (bytes "/") e
+  net ← readV4 (p .0)
+  mask ← readV4 (p .1)
+  some (net, mask)
+
+unfoldable pub wholeNet : List ℕ → Option (ℕ × ℕ)
+wholeNet e = (readV4 e >>= λ n. some (n, 4294967295)) orElse maskNet e
+
+unfoldable pub dottedNet : List ℕ → Option (ℕ × ℕ)
+dottedNet e = if lastAmong "." e then fieldsNet 0 0 e else wholeNet e
+
+-- an address of 128 bits, and the number of leading bits to compare
+abbrev pub asPrefix : Option (ℕ × ℕ) → PrefixRead
+asPrefix none = P.Nothing
+asPrefix (some p) = P.Prefix (p .0 / 2 ^ 64) (p .0 % 2 ^ 64) (p .1)
+
+abbrev pub prefixWith : V6Read → NumberRead → PrefixRead
+prefixWith V6.Nothing m = P.Nothing
+prefixWith (V6.Value h l) T.Nothing = P.Nothing
+prefixWith (V6.Value h l) (T.Value m) = P.Prefix h l m
+
+unfoldable pub prefixLength : List ℕ → Option ℕ
+prefixLength [] = some 128
+prefixLength (x ∷ t) = if among "/" x then readDecimal 128 t else none
+
+unfoldable pub bracketPrefix : List ℕ → Option (ℕ × ℕ)
+bracketPrefix e = do
+  p ← splitOnce (bytes "]") (drop 1 e)
+  n ← readV6 (p .0)
+  m ← prefixLength (p .1)
+  some (n, m)

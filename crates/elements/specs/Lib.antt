@@ -2,3 +2,4 @@ pub mod Request
 pub mod Pattern
 pub mod Element
 pub mod Code
+pub mod Stub

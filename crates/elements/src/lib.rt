@@ -1,5 +1,7 @@
 // Requests, host patterns, and the elements of daemon and client lists.
+pub mod net;
 pub mod pattern;
+pub mod stub;
 
 // What is known of a host's name; the bytes of a known one are lent beside it.
 pub enum Name {

@@ -10,9 +10,9 @@ ghost use mathlib.Core.List.{[]};
 ghost use Rattle.text.specs.Basics.{isSome, any, all};
 ghost use Rattle.text.specs.Text.{among};
 ghost use Rattle.address.specs.Address.{addrCase};
-ghost use Rattle.elements.specs.Request.{nameCase, nameKnown, addrKnown};
+ghost use Rattle.elements.specs.Request.{endpoint, nameCase, nameKnown, addrKnown};
 ghost use Rattle.elements.specs.Pattern.{isNameByte, domainPattern, namePattern};
-ghost use Rattle.elements.specs.Code.{wildcardOf, formOf, isDottedByte, endpoint, matchesPattern, domainCovers, plainCovers};
+ghost use Rattle.elements.specs.Code.{wildcardOf, formOf, isDottedByte, matchesPattern, domainCovers, plainCovers};
 
 // The wildcard that a text is.
 pub enum Wildcard {
