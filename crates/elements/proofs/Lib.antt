@@ -1,4 +1,3 @@
 pub mod TestLaws
 pub mod PatternLaws
 pub mod NetLaws
-pub mod Temp

@@ -25,7 +25,7 @@ use Rattle.elements.specs.declared.net.NetRead.the-variants as R
 use Rattle.elements.specs.declared.net.Field.{Field}
 use Rattle.elements.specs.declared.net.Field.the-variants as L
 use Rattle.elements.specs.Code.{asNet, fieldWith, fieldOf, leadingNet, dottedFields, fieldsNet, pairNet, maskNet, wholeNet, dottedNet}
-use Rattle.elements.proofs.Temp.{readDecimal-le, asNumber-none, asNumber-some}
+use Rattle.address.proofs.ReadLaws.{readDecimal-le, asNumber-none, asNumber-some}
 use Rattle.elements.proofs.TestLaws.{drop-take, indexOf-take, no-dot-at-end, dot-at-end, lastAmong-drop}
 
 -- ## One field

@@ -2,6 +2,7 @@
 //   read_dotted(e)  == the net and the mask of a pattern of IPv4 addresses
 //   read_bracket(e) == the address and the prefix length of a pattern of IPv6 addresses
 use super::stub::V6Read;
+use address::read::read_v4;
 use text::NumberRead;
 ghost use mathlib.Core.Path.{_≡_};
 ghost use mathlib.Core.Option.{some};
@@ -100,14 +101,14 @@ fn read_mask(e: &[u8]) -> NetRead
         return NetRead::Nothing;
     }
     let after = i + 1;
-    pair_net(super::stub::read_v4(&e[..i]), super::stub::read_v4(&e[after..]))
+    pair_net(read_v4(&e[..i]), read_v4(&e[after..]))
 }
 
 // An address, as the net of that address alone, or net/mask.
 fn read_whole(e: &[u8]) -> NetRead
     ensures { λ r. ⌜ r ≡ asNet (wholeNet (now (e .entry))) ⌝ }
 {
-    let v = super::stub::read_v4(e);
+    let v = read_v4(e);
     match v {
         NumberRead::Nothing => read_mask(e),
         NumberRead::Value(n) => NetRead::Net(n, 4294967295),
