@@ -98,6 +98,15 @@ getD-indexOf b (x ∷ s) h = by (eqb x b) refl (getD-indexOf b s)
     by true e ih = simp e (eqb-true x b e)
     by false e ih = let k : suc (indexOf b s) < suc (length s) = simp e at h in simp e (ih (omega arith))
 
+pub indexOf-length : (b : ℕ) (s : List ℕ) → indexOf b s ≤ length s
+unfolding indexOf spanLen
+indexOf-length b [] = omega arith
+indexOf-length b (x ∷ s) = by (eqb x b) refl (indexOf-length b s)
+  where
+    by : (t : Bool) → eqb x b ≡ t → indexOf b s ≤ length s → indexOf b (x ∷ s) ≤ length (x ∷ s)
+    by true e ih = simp e (omega arith)
+    by false e ih = simp e (omega arith)
+
 pub indexOf-le : (b : ℕ) (s : List ℕ) (k : ℕ) → k < length s → getD s k 0 ≡ b → indexOf b s ≤ k
 unfolding indexOf spanLen
 indexOf-le b [] k h e = absurd (omega arith)

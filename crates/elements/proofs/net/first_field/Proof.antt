@@ -1,3 +1,7 @@
+use mathlib.Core.Path.{sym}
+use native.Mathlib.Omega.{arith}
+use lib.Seq.{length-take-le}
+use Rattle.elements.proofs.NetLaws.{field-endless, field-unread, field-read}
 use borrow.Author.Needs.{needs}
 use Rattle.elements.proofs.net.first_field.Statement.{statement}
 use Rattle.elements.proofs.net.first_field.Tie as tie
@@ -12,11 +16,11 @@ index-of-requires c κs = search needs
 
 -- src/net.rt:37:9
 returns : tie.Need-returns
-returns c = ?
+returns c = search (field-endless, needs)
 
 -- src/net.rt:39:32
 slice-aggregate-read-decimal : tie.Need-slice-aggregate-read-decimal
-slice-aggregate-read-decimal c = ?
+slice-aggregate-read-decimal c = sym (length-take-le _ _ (omega arith))
 
 -- src/net.rt:39:9
 read-decimal-requires : tie.Need-read-decimal-requires
@@ -36,11 +40,11 @@ add-t10 c = search needs
 
 -- src/net.rt:32:1
 returns-2 : tie.Need-returns-2
-returns-2 c = ?
+returns-2 c = search (field-unread, needs)
 
 -- src/net.rt:32:1
 returns-3 : tie.Need-returns-3
-returns-3 c = ?
+returns-3 c = let b = c .before .before .before .before .before .before in field-read _ _ (b .index-of .ensures .0) (c .before .before .before .before .before .if1 .left) _ (c .before .before .before .read-decimal .ensures) _ (c .before .v .given .1)
 
 pub first-field-spec : {M : Type 1} → statement M
 first-field-spec =

@@ -1,3 +1,4 @@
+use Rattle.elements.proofs.NetLaws.{leading-shifted}
 use borrow.Author.Needs.{needs}
 use Rattle.elements.proofs.net.leading_net.Statement.{statement}
 use Rattle.elements.proofs.net.leading_net.Tie as tie
@@ -26,7 +27,7 @@ shl-t6 c = search needs
 
 -- src/net.rt:47:1
 returns : tie.Need-returns
-returns c = ?
+returns c = leading-shifted _ _ (c .pre .0) (c .pre .1) (c .pre .2)
 
 pub leading-net-spec : {M : Type 1} → statement M
 leading-net-spec = tie.close (tie.spec mul-shift sub-shift shl-t4 shr-t5 shl-t6 returns)

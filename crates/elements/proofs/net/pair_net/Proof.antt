@@ -1,3 +1,4 @@
+use Rattle.elements.proofs.NetLaws.{pair-net}
 use borrow.Author.Needs.{needs}
 use Rattle.elements.proofs.net.pair_net.Statement.{statement}
 use Rattle.elements.proofs.net.pair_net.Tie as tie
@@ -30,7 +31,7 @@ returns-2 c = search needs
 
 -- src/net.rt:82:1
 returns-3 : tie.Need-returns-3
-returns-3 c = ?
+returns-3 c = pair-net _ _ _ _ (c .before .before .before .before .net .given .1) (c .before .mask .given .1)
 
 pub pair-net-spec : {M : Type 1} → statement M
 pair-net-spec =

@@ -1,3 +1,4 @@
+use Rattle.elements.proofs.NetLaws.{pair-prefix}
 use borrow.Author.Needs.{needs}
 use Rattle.elements.proofs.net.pair_prefix.Statement.{statement}
 use Rattle.elements.proofs.net.pair_prefix.Tie as tie
@@ -30,7 +31,7 @@ returns-2 c = search needs
 
 -- src/net.rt:146:1
 returns-3 : tie.Need-returns-3
-returns-3 c = ?
+returns-3 c = pair-prefix _ _ _ _ _ (c .before .before .before .before .address .given .1) (c .before .length .given .1)
 
 pub pair-prefix-spec : {M : Type 1} → statement M
 pair-prefix-spec =

@@ -1,3 +1,7 @@
+use mathlib.Core.Path.{sym}
+use native.Mathlib.Omega.{arith}
+use lib.Seq.{length-take-le}
+use Rattle.elements.proofs.NetLaws.{bracket-nil, bracket-open, bracket-pair}
 use borrow.Author.Needs.{needs}
 use Rattle.elements.proofs.net.read_bracket.Statement.{statement}
 use Rattle.elements.proofs.net.read_bracket.Tie as tie
@@ -10,7 +14,7 @@ use Rattle.text.proofs.index_of.Reads as index-of-reads
 
 -- src/net.rt:163:9
 returns : tie.Need-returns
-returns c = ?
+returns c = search (bracket-nil, needs)
 
 -- src/net.rt:165:13
 sub-s : tie.Need-sub-s
@@ -30,7 +34,7 @@ index-of-requires c κs = search needs
 
 -- src/net.rt:168:9
 returns-2 : tie.Need-returns-2
-returns-2 c = ?
+returns-2 c = search (bracket-open, needs)
 
 -- src/net.rt:170:17
 add-after : tie.Need-add-after
@@ -38,7 +42,7 @@ add-after c = search needs
 
 -- src/net.rt:171:38
 slice-aggregate-read-v6 : tie.Need-slice-aggregate-read-v6
-slice-aggregate-read-v6 c = ?
+slice-aggregate-read-v6 c = sym (length-take-le _ _ (omega arith))
 
 -- src/net.rt:171:17
 read-v6-requires : tie.Need-read-v6-requires
@@ -66,7 +70,7 @@ pair-prefix-requires c κs = search needs
 
 -- src/net.rt:159:1
 returns-3 : tie.Need-returns-3
-returns-3 c = ?
+returns-3 c = search (bracket-pair, needs)
 
 pub read-bracket-spec : {M : Type 1} → statement M
 read-bracket-spec =

@@ -1,3 +1,4 @@
+use Rattle.elements.proofs.NetLaws.{dotted-nil, dotted-fields, dotted-whole}
 use borrow.Author.Needs.{needs}
 use Rattle.elements.proofs.net.read_dotted.Statement.{statement}
 use Rattle.elements.proofs.net.read_dotted.Tie as tie
@@ -8,7 +9,7 @@ use Rattle.elements.proofs.net.read_whole.Reads as read-whole-reads
 
 -- src/net.rt:123:9
 returns : tie.Need-returns
-returns c = search needs
+returns c = search (dotted-nil, needs)
 
 -- src/net.rt:125:16
 sub-last : tie.Need-sub-last
@@ -28,11 +29,11 @@ read-whole-requires c κs = search needs
 
 -- src/net.rt:119:1
 returns-2 : tie.Need-returns-2
-returns-2 c = search needs
+returns-2 c = search (dotted-fields, needs)
 
 -- src/net.rt:119:1
 returns-3 : tie.Need-returns-3
-returns-3 c = search needs
+returns-3 c = search (dotted-whole, needs)
 
 pub read-dotted-spec : {M : Type 1} → statement M
 read-dotted-spec =

@@ -1,3 +1,4 @@
+use Rattle.elements.proofs.NetLaws.{length-none, length-bad, length-read}
 use borrow.Author.Needs.{needs}
 use Rattle.elements.proofs.net.read_length.Statement.{statement}
 use Rattle.elements.proofs.net.read_length.Tie as tie
@@ -7,7 +8,7 @@ use Rattle.text.proofs.read_decimal.Reads as read-decimal-reads
 
 -- src/net.rt:137:9
 returns : tie.Need-returns
-returns c = ?
+returns c = search (length-none, needs)
 
 -- src/net.rt:139:8
 shared-slice-read-if2 : tie.Need-shared-slice-read-if2
@@ -15,7 +16,7 @@ shared-slice-read-if2 c = search needs
 
 -- src/net.rt:140:9
 returns-2 : tie.Need-returns-2
-returns-2 c = ?
+returns-2 c = search (length-bad, needs)
 
 -- src/net.rt:142:24
 sub-read-decimal : tie.Need-sub-read-decimal
@@ -35,7 +36,7 @@ read-decimal-requires c κs = search needs
 
 -- src/net.rt:133:1
 returns-3 : tie.Need-returns-3
-returns-3 c = ?
+returns-3 c = search (length-read, needs)
 
 pub read-length-spec : {M : Type 1} → statement M
 read-length-spec =

@@ -1,3 +1,7 @@
+use mathlib.Core.Path.{sym}
+use native.Mathlib.Omega.{arith}
+use lib.Seq.{length-take-le}
+use Rattle.elements.proofs.NetLaws.{mask-none, mask-pair}
 use borrow.Author.Needs.{needs}
 use Rattle.elements.proofs.net.read_mask.Statement.{statement}
 use Rattle.elements.proofs.net.read_mask.Tie as tie
@@ -13,7 +17,7 @@ index-of-requires c κs = search needs
 
 -- src/net.rt:101:9
 returns : tie.Need-returns
-returns c = search needs
+returns c = search (mask-none, needs)
 
 -- src/net.rt:103:17
 add-after : tie.Need-add-after
@@ -21,7 +25,7 @@ add-after c = search needs
 
 -- src/net.rt:104:22
 slice-aggregate-read-v4 : tie.Need-slice-aggregate-read-v4
-slice-aggregate-read-v4 c = search needs
+slice-aggregate-read-v4 c = sym (length-take-le _ _ (omega arith))
 
 -- src/net.rt:104:14
 read-v4-requires : tie.Need-read-v4-requires
@@ -49,7 +53,7 @@ pair-net-requires c κs = search needs
 
 -- src/net.rt:96:1
 returns-2 : tie.Need-returns-2
-returns-2 c = search needs
+returns-2 c = search (mask-pair, needs)
 
 pub read-mask-spec : {M : Type 1} → statement M
 read-mask-spec =

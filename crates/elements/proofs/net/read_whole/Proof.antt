@@ -1,3 +1,4 @@
+use Rattle.elements.proofs.NetLaws.{whole-mask, whole-address}
 use borrow.Author.Needs.{needs}
 use Rattle.elements.proofs.net.read_whole.Statement.{statement}
 use Rattle.elements.proofs.net.read_whole.Tie as tie
@@ -24,11 +25,11 @@ enum-known-v c = search needs
 
 -- src/net.rt:108:1
 returns : tie.Need-returns
-returns c = search needs
+returns c = search (whole-mask, needs)
 
 -- src/net.rt:108:1
 returns-2 : tie.Need-returns-2
-returns-2 c = search needs
+returns-2 c = whole-address _ _ (c .before .before .before .read-v4 .ensures) _ (c .before .v .given .1)
 
 pub read-whole-spec : {M : Type 1} → statement M
 read-whole-spec =
