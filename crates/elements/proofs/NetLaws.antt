@@ -153,7 +153,7 @@ each-pos {A} {B} f w ws fs e = by (f w) (each f ws) fs e
     by (some y) (some ys) [] e = let z : _≡_ {A = ℕ} 0 1 = cc in absurd (omega arith)
     by (some y) (some ys) (v ∷ fs) e = omega arith
 
-dottedFields-pos : (t fs : List ℕ) → dottedFields t ≡ some fs → 0 < length fs
+pub dottedFields-pos : (t fs : List ℕ) → dottedFields t ≡ some fs → 0 < length fs
 unfolding dottedFields
 dottedFields-pos t fs e = by (lastAmong "." t) e
   where

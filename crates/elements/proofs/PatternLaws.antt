@@ -6,19 +6,22 @@ use mathlib.Core.Bool.{Bool, true, false, not, _&&_, _||_}
 use mathlib.Core.Bool as Bool
 use mathlib.Core.List.{List, [], _∷_}
 use mathlib.Core.Option.{Option, none, some}
-use mathlib.Core.Path.{_≡_, refl, sym, ap, _∙_}
+use mathlib.Core.Path.{_≡_, refl, sym, ap, ap₂, _∙_}
 use native.Mathlib.Omega.{arith}
 use borrow.Author.Tests.{ne-eqb, le-leb, lt-leb}
 use lib.Dec.{eqb, leb, ltb}
 use lib.ListN.{length, drop, getD}
-use Rattle.text.specs.Basics.{if_then_else_, given, holds, isSome, first, all, any}
+use Rattle.text.specs.Basics.{if_then_else_, _orElse_, given, holds, isSome, first, all, any}
 use Rattle.text.specs.Text.{bytes, isWord, among, firstAmong, lastAmong, inRange, equalFold}
 use Rattle.text.proofs.ScanLaws.{equalFold-lengths}
 use Rattle.elements.specs.declared.pattern.Wildcard.{Wildcard}
 use Rattle.elements.specs.declared.pattern.Wildcard.the-variants as W
 use Rattle.elements.specs.declared.pattern.Form.the-variants as F
-use Rattle.elements.specs.Pattern.{Pattern, wildcard, isNameByte, domainPattern, namePattern}
-use Rattle.elements.specs.Code.{wildcardOf, formOf, isDottedByte, wildcardPattern, domainCovers, plainCovers}
+use Rattle.elements.specs.Pattern.{Pattern, wildcard, isNameByte, domainPattern, bracketPattern, dottedPattern, namePattern, hostPattern}
+use Rattle.elements.specs.Code.{wildcardOf, formOf, isDottedByte, wildcardPattern, formPattern, matchesPattern, hostMatches, domainCovers, plainCovers}
+use Rattle.elements.specs.Request.{Endpoint, endpoint, nameKnown}
+use Rattle.elements.specs.declared.Host.{Host}
+use Rattle.elements.specs.declared.pattern.Form.{Form}
 use Rattle.elements.proofs.TestLaws.{firstAmong-head, lastAmong-last}
 
 -- ## Wildcards
@@ -113,10 +116,6 @@ isSome-given : {A : Type 0} (b : Bool) (a : A) → isSome (given b a) ≡ b
 isSome-given true a = refl
 isSome-given false a = refl
 
-holds-given : {A : Type 0} (p : A → Bool) (b : Bool) (a : A) → holds p (given b a) ≡ (b && p a)
-holds-given p true a = refl
-holds-given p false a = refl
-
 domain-is : (e : List ℕ) → isSome (domainPattern e) ≡ (all isNameByte e && inRange 2 255 (length e))
 unfolding domainPattern
 domain-is e = isSome-given (all isNameByte e && inRange 2 255 (length e)) _
@@ -169,3 +168,60 @@ module _ (e : List ℕ) where
   pub plain-differs : (n : List ℕ) (x : Bool) → x ≡ equalFold e n → x ≡ false → false ≡ plainCovers e n
   unfolding plainCovers
   plain-differs n x q y = rw (← q, y)
+
+-- a pattern is met where its test holds and it is one
+met : (b : Bool) (f : Endpoint → Bool) (h : Endpoint) → (f h && isSome (given b f)) ≡ matchesPattern (given b f) h
+met true f h = Bool.and-true (f h)
+met false f h = Bool.and-false (f h)
+
+module _ (e : List ℕ) (host : Host) (name : List ℕ) (x : Bool) (is-x : x ≡ nameKnown (endpoint host [])) (y : Bool) where
+  pub domain-matches : y ≡ domainCovers e name → (x && y) ≡ matchesPattern (domainPattern e) (endpoint host name)
+  unfolding domainPattern domainCovers
+  domain-matches is-y =
+      ap₂ _&&_ is-x is-y ∙ by (nameKnown (endpoint host name)) (ltb (length e) (length name)) (equalFold e (drop (length name - length e) name)) (isSome (domainPattern e))
+      ∙ met (all isNameByte e && inRange 2 255 (length e)) (λ h. nameKnown h && ltb (length e) (length (h .name)) && equalFold e (drop (length (h .name) - length e) (h .name))) (endpoint host name)
+    where
+      by : (k l q s : Bool) → (k && (l && q && s)) ≡ (k && l && q && s)
+      by true l q s = refl
+      by false l q s = refl
+
+  pub plain-matches : y ≡ plainCovers e name → (x && y) ≡ matchesPattern (namePattern e) (endpoint host name)
+  unfolding namePattern plainCovers
+  plain-matches is-y =
+      ap₂ _&&_ is-x is-y ∙ by (nameKnown (endpoint host name)) (equalFold e name) (isSome (namePattern e))
+      ∙ met (all isNameByte e && inRange 1 255 (length e) && not (lastAmong "." e)) (λ h. nameKnown h && equalFold e (h .name)) (endpoint host name)
+    where
+      by : (k q s : Bool) → (k && (q && s)) ≡ (k && q && s)
+      by true q s = refl
+      by false q s = refl
+
+-- ## A pattern, by what it is read as
+
+module _ (e : List ℕ) (f v : Form) (is-f : f ≡ formOf e) (is-v : f ≡ v) where
+  pub form-sound : (r : Bool) → r ≡ isSome (formPattern v e) → r ≡ isSome (formPattern (formOf e) e)
+  form-sound r q = rw (← is-f, is-v) q
+
+  pub form-matches : (h : Endpoint) (r : Bool) → r ≡ matchesPattern (formPattern v e) h → r ≡ matchesPattern (formPattern (formOf e) e) h
+  form-matches h r q = rw (← is-f, is-v) q
+
+host-is : (e : List ℕ) → hostPattern e ≡ wildcardPattern (wildcardOf e) orElse formPattern (formOf e) e
+unfolding hostPattern formOf
+host-is e = rw (wildcard-of e) (by (firstAmong "." e) (firstAmong "[" e) (all isDottedByte e))
+  where
+    by : (a b c : Bool) → (wildcardPattern (wildcardOf e) orElse (if a then domainPattern e else if b then bracketPattern e else if c then dottedPattern e else namePattern e))
+        ≡ (wildcardPattern (wildcardOf e) orElse formPattern (if a then F.Domain else if b then F.Bracket else if c then F.Dotted else F.Plain) e)
+    by true b c = refl
+    by false true c = refl
+    by false false true = refl
+    by false false false = refl
+
+module _ (e : List ℕ) (w v : Wildcard) (is-w : w ≡ wildcardOf e) (is-v : w ≡ v) where
+  host-at : hostPattern e ≡ wildcardPattern v orElse formPattern (formOf e) e
+  host-at = host-is e ∙ rw (← is-w, is-v)
+
+  pub host-sound : (r : Bool) → r ≡ isSome (wildcardPattern v orElse formPattern (formOf e) e) → r ≡ isSome (hostPattern e)
+  host-sound r q = rw host-at q
+
+  pub host-matches : (h : Endpoint) (r : Bool) → r ≡ matchesPattern (wildcardPattern v orElse formPattern (formOf e) e) h → r ≡ hostMatches e h
+  unfolding hostMatches
+  host-matches h r q = rw host-at q

@@ -7,6 +7,7 @@ use mathlib.Core.Bool.{Bool, true, false, not, _&&_, _||_}
 use mathlib.Core.List.{List, [], _∷_}
 use mathlib.Core.Option.{Option, none, some}
 use lib.Dec.{leb, ltb, eqb}
+use lib.Bits.{bitAnd}
 use lib.ListN.{length, take, drop}
 use Rattle.text.specs.Basics.{if_then_else_, _>>=_, _orElse_, given, holds, isSome, any, all, each}
 use Rattle.text.specs.Text.{bytes, among, firstAmong, lastAmong, splitOnce, split, isDigit, equalFold, isWord}
@@ -14,7 +15,7 @@ use Rattle.text.specs.Number.{fromDigits, readDecimal}
 use Rattle.text.specs.Scan.{indexOf}
 use Rattle.text.specs.declared.NumberRead.{NumberRead}
 use Rattle.text.specs.declared.NumberRead.the-variants as T
-use Rattle.address.specs.Address.{readV4, readV6}
+use Rattle.address.specs.Address.{samePrefix, addrCase, readV4, readV6}
 use Rattle.elements.specs.declared.stub.V6Read.{V6Read}
 use Rattle.elements.specs.declared.stub.V6Read.the-variants as V6
 use Rattle.elements.specs.declared.Host.{Host}
@@ -29,7 +30,7 @@ use Rattle.elements.specs.declared.net.PrefixRead.the-variants as P
 use Rattle.elements.specs.declared.net.Field.{Field}
 use Rattle.elements.specs.declared.net.Field.the-variants as L
 use Rattle.elements.specs.Request.{Endpoint, nameCase, nameKnown, addrKnown}
-use Rattle.elements.specs.Pattern.{Pattern, domainPattern, bracketPattern, dottedPattern, namePattern, hostPattern}
+use Rattle.elements.specs.Pattern.{Pattern, domainPattern, leadingFields, netMask, bracketPattern, dottedPattern, namePattern, hostPattern}
 
 unfoldable pub wildcardOf : List ℕ → Wildcard
 wildcardOf e =
@@ -144,3 +145,22 @@ bracketPrefix e = do
   n ← readV6 (p .0)
   m ← prefixLength (p .1)
   some (n, m)
+
+-- ## What patterns of addresses cover
+
+abbrev pub netCovers : NetRead → ℕ → Bool
+netCovers R.Nothing a = false
+netCovers (R.Net n m) a = eqb n (bitAnd a m)
+
+-- what a dotted pattern tests of an IPv4 address
+unfoldable pub dottedTest : List ℕ → Option (ℕ → Bool)
+dottedTest e = (readV4 e >>= λ n. some (eqb n)) orElse leadingFields e orElse netMask e
+
+abbrev pub dottedCovers : List ℕ → Host → Bool
+dottedCovers e h = addrCase (h .addr) false (λ a. holds (λ f. f a) (dottedTest e)) (λ a. false)
+
+unfoldable pub prefixCovers : List ℕ → ℕ → Bool
+prefixCovers e a = holds (λ q. samePrefix 128 (q .1) (q .0) a) (bracketPrefix e)
+
+abbrev pub bracketCovers : List ℕ → Host → Bool
+bracketCovers e h = addrCase (h .addr) false (λ a. false) (prefixCovers e)
