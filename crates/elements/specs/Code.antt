@@ -10,11 +10,12 @@ use lib.Dec.{leb, ltb, eqb}
 use lib.Bits.{bitAnd}
 use lib.ListN.{length, take, drop}
 use Rattle.text.specs.Basics.{if_then_else_, _>>=_, _orElse_, given, holds, isSome, any, all, each}
-use Rattle.text.specs.Text.{bytes, among, firstAmong, lastAmong, splitOnce, split, isDigit, equalFold, isWord}
+use Rattle.text.specs.Text.{bytes, among, firstAmong, lastAmong, splitOnce, split, inRange, isDigit, equalFold, isWord}
 use Rattle.text.specs.Number.{fromDigits, readDecimal}
 use Rattle.text.specs.Scan.{indexOf}
 use Rattle.text.specs.declared.NumberRead.{NumberRead}
 use Rattle.text.specs.declared.NumberRead.the-variants as T
+use Rattle.address.specs.declared.Addr.the-variants as A
 use Rattle.address.specs.Address.{samePrefix, addrCase, readV4, readV6}
 use Rattle.elements.specs.declared.stub.V6Read.{V6Read}
 use Rattle.elements.specs.declared.stub.V6Read.the-variants as V6
@@ -29,8 +30,16 @@ use Rattle.elements.specs.declared.net.PrefixRead.{PrefixRead}
 use Rattle.elements.specs.declared.net.PrefixRead.the-variants as P
 use Rattle.elements.specs.declared.net.Field.{Field}
 use Rattle.elements.specs.declared.net.Field.the-variants as L
-use Rattle.elements.specs.Request.{Endpoint, nameCase, nameKnown, addrKnown}
-use Rattle.elements.specs.Pattern.{Pattern, domainPattern, leadingFields, netMask, bracketPattern, dottedPattern, namePattern, hostPattern}
+use Rattle.elements.specs.declared.Name.the-variants as N
+use Rattle.elements.specs.declared.User.{User}
+use Rattle.elements.specs.declared.User.the-variants as U
+use Rattle.elements.specs.declared.Found.{Found}
+use Rattle.elements.specs.declared.Found.the-variants.{No, Ask}
+use Rattle.elements.specs.declared.element.ElementFault.{ElementFault}
+use Rattle.elements.specs.declared.element.ElementFault.the-variants as E
+use Rattle.elements.specs.Request.{Endpoint, Request, endpoint, requestOf, nameCase, userCase, nameKnown, addrKnown}
+use Rattle.elements.specs.Pattern.{Pattern, isNameByte, domainPattern, leadingFields, netMask, bracketPattern, dottedPattern, namePattern, hostPattern}
+use Rattle.elements.specs.Element.{Element, foundIf, reservedStart, userHalf}
 
 unfoldable pub wildcardOf : List ℕ → Wildcard
 wildcardOf e =
@@ -164,3 +173,48 @@ prefixCovers e a = holds (λ q. samePrefix 128 (q .1) (q .0) a) (bracketPrefix e
 
 abbrev pub bracketCovers : List ℕ → Host → Bool
 bracketCovers e h = addrCase (h .addr) false (λ a. false) (prefixCovers e)
+
+-- ## Elements
+
+-- what is wrong with an element of a kind of list
+unfoldable pub elementFault : (List ℕ → Element) → List ℕ → ElementFault
+elementFault kind e = if reservedStart e then E.Reserved else if isSome (kind e) then E.Sound else E.Unknown
+
+-- a request by what the elements of a daemon list, or of a client list, look at
+abbrev pub nobody : Endpoint
+nobody = endpoint (record { name = N.Unknown; addr = A.Unknown }) []
+
+abbrev pub daemonRequest : List ℕ → Endpoint → Request
+daemonRequest d s = requestOf d nobody s U.NotFetched []
+
+abbrev pub clientRequest : Endpoint → User → List ℕ → Request
+clientRequest c u name = requestOf [] c nobody u name
+
+-- the place of the `@` that parts an element, the length where none does
+unfoldable pub atSign : List ℕ → ℕ
+atSign [] = 0
+atSign (x ∷ t) = indexOf 64 t + 1
+
+-- a name that is no wildcard, of a daemon or a user
+unfoldable pub nameFits : List ℕ → Bool
+nameFits t = all isNameByte t && inRange 1 64 (length t)
+
+abbrev pub nameEquals : List ℕ → List ℕ → Bool
+nameEquals t n = equalFold t n && nameFits t
+
+-- a user half matches a user; what it finds of one where the host half matches
+unfoldable pub userTest : List ℕ → User → List ℕ → Bool
+userTest t u name = holds (λ f. f (clientRequest nobody u name)) (userHalf t)
+
+abbrev pub askIf : Bool → Found
+askIf true = Ask
+askIf false = No
+
+unfoldable pub userFound : List ℕ → User → List ℕ → Found
+userFound t U.NotFetched name = askIf (isSome (userHalf t))
+userFound t U.Unknown name = foundIf (userTest t U.Unknown [])
+userFound t U.Known name = foundIf (userTest t U.Known name)
+
+-- a user's name, where known, is within its size
+abbrev pub userFits : User → List ℕ → Bool
+userFits u name = userCase (clientRequest nobody u name) true true (inRange 1 64 (length name))

@@ -1,4 +1,5 @@
 // Requests, host patterns, and the elements of daemon and client lists.
+pub mod element;
 pub mod net;
 pub mod pattern;
 pub mod stub;
