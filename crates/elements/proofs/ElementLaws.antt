@@ -33,10 +33,17 @@ use Rattle.elements.proofs.PatternLaws.{wildcard-of}
 
 -- ## Halves
 
-pub atSign-le : (e : List ℕ) → atSign e ≤ length e
+pub atSign-nil : (e : List ℕ) → length e ≡ 0 → (0 ≡ atSign e) × (0 ≤ length e)
 unfolding atSign
-atSign-le [] = omega arith
-atSign-le (x ∷ t) = omega (arith, indexOf-length 64 t)
+atSign-nil [] h = (refl, omega arith)
+atSign-nil (x ∷ t) h = absurd (omega arith)
+
+pub atSign-cons : (e : List ℕ) → (length e ≡ 0 → ⊥) → (i : ℕ) → i ≡ indexOf 64 (take (length e - 1) (drop 1 e)) → (i + 1 ≡ atSign e) × (i + 1 ≤ length e)
+unfolding atSign
+atSign-cons [] h i q = absurd (h refl)
+atSign-cons (x ∷ t) h i q =
+    let k : i ≡ indexOf 64 t = q ∙ ap (indexOf 64) (take-rest (x ∷ t) 1) in
+    (ap (λ (n : ℕ). n + 1) k, omega (arith, indexOf-length 64 t))
 
 module _ (e : List ℕ) (at : ℕ) (is-at : at ≡ atSign e) where
   pub halves-none : at ≡ length e → halves e ≡ none
