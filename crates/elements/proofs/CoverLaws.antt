@@ -223,7 +223,7 @@ module _ (e : List ℕ) (a : ℕ) (small : a < 4294967296) where
   at-address = record {
     address = λ n. ap (eqb n) (sym (and-mask a 32 ∙ mod-eq-of-lt small));
     masked = λ n m. refl;
-    leading = λ fs below h l. leading-covers fs below a small (length fs) refl h l
+    leading = λ fs below h l. leading-covers fs below a small (length fs) refl h l;
   }
 
   pub net-covers : (r : NetRead) → r ≡ asNet (dottedNet e) → (x : Bool) → x ≡ netCovers r a → x ≡ holds (λ f. f a) (dottedTest e)

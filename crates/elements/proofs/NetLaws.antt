@@ -27,9 +27,9 @@ use Rattle.elements.specs.declared.net.Field.{Field}
 use Rattle.elements.specs.declared.net.Field.the-variants as L
 use Rattle.elements.specs.Code.{asNet, fieldWith, fieldOf, leadingNet, dottedFields, fieldsNet, pairNet, maskNet, wholeNet, dottedNet}
 use Rattle.elements.specs.Code.{asPrefix, prefixWith, prefixLength, bracketPrefix}
-use Rattle.elements.specs.Stub.{asV6}
-use Rattle.elements.specs.declared.stub.V6Read.{V6Read}
-use Rattle.elements.specs.declared.stub.V6Read.the-variants as V6
+use Rattle.address.specs.Code.{asV6}
+use Rattle.address.specs.declared.read.V6Read.{V6Read}
+use Rattle.address.specs.declared.read.V6Read.the-variants as V6
 use Rattle.elements.specs.declared.net.PrefixRead.{PrefixRead}
 use Rattle.elements.specs.declared.net.PrefixRead.the-variants as P
 use Rattle.address.proofs.ReadLaws.{readDecimal-le, asNumber-none, asNumber-some}
@@ -127,7 +127,7 @@ module _ (t : List ℕ) where
             small = readDecimal-le 255 v (take dot t) r;
             within = omega (arith, inside p);
             last = λ l. fields-last t dot refl (inside p) (at ∙ l) ∙ rw r;
-            more = λ n. fields-more t dot refl (inside p) (λ l. n (sym at ∙ l)) ∙ rw (r, at)
+            more = λ n. fields-more t dot refl (inside p) (λ l. n (sym at ∙ l)) ∙ rw (r, at);
           }
 
 -- ## Fields, one after the other
@@ -220,8 +220,8 @@ module _ (e : List ℕ) (at n count : ℕ) (inv : Fields e at n count) where
             within = omega (arith, inv .within);
             few = omega arith;
             small = p;
-            rest = inv .rest ∙ rw (g .more (λ k. l (omega (arith, inv .within, rw (length-drop at e) at k))), ← (drop-drop j at e)) (fieldsNet-cons count n v (dottedFields (drop j (drop at e))))
-          }
+            rest = inv .rest ∙ rw (g .more (λ k. l (omega (arith, inv .within, rw (length-drop at e) at k))), ← (drop-drop j at e)) (fieldsNet-cons count n v (dottedFields (drop j (drop at e))));
+          };
         }
       where
         three : count < 3 → count + 1 ≤ 3

@@ -32,8 +32,13 @@ not-word w e h = equalFold-lengths (bytes w) e (λ q. omega arith)
 pub wildcardOf-long : (e : List ℕ) → 8 < length e → W.Nothing ≡ wildcardOf e
 unfolding wildcardOf
 wildcardOf-long e h =
-    rw (not-word "ALL" e (omega arith), not-word "LOCAL" e (omega arith), not-word "KNOWN" e (omega arith),
-    not-word "UNKNOWN" e (omega arith), not-word "PARANOID" e (omega arith))
+    rw (
+      not-word "ALL" e (omega arith),
+      not-word "LOCAL" e (omega arith),
+      not-word "KNOWN" e (omega arith),
+      not-word "UNKNOWN" e (omega arith),
+      not-word "PARANOID" e (omega arith),
+    )
 
 module _ (e : List ℕ) (a : Bool) (is-a : a ≡ isWord "ALL" e) where
   pub wildcardOf-all : a ≡ true → W.All ≡ wildcardOf e
@@ -158,8 +163,15 @@ module _ (e : List ℕ) where
     unfolding any
     plain-fits h n r q =
         let p : 1 ≤ length e = omega arith in
-        q ∙ sym (rw (plain-is e, lastAmong-last "." e (length e - 1) k refl, ne-eqb (getD e (length e - 1) 0) 46 n, le-leb 1 (length e) p, le-leb (length e) 255 h,
-        Bool.and-true (all isNameByte e), Bool.and-true (all isNameByte e)))
+        q ∙ sym (rw (
+          plain-is e,
+          lastAmong-last "." e (length e - 1) k refl,
+          ne-eqb (getD e (length e - 1) 0) 46 n,
+          le-leb 1 (length e) p,
+          le-leb (length e) 255 h,
+          Bool.and-true (all isNameByte e),
+          Bool.and-true (all isNameByte e),
+        ))
 
   pub plain-same : (n : List ℕ) (x : Bool) → x ≡ equalFold e n → x ≡ true → (r : Bool) → r ≡ isSome (namePattern e) → r ≡ plainCovers e n
   unfolding plainCovers

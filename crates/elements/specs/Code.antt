@@ -17,8 +17,8 @@ use Rattle.text.specs.declared.NumberRead.{NumberRead}
 use Rattle.text.specs.declared.NumberRead.the-variants as T
 use Rattle.address.specs.declared.Addr.the-variants as A
 use Rattle.address.specs.Address.{samePrefix, addrCase, readV4, readV6}
-use Rattle.elements.specs.declared.stub.V6Read.{V6Read}
-use Rattle.elements.specs.declared.stub.V6Read.the-variants as V6
+use Rattle.address.specs.declared.read.V6Read.{V6Read}
+use Rattle.address.specs.declared.read.V6Read.the-variants as V6
 use Rattle.elements.specs.declared.Host.{Host}
 use Rattle.elements.specs.declared.pattern.Wildcard.{Wildcard}
 use Rattle.elements.specs.declared.pattern.Wildcard.the-variants as W

@@ -2,4 +2,3 @@ pub mod Request
 pub mod Pattern
 pub mod Element
 pub mod Code
-pub mod Stub

@@ -270,7 +270,13 @@ pub fn daemon_found(e: &[u8], daemon: &[u8], server: Host, server_name: &[u8]) -
 }
 
 // What the client element e finds of a request: the client's host, and the user before `@`.
-pub fn client_found(e: &[u8], client: Host, client_name: &[u8], user: User, user_name: &[u8]) -> Found
+pub fn client_found(
+    e: &[u8],
+    client: Host,
+    client_name: &[u8],
+    user: User,
+    user_name: &[u8],
+) -> Found
     ensures { λ r. ⌜ r ≡ lookAt (clientRequest (endpoint client (now («client_name» .entry))) user (now («user_name» .entry))) (clientElement (now (e .entry))) ⌝ }
 {
     let at = at_sign(e);
@@ -316,7 +322,15 @@ fn user_fits(user: User, name: &[u8]) -> bool
 }
 
 // Whether every field of a request is within its size.
-pub fn well_formed(daemon: &[u8], client: Host, client_name: &[u8], server: Host, server_name: &[u8], user: User, user_name: &[u8]) -> bool
+pub fn well_formed(
+    daemon: &[u8],
+    client: Host,
+    client_name: &[u8],
+    server: Host,
+    server_name: &[u8],
+    user: User,
+    user_name: &[u8],
+) -> bool
     ensures { λ r. ⌜ r ≡ wellFormed (requestOf (now (daemon .entry)) (endpoint client (now («client_name» .entry))) (endpoint server (now («server_name» .entry))) user (now («user_name» .entry))) ⌝ }
 {
     size_fits(daemon, 64)

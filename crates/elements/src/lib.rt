@@ -2,7 +2,6 @@
 pub mod element;
 pub mod net;
 pub mod pattern;
-pub mod stub;
 
 // What is known of a host's name; the bytes of a known one are lent beside it.
 pub enum Name {

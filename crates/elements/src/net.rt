@@ -1,8 +1,9 @@
 // Patterns of addresses: what the dotted and the bracketed ones write.
 //   read_dotted(e)  == the net and the mask of a pattern of IPv4 addresses
 //   read_bracket(e) == the address and the prefix length of a pattern of IPv6 addresses
-use super::stub::V6Read;
+use address::read::V6Read;
 use address::read::read_v4;
+use address::read::read_v6;
 use text::NumberRead;
 ghost use mathlib.Core.Path.{_≡_};
 ghost use mathlib.Core.Option.{some};
@@ -169,5 +170,5 @@ pub fn read_bracket(e: &[u8]) -> PrefixRead
         return PrefixRead::Nothing;
     }
     let after = i + 1;
-    pair_prefix(super::stub::read_v6(&s[..i]), read_length(&s[after..]))
+    pair_prefix(read_v6(&s[..i]), read_length(&s[after..]))
 }

@@ -9,7 +9,6 @@ use address::Addr;
 use address::prefix::in_net;
 use address::prefix::same_prefix_v6;
 use text::equal_fold;
-
 ghost use mathlib.Core.Path.{_≡_};
 ghost use mathlib.Core.Bool.{true, false, not, _&&_, _||_};
 ghost use mathlib.Core.List.{[]};

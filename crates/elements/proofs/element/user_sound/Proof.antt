@@ -1,84 +1,25 @@
+-- `elements::element::user_sound` meets its contract. By the wildcard that was read. Assumes nothing.
 use mathlib.Core.Path.{refl, sym, _∙_}
-use Rattle.elements.proofs.ElementLaws.{user-sound, user-named}
 use borrow.Author.Needs.{needs}
+use Rattle.elements.proofs.ElementLaws.{user-sound, user-named}
 use Rattle.elements.proofs.element.user_sound.Statement.{statement}
 use Rattle.elements.proofs.element.user_sound.Tie as tie
-use Rattle.elements.proofs.element.user_sound.Reads as reads
-use Rattle.elements.proofs.element.user_sound.Lts as lts
-use Rattle.elements.proofs.element.name_fits.Reads as name-fits-reads
-use Rattle.elements.proofs.pattern.read_wildcard.Reads as read-wildcard-reads
-
--- src/element.rt:126:9
-read-wildcard-requires : tie.Need-read-wildcard-requires
-read-wildcard-requires c κs = search needs
-
--- src/element.rt:128:30
-enum-told : tie.Need-enum-told
-enum-told c = search needs
-
--- src/element.rt:128:30
-name-fits-requires : tie.Need-name-fits-requires
-name-fits-requires c κs = search needs
-
--- src/element.rt:129:26
-enum-told-2 : tie.Need-enum-told-2
-enum-told-2 c = search needs
-
--- src/element.rt:130:28
-enum-told-3 : tie.Need-enum-told-3
-enum-told-3 c = search needs
-
--- src/element.rt:131:28
-enum-told-4 : tie.Need-enum-told-4
-enum-told-4 c = search needs
-
--- src/element.rt:132:30
-enum-told-5 : tie.Need-enum-told-5
-enum-told-5 c = search needs
-
--- src/element.rt:133:31
-enum-told-6 : tie.Need-enum-told-6
-enum-told-6 c = search needs
-
--- src/element.rt:123:1
-returns : tie.Need-returns
-returns c = user-sound _ _ _ (c .before .before .before .read-wildcard .ensures) (c .before .enum-told .given .1) _ (c .name-fits .ensures ∙ sym (user-named _))
-
--- src/element.rt:123:1
-returns-2 : tie.Need-returns-2
-returns-2 c = user-sound _ _ _ (c .before .before .read-wildcard .ensures) (c .enum-told2 .given .1) _ refl
-
--- src/element.rt:123:1
-returns-3 : tie.Need-returns-3
-returns-3 c = user-sound _ _ _ (c .before .before .read-wildcard .ensures) (c .enum-told3 .given .1) _ refl
-
--- src/element.rt:123:1
-returns-4 : tie.Need-returns-4
-returns-4 c = user-sound _ _ _ (c .before .before .read-wildcard .ensures) (c .enum-told4 .given .1) _ refl
-
--- src/element.rt:123:1
-returns-5 : tie.Need-returns-5
-returns-5 c = user-sound _ _ _ (c .before .before .read-wildcard .ensures) (c .enum-told5 .given .1) _ refl
-
--- src/element.rt:123:1
-returns-6 : tie.Need-returns-6
-returns-6 c = user-sound _ _ _ (c .before .before .read-wildcard .ensures) (c .enum-told6 .given .1) _ refl
 
 pub user-sound-spec : {M : Type 1} → statement M
 user-sound-spec =
     tie.close
     (tie.spec
-    read-wildcard-requires
-    enum-told
-    name-fits-requires
-    enum-told-2
-    enum-told-3
-    enum-told-4
-    enum-told-5
-    enum-told-6
-    returns
-    returns-2
-    returns-3
-    returns-4
-    returns-5
-    returns-6)
+    (λ c κs. search needs)
+    (λ c. search needs)
+    (λ c κs. search needs)
+    (λ c. search needs)
+    (λ c. search needs)
+    (λ c. search needs)
+    (λ c. search needs)
+    (λ c. search needs)
+    (λ c. user-sound _ _ _ (c .before .before .before .read-wildcard .ensures) (c .before .enum-told .given .1) _ (c .name-fits .ensures ∙ sym (user-named _)))
+    (λ c. user-sound _ _ _ (c .before .before .read-wildcard .ensures) (c .enum-told2 .given .1) _ refl)
+    (λ c. user-sound _ _ _ (c .before .before .read-wildcard .ensures) (c .enum-told3 .given .1) _ refl)
+    (λ c. user-sound _ _ _ (c .before .before .read-wildcard .ensures) (c .enum-told4 .given .1) _ refl)
+    (λ c. user-sound _ _ _ (c .before .before .read-wildcard .ensures) (c .enum-told5 .given .1) _ refl)
+    (λ c. user-sound _ _ _ (c .before .before .read-wildcard .ensures) (c .enum-told6 .given .1) _ refl))

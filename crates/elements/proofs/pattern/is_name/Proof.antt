@@ -2,8 +2,8 @@
 -- The measure is what is left of the length. Assumes nothing.
 use Prim.Native.Nat.{_≤_, _-_}
 use mathlib.Core.Path.{_≡_}
-use lib.ListN.{length, drop}
 use borrow.Author.Needs.{needs}
+use lib.ListN.{length, drop}
 use Rattle.text.specs.Basics.{all}
 use Rattle.elements.specs.Pattern.{isNameByte}
 use Rattle.elements.proofs.TestLaws.{all-stop, all-more, all-end}
