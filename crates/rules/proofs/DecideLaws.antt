@@ -1,0 +1,146 @@
+-- Laws of the decision by both files, shaped as the calls and tests of the code hand their facts over.
+-- Assumes nothing.
+use Prim.Native.Nat.{ℕ, _-_, _≤_, _<_}
+use native.Mathlib.Omega.{arith}
+use mathlib.Core.Bool.{Bool, true, false, not}
+use mathlib.Core.List.{List, []}
+use mathlib.Core.Option.{Option, none, some, Option·getD}
+use mathlib.Core.Path.{_≡_, refl, sym, ap, _∙_}
+use lib.Dec.{ltb}
+use lib.ListN.{length, take, drop, length-drop, drop-of-length-le}
+use lib.Seq.{take-nil, take-all, length-take-le}
+use Rattle.text.specs.Basics.{if_then_else_, _orElse_, given, first}
+use Rattle.section.specs.declared.Fault.the-variants as F
+use Rattle.section.specs.declared.Refusal.{Refusal}
+use Rattle.section.specs.Refusal.{refusal, placeless, refusing}
+use Rattle.section.specs.Section as S
+use Rattle.section.specs.Section.{part}
+use Rattle.lines.specs.Line.{lines}
+use Rattle.lines.proofs.RuleLaws.{part-to-end}
+use Rattle.elements.specs.Request.{Request, wellFormed}
+use Rattle.rules.specs.declared.Verdict.the-variants.{Granted, Denied}
+use Rattle.rules.specs.declared.File.the-variants.{Neither, Allow, Deny}
+use Rattle.rules.specs.declared.Answer.{Answer}
+use Rattle.rules.specs.declared.Ruling.{Ruling}
+use Rattle.rules.specs.declared.Ruling.the-variants as R
+use Rattle.rules.specs.declared.hosts_file.Pass.{Pass}
+use Rattle.rules.specs.declared.hosts_file.Pass.the-variants as P
+use Rattle.rules.specs.Check.{hostsFault}
+use Rattle.rules.specs.Search.{answer, lineAnswer, search, decide, rulingOf, commandBytes}
+use Rattle.rules.specs.FileCode.{hostsFaultAt, passOf, passText, onward, passBoth, refusingRequest, rulingBy}
+
+-- ## The pass over both files
+
+module _ (a : Answer) (q : Pass) where
+  pub kept-faulty : (g : Refusal) → q ≡ P.Faulty g → P.Faulty g ≡ onward (P.Matched a) q
+  kept-faulty g e = rw e
+
+  pub kept-unmatched : q ≡ P.Unmatched → P.Matched a ≡ onward (P.Matched a) q
+  kept-unmatched e = rw e
+
+  pub kept-matched : (c : Answer) → q ≡ P.Matched c → P.Matched a ≡ onward (P.Matched a) q
+  kept-matched c e = rw e
+
+module _ (r : Request) (allow deny : List ℕ) (p : Pass) (is-p : p ≡ passText 1 Granted Allow true r allow) where
+  pub both-faulty : (g : Refusal) → p ≡ P.Faulty g → P.Faulty g ≡ passBoth r allow deny
+  unfolding passBoth passText hostsFaultAt hostsFault
+  both-faulty g e = by (hostsFault S.allow allow) (first (lineAnswer Granted Allow r) (lines allow)) (sym is-p ∙ e)
+    where
+      by : (o : Option Refusal) (x : Option Answer) → passOf o x ≡ P.Faulty g
+          → P.Faulty g ≡ passOf (o orElse hostsFault S.deny deny) (x orElse first (lineAnswer Denied Deny r) (lines deny))
+      by (some h) x e = sym e
+      by none none e = let z : _≡_ {A = ℕ} 0 1 = cc in absurd (omega arith)
+      by none (some a) e = let z : _≡_ {A = ℕ} 0 1 = cc in absurd (omega arith)
+
+  pub both-unmatched : p ≡ P.Unmatched → (q : Pass) → q ≡ passText 2 Denied Deny true r deny → q ≡ passBoth r allow deny
+  unfolding passBoth passText hostsFaultAt hostsFault
+  both-unmatched e q is-q = is-q ∙ by (hostsFault S.allow allow) (first (lineAnswer Granted Allow r) (lines allow)) (sym is-p ∙ e)
+    where
+      by : (o : Option Refusal) (x : Option Answer) → passOf o x ≡ P.Unmatched
+          → passOf (hostsFault S.deny deny) (first (lineAnswer Denied Deny r) (lines deny))
+          ≡ passOf (o orElse hostsFault S.deny deny) (x orElse first (lineAnswer Denied Deny r) (lines deny))
+      by (some h) x e = let z : _≡_ {A = ℕ} 0 1 = cc in absurd (omega arith)
+      by none none e = refl
+      by none (some a) e = let z : _≡_ {A = ℕ} 0 1 = cc in absurd (omega arith)
+
+  pub both-matched : (a : Answer) → p ≡ P.Matched a → (q : Pass) → q ≡ passText 2 Denied Deny false r deny
+      → (s : Pass) → s ≡ onward (P.Matched a) q → s ≡ passBoth r allow deny
+  unfolding passBoth passText hostsFaultAt hostsFault
+  both-matched a e q is-q s is-s =
+      is-s ∙ rw is-q (by (hostsFault S.allow allow) (hostsFault S.deny deny) (first (lineAnswer Granted Allow r) (lines allow)) (sym is-p ∙ e))
+    where
+      by : (o d : Option Refusal) (x : Option Answer) → passOf o x ≡ P.Matched a
+          → onward (P.Matched a) (passOf d none) ≡ passOf (o orElse d) (x orElse first (lineAnswer Denied Deny r) (lines deny))
+      by (some h) d x e = let z : _≡_ {A = ℕ} 0 1 = cc in absurd (omega arith)
+      by none d none e = let z : _≡_ {A = ℕ} 0 1 = cc in absurd (omega arith)
+      by none none (some c) e = sym e
+      by none (some h) (some c) e = refl
+
+-- ## The ruling
+
+module _ (a : Answer) (b : Bool) where
+  pub request-sound : b ≡ true → R.Answered a ≡ refusingRequest b a
+  request-sound e = rw e
+
+  pub request-refused : b ≡ false → (g : Refusal) → g ≡ placeless F.BadRequest → R.Refused g ≡ refusingRequest b a
+  request-refused e g is-g = rw (e, is-g)
+
+module _ (p : Pass) (b : Bool) where
+  pub ruling-faulty : (g : Refusal) → p ≡ P.Faulty g → R.Refused g ≡ rulingBy p b
+  ruling-faulty g e = rw e
+
+  pub ruling-unmatched : p ≡ P.Unmatched → (q : Ruling) → q ≡ refusingRequest b (answer Granted Neither 0 (part 0 0)) → q ≡ rulingBy p b
+  ruling-unmatched e q is-q = rw e is-q
+
+  pub ruling-matched : (a : Answer) → p ≡ P.Matched a → (q : Ruling) → q ≡ refusingRequest b a → q ≡ rulingBy p b
+  ruling-matched a e q is-q = rw e is-q
+
+rulingBy-pass : (o : Option Refusal) (x : Option Answer) (b : Bool)
+    → rulingBy (passOf o x) b
+    ≡ rulingOf (refusing (o orElse given (not b) (placeless F.BadRequest)) (Option·getD x (answer Granted Neither 0 (part 0 0))))
+rulingBy-pass (some g) x b = refl
+rulingBy-pass none none true = refl
+rulingBy-pass none none false = refl
+rulingBy-pass none (some a) true = refl
+rulingBy-pass none (some a) false = refl
+
+module _ (allow deny : List ℕ) (r : Request) (x : Bool) (is-x : x ≡ ltb 16384 (length allow)) where
+  pub decide-allow : x ≡ true → (g : Refusal) → g ≡ refusal F.OverLimit 1 0 → R.Refused g ≡ rulingOf (decide allow deny r)
+  unfolding decide
+  decide-allow e g is-g = rw (← is-x, e, is-g)
+
+  module _ (within : x ≡ false) (y : Bool) (is-y : y ≡ ltb 16384 (length deny)) where
+    pub decide-deny : y ≡ true → (g : Refusal) → g ≡ refusal F.OverLimit 2 0 → R.Refused g ≡ rulingOf (decide allow deny r)
+    unfolding decide
+    decide-deny e g is-g = rw (← is-x, within, ← is-y, e, is-g)
+
+    pub decide-pass : y ≡ false → (p : Pass) → p ≡ passBoth r allow deny → (b : Bool) → b ≡ wellFormed r → (q : Ruling) → q ≡ rulingBy p b
+        → q ≡ rulingOf (decide allow deny r)
+    unfolding decide search passBoth
+    decide-pass e p is-p b is-b q is-q =
+        is-q
+        ∙ rw (is-p, is-b, ← is-x, within, ← is-y, e)
+        (rulingBy-pass (hostsFault S.allow allow orElse hostsFault S.deny deny)
+        (first (lineAnswer Granted Allow r) (lines allow) orElse first (lineAnswer Denied Deny r) (lines deny)) (wellFormed r))
+
+-- ## The part of a file
+
+module _ (s : List ℕ) (at n : ℕ) where
+  pub part-none : length s ≤ at → take 0 s ≡ take n (drop at s)
+  part-none h = rw (drop-of-length-le s h) (sym (take-nil n))
+
+  pub part-rest : length (take (length s - at) (drop at s)) ≤ n → take (length s - at) (drop at s) ≡ take n (drop at s)
+  part-rest h = rw (part-to-end s at) (sym (take-all n (drop at s) (rw (part-to-end s at) at h)))
+
+  pub part-front : take n (take (length s - at) (drop at s)) ≡ take n (drop at s)
+  part-front = rw (part-to-end s at)
+
+  pub part-length : n < length (take (length s - at) (drop at s)) → n ≡ length (take n (take (length s - at) (drop at s)))
+  part-length h = sym (length-take-le n (take (length s - at) (drop at s)) (omega arith))
+
+module _ (allow deny : List ℕ) (a : Answer) (t : List ℕ) where
+  pub command-allow : a .file ≡ Allow → t ≡ take (a .command .len) (drop (a .command .place) allow) → t ≡ commandBytes allow deny a
+  command-allow e is-t = rw e is-t
+
+  pub command-deny : a .file ≡ Deny → t ≡ take (a .command .len) (drop (a .command .place) deny) → t ≡ commandBytes allow deny a
+  command-deny e is-t = rw e is-t
