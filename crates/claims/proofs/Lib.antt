@@ -2,3 +2,4 @@ pub mod AddressClaims
 pub mod ExampleClaims
 pub mod SheetClaims
 pub mod UserClaims
+pub mod Claims

@@ -11,8 +11,8 @@ use mathlib.Core.Bool.{Bool, true, false, not, _&&_, _||_}
 use mathlib.Core.List.{List, [], _∷_}
 use mathlib.Core.Path.{_≡_}
 use lib.Dec.{eqb, ltb}
-use lib.ListN.{length, getD}
-use Rattle.text.specs.Basics.{if_then_else_, all}
+use lib.ListN.{getD}
+use Rattle.text.specs.Basics.{if_then_else_}
 use Rattle.text.specs.Text.{inRange}
 use Rattle.lines.specs.declared.line.LineSpan.{LineSpan}
 

@@ -2,20 +2,21 @@
 -- number is such a text.
 -- Assumes nothing.
 use Prim.Native.Nat.{ℕ, zero, suc, _+_, _-_, _*_, _/_, _%_, _^_, _<_, _≤_}
-use mathlib.Core.Bool.{Bool, true, false, _&&_, true≢false}
+use mathlib.Core.Bool.{Bool, true, false, _&&_}
 use mathlib.Core.List.{List, [], _∷_, _++_, map, map-append}
 use mathlib.Core.Option.{none, some}
-use mathlib.Core.Path.{_≡_, refl, sym, ap, ap₂, _∙_}
+use mathlib.Core.Path.{_≡_, refl, ap₂, _∙_}
 use native.Mathlib.Omega.{arith}
-use native.Mathlib.Nat.{div-eq-of-lt, lt-of-lt-of-le, mul-assoc, add-mul, mul-le-mul-right, pow-succ', one-mul, pow-le-pow-right, div-add-mod', div-lt-iff-lt-mul, le-div-iff-mul-le, mod-lt, mod-eq-of-lt, pow-zero, pow-suc, le-mul-of-pos-right}
-use borrow.Author.Tests.{ltb-true, ltb-false, lt-ltb, le-ltb, leb-true, le-leb, lt-leb, eq-eqb}
-use lib.Dec.{ltb, leb, eqb}
-use lib.ListN.{length, take, drop, getD, length-append, length-map, List·getD-append}
-use lib.Seq.{take-suc, take-all, take-length}
-use Rattle.text.specs.Basics.{if_then_else_, given, all}
+use native.Mathlib.Nat.{one-le-pow, lt-of-lt-of-le, mul-assoc, add-mul, mul-le-mul-right, pow-succ', one-mul, pow-le-pow-right, div-lt-iff-lt-mul, le-div-iff-mul-le, mod-eq-of-lt, pow-zero, pow-suc, le-mul-of-pos-right}
+use borrow.Author.Tests.{ltb-true, ltb-false, lt-ltb, le-ltb, leb-true, le-leb, lt-leb}
+use lib.Dec.{ltb, leb}
+use lib.ListN.{length, take, getD, length-append, length-map, List·getD-append}
+use lib.Seq.{take-suc, take-all}
+use Rattle.text.specs.Basics.{given, all}
 use Rattle.text.specs.Text.{equal, isDigit}
 use Rattle.text.specs.Number.{fromDigits, digitByte, digitValue, numeral, decimal, readDecimal}
-use Rattle.text.proofs.BasicLaws.{and-true, all-getD, all-append}
+use Rattle.text.proofs.BasicLaws.{and-true, all-getD}
+use Rattle.text.proofs.Numeral.{digitByte-cases, isDigit-digitByte, length-numeral, all-numeral}
 use Rattle.text.proofs.ScanLaws.{equal-refl, eq-of-equal}
 use Rattle.text.proofs.Digits.{fromDigits-append, div-last, mod-last}
 
@@ -153,43 +154,37 @@ value-lt t e h =
 
 -- ## The text of a number
 
-pub numeral-some : (b j n : ℕ) → 0 < length (numeral b (suc j) n)
-unfolding numeral
-numeral-some b j n = rw (length-append (if ltb n b then [] else numeral b j (n / b)) (digitByte (n % b) ∷ [])) (omega arith)
-
 numeral-some-pos : (b j n : ℕ) → 0 < n → n < b ^ j → 0 < length (numeral b j n)
 numeral-some-pos b zero n h lt = absurd (omega (arith, pow-zero b))
-numeral-some-pos b (suc j) n h lt = numeral-some b j n
+numeral-some-pos b (suc j) n h lt = length-numeral b (suc j) n .1 (omega arith)
 
-pub length-numeral-le : (b j n : ℕ) → length (numeral b j n) ≤ j
+length-numeral-suc : (b j n : ℕ) → b ≤ n → length (numeral b (suc j) n) ≡ length (numeral b j (n / b)) + 1
 unfolding numeral
-length-numeral-le b zero n = omega arith
-length-numeral-le b (suc j) n =
-    rw (length-append (if ltb n b then [] else numeral b j (n / b)) (digitByte (n % b) ∷ [])) (by (ltb n b) (length-numeral-le b j (n / b)))
-  where
-    by : (t : Bool) → length (numeral b j (n / b)) ≤ j → length (if t then [] else numeral b j (n / b)) + 1 ≤ suc j
-    by true h = omega arith
-    by false h = omega arith
+length-numeral-suc b j n h = rw (le-ltb n b h) (length-append (numeral b j (n / b)) (digitByte (n % b) ∷ []))
 
-pub isDigit-digitByte : (d : ℕ) → d < 10 → isDigit (digitByte d) ≡ true
-isDigit-digitByte d h = rw (lt-ltb d 10 h, le-leb 48 (48 + d) (omega arith), le-leb (48 + d) 57 (omega arith))
-
-pub numeral-digits : (j n : ℕ) → all isDigit (numeral 10 j n) ≡ true
-unfolding numeral all
-numeral-digits zero n = refl
-numeral-digits (suc j) n =
-    all-append isDigit (if ltb n 10 then [] else numeral 10 j (n / 10)) (digitByte (n % 10) ∷ []) (by (ltb n 10) (numeral-digits j (n / 10))) (rw (isDigit-digitByte (n % 10) (mod-lt n {m = 10} (omega arith))))
+-- a number below a power has at most as many digits, one from a power on has more
+pub length-numeral-below : (b j k n : ℕ) → 1 < b → n < b ^ suc k → length (numeral b j n) ≤ suc k
+unfolding numeral
+length-numeral-below b zero k n big lt = omega arith
+length-numeral-below b (suc j) k n big lt = by (ltb n b) refl k lt (λ (k : ℕ) (lt : n / b < b ^ suc k). length-numeral-below b j k (n / b) big lt)
   where
-    by : (t : Bool) → all isDigit (numeral 10 j (n / 10)) ≡ true → all isDigit (if t then [] else numeral 10 j (n / 10)) ≡ true
-    by true h = refl
-    by false h = h
+    by : (t : Bool) → ltb n b ≡ t → (k : ℕ) → n < b ^ suc k → ((k : ℕ) → n / b < b ^ suc k → length (numeral b j (n / b)) ≤ suc k) → length (numeral b (suc j) n) ≤ suc k
+    by true e k lt ih = let l : n < b = ltb-true n b e in rw (numeral-digit b j n l) (omega arith)
+    by false e zero lt ih = let l : n < 1 * b = rw (pow-suc b 0, pow-zero b) at lt in absurd (omega (arith, ltb-false n b e))
+    by false e (suc k) lt ih =
+        omega (arith, length-numeral-suc b j n (ltb-false n b e), ih k (div-lt-iff-lt-mul {k = b} {x = n} {y = b ^ suc k} (omega arith) .1 (rw (pow-suc b (suc k)) at lt)))
+
+pub length-numeral-above : (b j k n : ℕ) → 1 < b → b ^ k ≤ n → k < j → k < length (numeral b j n)
+length-numeral-above b zero k n big le h = absurd (omega arith)
+length-numeral-above b (suc j) zero n big le h = length-numeral b (suc j) n .1 (omega arith)
+length-numeral-above b (suc j) (suc k) n big le h =
+    let l : b ^ k * b ≤ n = rw (pow-suc b k) at le in
+    let m : b ≤ b ^ k * b = rw (one-mul b) at (mul-le-mul-right b (one-le-pow k b (omega arith))) in
+    let ih : k < length (numeral b j (n / b)) = length-numeral-above b j k (n / b) big (le-div-iff-mul-le {k = b} {x = b ^ k} {y = n} (omega arith) .1 l) (omega arith) in
+    omega (arith, length-numeral-suc b j n (omega arith))
 
 digitByte-pos : (d : ℕ) → 0 < d → digitByte d ≡ 48 → ⊥
-digitByte-pos d h = by (ltb d 10)
-  where
-    by : (t : Bool) → (if t then 48 + d else 97 + (d - 10)) ≡ 48 → ⊥
-    by true e = omega arith
-    by false e = omega arith
+digitByte-pos d h = digitByte-cases (λ (c : ℕ). c ≡ 48 → ⊥) d (λ l e. omega arith) (λ l e. omega arith)
 
 -- the first digit of a number that is not 0 is not 0
 pub numeral-lead : (b j n : ℕ) → 1 < b → 0 < n → n < b ^ j → getD (numeral b j n) 0 0 ≡ 48 → ⊥
@@ -211,27 +206,7 @@ decimal-lead zero lt h = absurd (omega (arith, h))
 decimal-lead (suc n) lt h = numeral-lead 10 10 (suc n) (omega arith) (omega arith) lt
 
 pub canonical-decimal : (n : ℕ) → n < 10 ^ 10 → Canonical (decimal n)
-canonical-decimal n lt = record { some = numeral-some 10 9 n; digits = numeral-digits 10 n; lead = decimal-lead n lt }
-
-digitValue-digitByte : (d : ℕ) → d < 10 → digitValue (digitByte d) ≡ d
-digitValue-digitByte d h = digitValue-digit (digitByte d) (isDigit-digitByte d h) ∙ rw (lt-ltb d 10 h) (omega arith)
-
-pub value-numeral : (j n : ℕ) → n < 10 ^ j → value (numeral 10 j n) ≡ n
-unfolding numeral fromDigits
-value-numeral zero n lt = omega (arith, pow-zero 10)
-value-numeral (suc j) n lt =
-    let low : n / 10 < 10 ^ j = div-lt-iff-lt-mul {k = 10} {x = n} {y = 10 ^ j} (omega arith) .1 (rw (pow-suc 10 j) at lt) in
-    let u : List ℕ = if ltb n 10 then [] else numeral 10 j (n / 10) in
-    rw (
-      map-append digitValue u (digitByte (n % 10) ∷ []),
-      fromDigits-append 10 0 (map digitValue u) (map digitValue (digitByte (n % 10) ∷ [])),
-      digitValue-digitByte (n % 10) (mod-lt n {m = 10} (omega arith)),
-      by (ltb n 10) refl (value-numeral j (n / 10) low),
-    ) (div-add-mod' n 10)
-  where
-    by : (t : Bool) → ltb n 10 ≡ t → value (numeral 10 j (n / 10)) ≡ n / 10 → value (if t then [] else numeral 10 j (n / 10)) ≡ n / 10
-    by true e h = sym (div-eq-of-lt (ltb-true n 10 e))
-    by false e h = h
+canonical-decimal n lt = record { some = length-numeral 10 10 n .1 (omega arith); digits = all-numeral isDigit 10 (omega arith) isDigit-digitByte 10 n; lead = decimal-lead n lt }
 
 -- ## Reading
 
@@ -253,8 +228,3 @@ module _ (m : ℕ) (t : List ℕ) where
           let p : (leb (value t) m ≡ true) × (equal t (decimal (value t)) ≡ true) = and-true (leb (value t) m) (equal t (decimal (value t))) e in
           absurd (n (rw (eq-of-equal t (decimal (value t)) (p .1)) (canonical-decimal (value t) (omega (arith, leb-true (value t) m (p .0))))))
       by false e = refl
-
-pub readDecimal-decimal : (m n : ℕ) → n ≤ m → m < 10 ^ 10 → readDecimal m (decimal n) ≡ some n
-readDecimal-decimal m n h lt =
-    let e : value (decimal n) ≡ n = value-numeral 10 n (omega arith) in
-    readDecimal-some m (decimal n) (canonical-decimal n (omega arith)) (rw e h) lt ∙ ap some e

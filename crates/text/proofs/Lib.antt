@@ -5,3 +5,5 @@ pub mod Canonical
 pub mod Reading
 pub mod Numeral
 pub mod Intercalate
+pub mod PasteLaws
+pub mod Writing

@@ -1,10 +1,10 @@
 -- Laws of comparing texts, of the first place of a byte, and of parting a text there.
 -- Assumes nothing.
-use Prim.Native.Nat.{ℕ, zero, suc, _+_, _-_, _<_, _≤_}
+use Prim.Native.Nat.{ℕ, suc, _+_, _-_, _<_, _≤_}
 use Prim.Native.String.{String}
 use mathlib.Core.Bool.{Bool, true, false, not, _&&_, _||_, true≢false}
 use mathlib.Core.List.{List, [], _∷_, map}
-use mathlib.Core.Option.{Option, none, some}
+use mathlib.Core.Option.{none, some}
 use mathlib.Core.Path.{_≡_, refl, sym, ap, ap₂, _∙_}
 use native.Mathlib.Numerals.{add-one}
 use native.Mathlib.Omega.{arith}
@@ -12,7 +12,7 @@ use borrow.Author.Tests.{eqb-true, eqb-false, eq-eqb, ne-eqb}
 use lib.Dec.{eqb}
 use lib.ListN.{length, take, drop, getD, length-drop, length-map, drop-of-length-le}
 use lib.Seq.{drop-cons, take-all}
-use Rattle.text.specs.Basics.{if_then_else_, any}
+use Rattle.text.specs.Basics.{any}
 use Rattle.text.specs.Text.{bytes, among, equal, equalFold, lower, splitOnce, split}
 use Rattle.text.specs.Scan.{spanLen, indexOf}
 use Rattle.text.proofs.BasicLaws.{and-true}

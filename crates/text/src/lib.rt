@@ -6,8 +6,8 @@ ghost use lib.Dec.{ltb};
 ghost use lib.ListN.{length, drop};
 ghost use Rattle.text.specs.Text.{isDigit, isLetter};
 ghost use Rattle.text.specs.Text.{lower as lowerOf, equal as equalTo, equalFold};
-ghost use Rattle.text.specs.Scan.{indexOf, asNumber};
-ghost use Rattle.text.specs.Number.{readDecimal};
+ghost use Rattle.text.specs.Scan.{indexOf, asNumber, putAt};
+ghost use Rattle.text.specs.Number.{decimal, readDecimal};
 
 // A number that was read, or none.
 pub enum NumberRead {
@@ -130,4 +130,49 @@ pub fn read_decimal(s: &[u8], max: u32) -> NumberRead
         i += 1;
     }
     NumberRead::Value(n as u32)
+}
+
+// Writes s into out from at on, and answers the place after it.
+pub fn put(out: &mut [u8], at: usize, s: &[u8]) -> usize
+    requires { ⌜ at + length (now s) ≤ length (now out) ⌝ }
+    ensures next { λ r. ⌜ r ≡ at + length (now (s .entry)) ⌝ }
+    ensures written { λ _. ⌜ now (out .exit) ≡ putAt (now (out .entry)) at (now (s .entry)) ⌝ }
+{
+    let mut j = 0;
+    while j < s.len() {
+        out[at + j] = s[j];
+        j += 1;
+    }
+    at + j
+}
+
+// How many digits n has in decimal.
+pub fn decimal_len(n: u32) -> usize
+    ensures { λ r. ⌜ r ≡ length (decimal n) ⌝ }
+{
+    let m = n as u64;
+    let mut power: u64 = 10;
+    let mut k = 1;
+    while power <= m {
+        power = power * 10;
+        k += 1;
+    }
+    k
+}
+
+// Writes n in decimal into out from at on, its last digit first, and answers the place after it.
+pub fn put_decimal(out: &mut [u8], at: usize, n: u32) -> usize
+    requires { ⌜ at + length (decimal n) ≤ length (now out) ⌝ }
+    ensures next { λ r. ⌜ r ≡ at + length (decimal n) ⌝ }
+    ensures written { λ _. ⌜ now (out .exit) ≡ putAt (now (out .entry)) at (decimal n) ⌝ }
+{
+    let k = decimal_len(n);
+    let mut m = n;
+    let mut j = k;
+    while 0 < j {
+        j -= 1;
+        out[at + j] = 48 + (m % 10) as u8;
+        m = m / 10;
+    }
+    at + k
 }

@@ -8,24 +8,6 @@ use borrow.Author.Needs.{needs}
 use Rattle.text.proofs.ends_with_fold.Statement.{statement}
 use Rattle.text.proofs.ends_with_fold.Tie as tie
 
-returns : tie.Need-returns
-returns c = rw (le-ltb _ _ (c .if1 .taken))
-
-sub-at : tie.Need-sub-at
-sub-at c = search needs
-
-sub-equal-fold : tie.Need-sub-equal-fold
-sub-equal-fold c = search needs
-
-part-equal-fold-start : tie.Need-part-equal-fold-start
-part-equal-fold-start c = search needs
-
-part-equal-fold-end : tie.Need-part-equal-fold-end
-part-equal-fold-end c = search needs
-
-equal-fold-requires : tie.Need-equal-fold-requires
-equal-fold-requires c κs = search needs
-
 returns-2 : tie.Need-returns-2
 returns-2 c =
     let a = c .before .before .before .before .before .args in
@@ -35,10 +17,10 @@ pub ends-with-fold-spec : {M : Type 1} → statement M
 ends-with-fold-spec =
     tie.close
     (tie.spec
-    returns
-    sub-at
-    sub-equal-fold
-    part-equal-fold-start
-    part-equal-fold-end
-    equal-fold-requires
+    (λ c. rw (le-ltb _ _ (c .if1 .taken)))
+    (λ c. search needs)
+    (λ c. search needs)
+    (λ c. search needs)
+    (λ c. search needs)
+    (λ c κs. search needs)
     returns-2)
