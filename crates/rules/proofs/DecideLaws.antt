@@ -3,20 +3,20 @@
 use Prim.Native.Nat.{ℕ, _-_, _≤_, _<_}
 use native.Mathlib.Omega.{arith}
 use mathlib.Core.Bool.{Bool, true, false, not}
-use mathlib.Core.List.{List, []}
+use mathlib.Core.List.{List}
 use mathlib.Core.Option.{Option, none, some, Option·getD}
-use mathlib.Core.Path.{_≡_, refl, sym, ap, _∙_}
+use mathlib.Core.Path.{_≡_, refl, sym, _∙_}
 use lib.Dec.{ltb}
-use lib.ListN.{length, take, drop, length-drop, drop-of-length-le}
+use lib.ListN.{length, take, drop, drop-of-length-le}
 use lib.Seq.{take-nil, take-all, length-take-le}
-use Rattle.text.specs.Basics.{if_then_else_, _orElse_, given, first}
+use Rattle.text.specs.Basics.{_orElse_, given, first}
+use Rattle.text.proofs.ScanLaws.{take-rest}
 use Rattle.section.specs.declared.Fault.the-variants as F
 use Rattle.section.specs.declared.Refusal.{Refusal}
 use Rattle.section.specs.Refusal.{refusal, placeless, refusing}
 use Rattle.section.specs.Section as S
 use Rattle.section.specs.Section.{part}
 use Rattle.lines.specs.Line.{lines}
-use Rattle.lines.proofs.RuleLaws.{part-to-end}
 use Rattle.elements.specs.Request.{Request, wellFormed}
 use Rattle.rules.specs.declared.Verdict.the-variants.{Granted, Denied}
 use Rattle.rules.specs.declared.File.the-variants.{Neither, Allow, Deny}
@@ -130,10 +130,10 @@ module _ (s : List ℕ) (at n : ℕ) where
   part-none h = rw (drop-of-length-le s h) (sym (take-nil n))
 
   pub part-rest : length (take (length s - at) (drop at s)) ≤ n → take (length s - at) (drop at s) ≡ take n (drop at s)
-  part-rest h = rw (part-to-end s at) (sym (take-all n (drop at s) (rw (part-to-end s at) at h)))
+  part-rest h = rw (take-rest s at) (sym (take-all n (drop at s) (rw (take-rest s at) at h)))
 
   pub part-front : take n (take (length s - at) (drop at s)) ≡ take n (drop at s)
-  part-front = rw (part-to-end s at)
+  part-front = rw (take-rest s at)
 
   pub part-length : n < length (take (length s - at) (drop at s)) → n ≡ length (take n (take (length s - at) (drop at s)))
   part-length h = sym (length-take-le n (take (length s - at) (drop at s)) (omega arith))

@@ -2,33 +2,32 @@
 -- A line is read by its shape, its shape and its rule tell what it gives, and the loop goes from line to line.
 -- Assumes nothing.
 use Prim.Native.Nat.{ℕ, _+_, _-_, _*_, _≤_, _<_}
-use native.Mathlib.Nat.{add-sub-cancel-left}
+use native.Mathlib.Nat.{sub-zero}
 use native.Mathlib.Omega.{arith}
 use mathlib.Core.Bool.{Bool, true, false, not, _&&_, _||_, true≢false}
 use mathlib.Core.List.{List, [], _∷_, _++_}
 use mathlib.Core.Option.{Option, none, some}
 use mathlib.Core.Path.{_≡_, refl, sym, ap, subst, _∙_}
-use borrow.Author.Tests.{eqb-true, ltb-false, lt-ltb, le-ltb, not-true, not-false}
+use borrow.Author.Tests.{eqb-true, ltb-true, ltb-false, lt-ltb, le-ltb, not-false}
 use lib.Dec.{eqb, ltb}
-use lib.ListN.{length, take, drop, length-drop}
-use lib.Seq.{length-take-le, take-at, drop-drop}
-use Rattle.text.specs.Basics.{if_then_else_, _>>=_, _orElse_, isEmpty, any, all, first}
-use Rattle.text.specs.Text.{among, firstAmong, split, inRange}
+use lib.ListN.{length, take, drop, length-drop, drop-of-length-le}
+use lib.Seq.{take-at, drop-nil}
+use Rattle.text.specs.Basics.{if_then_else_, _>>=_, _orElse_, all, first}
+use Rattle.text.specs.Text.{among, firstAmong, split}
 use Rattle.text.proofs.BasicLaws.{and-true, or-false}
 use Rattle.section.specs.declared.Fault.{Fault}
 use Rattle.section.specs.declared.Fault.the-variants as F
 use Rattle.section.specs.declared.Part.{Part}
 use Rattle.section.specs.declared.Refusal.{Refusal}
 use Rattle.section.specs.Refusal.{lowest, refusal, atPlace}
-use Rattle.section.specs.Section.{part}
+use Rattle.section.specs.Section.{Section, part}
 use Rattle.lines.specs.declared.line.LineSpan.{LineSpan}
 use Rattle.lines.specs.Line.{Line, line, join, logicalLines, lines, hasBadByte, isComment, isBlank}
 use Rattle.lines.specs.Rule.{Rule, parseRule}
-use Rattle.lines.specs.Command.{skipBlanks, trimmed}
-use Rattle.lines.specs.Parts.{separatorIndex}
+use Rattle.lines.specs.Parts.{separatorIndex, afterSeparator}
 use Rattle.lines.specs.Scan.{spanAt, scanLine, isLineByte, SpanBounds}
-use Rattle.lines.proofs.LineLaws.{isNoNewline, scanned-bounds, length-join-line, hasBadByte-line, line-noNewline, logicalLines-drop, logicalLines-end}
-use Rattle.lines.proofs.RuleLaws.{rule, parseRule-none, parseRule-short, parseRule-long, part-to-end}
+use Rattle.lines.proofs.LineLaws.{isNoNewline, scanLine-bounds, line-joined, length-line, hasBadByte-line, line-noNewline, logicalLines-drop, logicalLines-end}
+use Rattle.lines.proofs.RuleLaws.{parseRule-none, parseRule-parts}
 use Rattle.elements.specs.declared.Found.{Found}
 use Rattle.elements.specs.declared.Found.the-variants.{No, Yes, Ask}
 use Rattle.elements.specs.Request.{Request}
@@ -45,11 +44,11 @@ use Rattle.rules.specs.declared.hosts_file.Shape.the-variants as Sh
 use Rattle.rules.specs.declared.hosts_file.Told.{Told}
 use Rattle.rules.specs.declared.hosts_file.Told.the-variants as T
 use Rattle.rules.specs.declared.hosts_file.Step.{Step}
-use Rattle.rules.specs.Check.{ruleFault, lineFault}
-use Rattle.rules.specs.Search.{answer, ruleFound, rawCommand, ruleAnswer, lineAnswer}
+use Rattle.rules.specs.Check.{ruleFault, lineFault, hostsFault}
+use Rattle.rules.specs.Search.{answer, ruleFound, ruleAnswer, lineAnswer}
 use Rattle.rules.specs.Code.{NoNewline, checkedOf, foundBy, lineFound}
 use Rattle.rules.specs.FileCode.{faultAt, hostsFaultAt, passOf, passLine, passText, shapeFault, shapeOf, lineShape, toldOf, ruleTold, lineTold}
-use Rattle.rules.specs.FileCode.{commandPart, ScannedLine, stepOf, onward, passBoth, rulingBy}
+use Rattle.rules.specs.FileCode.{commandPart, ScannedLine, stepOf, onward}
 use Rattle.rules.proofs.JoinLaws.{ruleTold-join, isEmpty-trimmed}
 
 -- ## The shape of a line
@@ -196,33 +195,29 @@ module _ (s o d : List ℕ) (n : ℕ) (is-n : n ≡ length (join s)) (is-o : o �
 
 -- ## The raw command
 
--- what follows the byte at a, as the code takes it
-abbrev after : List ℕ → ℕ → List ℕ
-after s a = take (length s - (a + 1)) (drop (a + 1) s)
+module _ (at : ℕ) (s : List ℕ) (a : ℕ) (is-a : a ≡ separatorIndex false s) (t : List ℕ) (is-t : t ≡ afterSeparator a s)
+    (d : ℕ) (is-d : d ≡ separatorIndex false t) (c : List ℕ) (is-c : c ≡ afterSeparator d t)
+  where
+    pub command-within : length c ≤ length s
+    unfolding afterSeparator
+    command-within = rw (is-c, length-drop, is-t, length-drop) (omega arith)
 
-module _ (at : ℕ) (s : List ℕ) (a : ℕ) (is-a : a ≡ separatorIndex false s) where
-  pub command-none : length s ≤ a → part 0 0 ≡ commandPart at s (parseRule s)
-  unfolding commandPart
-  command-none l = rw (parseRule-none s a is-a l)
+    module _ (x : Bool) (is-x : x ≡ all (among " \t") (join c)) where
+      command-is : (b : Bool) → ltb a (length s) ≡ b → part (at + (length s - length c)) (if x then 0 else length c) ≡ commandPart at s (parseRule s)
+      unfolding commandPart afterSeparator join all
+      command-is true e =
+          rw (is-x, parseRule-parts s a is-a (ltb-true a (length s) e) t is-t d is-d c is-c, isEmpty-trimmed c)
+      command-is false e =
+          let k : length s ≤ a = ltb-false a (length s) e in
+          let l : length s ≤ a + 1 = omega arith in
+          let n : c ≡ [] = is-c ∙ rw (is-t, drop-of-length-le s l) (drop-nil (d + 1)) in
+          rw (parseRule-none s a is-a k, is-x, n, sub-zero)
 
-  module _ (l : a < length s) (d : ℕ) (is-d : d ≡ separatorIndex false (after s a)) where
-    pub command-short : length (after s a) ≤ d → part (at + length s) 0 ≡ commandPart at s (parseRule s)
-    unfolding commandPart trimmed skipBlanks join
-    command-short k =
-        let z : length s ≡ length s - 0 = omega arith in
-        rw (parseRule-short s a is-a l (after s a) (part-to-end s (a + 1)) d is-d k) (ap (λ (n : ℕ). part (at + n) 0) z)
+      pub command-blank : x ≡ true → part (at + (length s - length c)) 0 ≡ commandPart at s (parseRule s)
+      command-blank e = ap (λ (b : Bool). part (at + (length s - length c)) (if b then 0 else length c)) (sym e) ∙ command-is (ltb a (length s)) refl
 
-    module _ (k : d < length (after s a)) (x : Bool) (is-x : x ≡ all (among " \t") (join (after (after s a) d))) where
-      command-long : part (at + (length s - length (after (after s a) d))) (if x then 0 else length (after (after s a) d)) ≡ commandPart at s (parseRule s)
-      unfolding commandPart
-      command-long =
-          rw (is-x, parseRule-long s a is-a l (after s a) (part-to-end s (a + 1)) d is-d k, isEmpty-trimmed (drop (d + 1) (after s a)), part-to-end (after s a) (d + 1))
-
-      pub command-blank : x ≡ true → part (at + (length s - length (after (after s a) d))) 0 ≡ commandPart at s (parseRule s)
-      command-blank e = ap (λ (c : Bool). part (at + (length s - length (after (after s a) d))) (if c then 0 else length (after (after s a) d))) (sym e) ∙ command-long
-
-      pub command-full : x ≡ false → part (at + (length s - length (after (after s a) d))) (length (after (after s a) d)) ≡ commandPart at s (parseRule s)
-      command-full e = ap (λ (c : Bool). part (at + (length s - length (after (after s a) d))) (if c then 0 else length (after (after s a) d))) (sym e) ∙ command-long
+      pub command-full : x ≡ false → part (at + (length s - length c)) (length c) ≡ commandPart at s (parseRule s)
+      command-full e = ap (λ (b : Bool). part (at + (length s - length c)) (if b then 0 else length c)) (sym e) ∙ command-is (ltb a (length s)) refl
 
 -- ## What a line gives
 
@@ -273,22 +268,18 @@ module _ (o : ℕ) (v : Verdict) (f : File) (b : Bool) (r : Request) (n at : ℕ
 -- ## The step over a line
 
 module _ (t : List ℕ) (i : ℕ) (l : LineSpan) (is-l : l ≡ spanAt i (scanLine (drop i t))) where
-  line-length : i ≤ length t → length (take (l .end - i) (drop i t)) ≡ l .end - i
-  line-length h = length-take-le (l .end - i) (drop i t) (omega (arith, scanned-bounds t i l h is-l .within, length-drop i t))
-
-  pub scanned-line : i < length t → ScannedLine (take (l .end - i) (drop i t)) l
-  scanned-line h =
-      let k : i ≤ length t = omega arith in
-      record {
-        lengths = length-join-line t i l is-l k ∙ sym (line-length k);
-        bytes = hasBadByte-line t i l is-l;
-        plain = line-noNewline t i l is-l;
-      }
+  pub scanned-line : ScannedLine (take (l .end - i) (drop i t)) l
+  scanned-line = record {
+    lengths = sym (line-joined t i l is-l .lengths);
+    bytes = hasBadByte-line t i l is-l;
+    plain = line-noNewline t i l is-l;
+  }
 
   pub line-within : (m : ℕ) → i < length t → length t < m → i + length (take (l .end - i) (drop i t)) < m
   line-within m h k =
       let w : i ≤ length t = omega arith in
-      omega (arith, line-length w, scanned-bounds t i l w is-l .within, scanned-bounds t i l w is-l .from)
+      let b : SpanBounds (length t) i l = scanLine-bounds t i l w is-l in
+      omega (arith, length-line t i l is-l w, b .within, b .from)
 
   pub step-is : (o : ℕ) (v : Verdict) (f : File) (b : Bool) (r : Request) (n : ℕ) (p : Pass)
       → p ≡ passLine o v f b r (line n i (take (l .end - i) (drop i t)) (l .ended))
@@ -391,7 +382,7 @@ module _ (o : ℕ) (v : Verdict) (f : File) (r : Request) where
 
       bounds : SpanBounds (length t) i scanned
       unfolding scanned
-      bounds = scanned-bounds t i scanned (inv .within) refl
+      bounds = scanLine-bounds t i scanned (inv .within) refl
 
       all-lines : logicalLines n i (split "\n" (drop i t)) ≡ this ∷ those
       unfolding scanned this those
@@ -442,3 +433,13 @@ module _ (o : ℕ) (v : Verdict) (f : File) (r : Request) where
             fresh = λ k. absurd (true≢false (sym k));
             rest = inv .rest ∙ rw (inv .fresh (m .0), all-lines, m .1) (onward-unmatched (onward (P.Matched a) (passLines false those)));
           }
+
+-- ## The checks alone
+
+pub pass-unsought : (o : ℕ) (v : Verdict) (f : File) (r : Request) (t : List ℕ) (p : Pass) → p ≡ passText o v f false r t → p ≡ passOf (hostsFaultAt o t) none
+unfolding passText
+pass-unsought o v f r t p is-p = is-p
+
+pub hostsFaultAt-order : (s : Section) (t : List ℕ) → hostsFaultAt (s .order) t ≡ hostsFault s t
+unfolding hostsFaultAt hostsFault
+hostsFaultAt-order s t = refl

@@ -3,13 +3,12 @@
 -- so that the parts of a joined line are joined already.
 -- Assumes nothing.
 use Prim.Native.Nat.{ℕ}
-use mathlib.Core.Bool.{Bool, true, false, not, _&&_, _||_, true≢false}
+use mathlib.Core.Bool.{Bool, true, false, _&&_, true≢false}
 use mathlib.Core.List.{List, [], _∷_, _++_, reverse, reverseAux, reverse-append}
 use mathlib.Core.Option.{Option, none, some, Option·getD}
 use mathlib.Core.Path.{_≡_, refl, sym, ap, _∙_}
 use borrow.Author.Tests.{eqb-true}
-use lib.Dec.{eqb}
-use Rattle.text.specs.Basics.{if_then_else_, _>>=_, isEmpty, any, all}
+use Rattle.text.specs.Basics.{if_then_else_, isEmpty, any, all}
 use Rattle.text.specs.Text.{among, consFirst}
 use Rattle.text.proofs.BasicLaws.{and-true}
 use Rattle.lines.specs.Line.{join}

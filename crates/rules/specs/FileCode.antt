@@ -119,7 +119,7 @@ unfoldable pub lineTold : Bool → Request → Line → Told
 lineTold search r l = toldOf (lineFault l) (if isComment l || isBlank l then No else if search then lineFound r (l .raw) else No)
 
 unfoldable pub commandPart : ℕ → List ℕ → Option Rule → Part
-commandPart at s none = part 0 0
+commandPart at s none = part (at + length s) 0
 commandPart at s (some u) = rawCommand (line 0 at s true) u
 
 pub record ScannedLine (s : List ℕ) (l : LineSpan) : Type 0 where

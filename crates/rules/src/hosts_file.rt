@@ -1,4 +1,5 @@
 // One pass over an allow or deny text: its lowest fault, and its first matching rule.
+//   check_file(text, order) == the refusal of a text, if it has one
 //   pass_file(text, ..) == the refusal of a text, else its first match, which is looked for only if search holds
 ghost use mathlib.Core.Path.{_≡_};
 ghost use Prim.Native.Nat.{_+_, _≤_, _<_};
@@ -8,15 +9,20 @@ ghost use Rattle.lines.specs.Rule.{parseRule};
 ghost use Rattle.lines.specs.Scan.{spanAt, scanLine};
 ghost use Rattle.elements.specs.Request.{requestOf, endpoint};
 ghost use Rattle.rules.specs.Code.{NoNewline};
-ghost use Rattle.rules.specs.FileCode.{ScannedLine, lineShape, ruleTold, lineTold, commandPart, passLine, stepOf, passText};
+ghost use Rattle.rules.specs.FileCode.{ScannedLine, lineShape, ruleTold, lineTold, commandPart, passLine, stepOf, passText, passOf, hostsFaultAt};
+ghost use mathlib.Core.Option.{none};
 use super::Answer;
 use super::Checked;
 use super::File;
 use super::Verdict;
+use address::Addr;
 use elements::Found;
 use elements::Host;
+use elements::Name;
 use elements::User;
+use lines::line;
 use lines::line::LineSpan;
+use lines::rule;
 use section::Fault;
 use section::Part;
 use section::Refusal;
@@ -56,7 +62,7 @@ fn shape_of(raw: &[u8], span: LineSpan) -> Shape
     if !span.ended {
         return Shape::Faulty(Fault::Unended);
     }
-    let comment = lines::line::is_comment(raw);
+    let comment = line::is_comment(raw);
     if !comment & !span.clean {
         return Shape::Faulty(Fault::BadByte);
     }
@@ -66,7 +72,7 @@ fn shape_of(raw: &[u8], span: LineSpan) -> Shape
     if comment {
         return Shape::Passed;
     }
-    if lines::line::is_blank(raw) {
+    if line::is_blank(raw) {
         Shape::Passed
     } else {
         Shape::Ruled
@@ -133,7 +139,7 @@ fn joined_told(
         (now (raw .entry)) ⌝ }
 {
     let mut joined = [0u8; 2048];
-    let n = lines::line::join_into(&mut joined, raw);
+    let n = line::join_into(&mut joined, raw);
     rule_told(
         &joined[..n],
         search,
@@ -205,23 +211,12 @@ fn command_of(raw: &[u8], at: usize) -> Part
     requires { ⌜ at + length (now raw) < 18446744073709551616 ⌝ }
     ensures { λ r. ⌜ r ≡ commandPart at (now (raw .entry)) (parseRule (now (raw .entry))) ⌝ }
 {
-    let a = lines::rule::separator(raw);
-    if raw.len() <= a {
-        return Part { place: 0, len: 0 };
-    }
-    let b = a + 1;
-    let rest = &raw[b..];
-    let d = lines::rule::separator(rest);
-    if rest.len() <= d {
-        return Part {
-            place: at + raw.len(),
-            len: 0,
-        };
-    }
-    let e = d + 1;
-    let command = &rest[e..];
+    let a = rule::separator(raw);
+    let rest = rule::after_separator(raw, a);
+    let b = rule::separator(rest);
+    let command = rule::after_separator(rest, b);
     let place = at + (raw.len() - command.len());
-    if lines::line::is_blank(command) {
+    if line::is_blank(command) {
         Part { place, len: 0 }
     } else {
         Part {
@@ -315,7 +310,7 @@ fn step_over(
         (requestOf (now (daemon .entry)) (endpoint client (now («client_name» .entry))) (endpoint server (now («server_name» .entry))) user (now («user_name» .entry)))
         (now (text .entry)) i n (spanAt i (scanLine (drop i (now (text .entry))))) ⌝ }
 {
-    let span = lines::line::scan_line(text, i);
+    let span = line::scan_line(text, i);
     let e = span.end;
     let pass = pass_line(
         &text[i..e],
@@ -401,4 +396,29 @@ pub fn pass_file(
         }
     }
     found
+}
+
+// The refusal of a text at its lowest faulty line, if it has one.
+pub fn check_file(text: &[u8], order: u8) -> Pass
+    ensures { λ r. ⌜ r ≡ passOf (hostsFaultAt order (now (text .entry))) none ⌝ }
+{
+    let none = &text[..0];
+    let host = Host {
+        name: Name::Unknown,
+        addr: Addr::Unknown,
+    };
+    pass_file(
+        text,
+        order,
+        Verdict::Granted,
+        File::Neither,
+        false,
+        none,
+        host,
+        none,
+        host,
+        none,
+        User::NotFetched,
+        none,
+    )
 }
