@@ -9,7 +9,7 @@ use mathlib.Core.Path.{_≡_, refl, sym, _∙_}
 use lib.Dec.{ltb}
 use lib.ListN.{length, take, drop, drop-of-length-le}
 use lib.Seq.{take-nil, take-all, length-take-le}
-use Rattle.text.specs.Basics.{_orElse_, given, first}
+use Rattle.text.specs.Basics.{if_then_else_, _orElse_, given, first}
 use Rattle.text.proofs.ScanLaws.{take-rest}
 use Rattle.section.specs.declared.Fault.the-variants as F
 use Rattle.section.specs.declared.Refusal.{Refusal}
@@ -27,54 +27,41 @@ use Rattle.rules.specs.declared.hosts_file.Pass.{Pass}
 use Rattle.rules.specs.declared.hosts_file.Pass.the-variants as P
 use Rattle.rules.specs.Check.{hostsFault}
 use Rattle.rules.specs.Search.{answer, lineAnswer, search, decide, rulingOf, commandBytes}
-use Rattle.rules.specs.FileCode.{hostsFaultAt, passOf, passText, onward, passBoth, refusingRequest, rulingBy}
+use Rattle.rules.specs.FileCode.{hostsFaultAt, passOf, passText, isUnmatched, onward, passBoth, refusingRequest, rulingBy}
 
 -- ## The pass over both files
 
-module _ (a : Answer) (q : Pass) where
-  pub kept-faulty : (g : Refusal) → q ≡ P.Faulty g → P.Faulty g ≡ onward (P.Matched a) q
-  kept-faulty g e = rw e
+module _ (p q : Pass) where
+  pub on-faulty : (g : Refusal) → p ≡ P.Faulty g → P.Faulty g ≡ onward p q
+  on-faulty g e = rw e
 
-  pub kept-unmatched : q ≡ P.Unmatched → P.Matched a ≡ onward (P.Matched a) q
-  kept-unmatched e = rw e
+  pub on-unmatched : p ≡ P.Unmatched → q ≡ onward p q
+  on-unmatched e = rw e
 
-  pub kept-matched : (c : Answer) → q ≡ P.Matched c → P.Matched a ≡ onward (P.Matched a) q
-  kept-matched c e = rw e
+  module _ (a : Answer) (e : p ≡ P.Matched a) where
+    pub on-then-faulty : (g : Refusal) → q ≡ P.Faulty g → P.Faulty g ≡ onward p q
+    on-then-faulty g f = rw (e, f)
 
-module _ (r : Request) (allow deny : List ℕ) (p : Pass) (is-p : p ≡ passText 1 Granted Allow true r allow) where
-  pub both-faulty : (g : Refusal) → p ≡ P.Faulty g → P.Faulty g ≡ passBoth r allow deny
-  unfolding passBoth passText hostsFaultAt hostsFault
-  both-faulty g e = by (hostsFault S.allow allow) (first (lineAnswer Granted Allow r) (lines allow)) (sym is-p ∙ e)
-    where
-      by : (o : Option Refusal) (x : Option Answer) → passOf o x ≡ P.Faulty g
-          → P.Faulty g ≡ passOf (o orElse hostsFault S.deny deny) (x orElse first (lineAnswer Denied Deny r) (lines deny))
-      by (some h) x e = sym e
-      by none none e = let z : _≡_ {A = ℕ} 0 1 = cc in absurd (omega arith)
-      by none (some a) e = let z : _≡_ {A = ℕ} 0 1 = cc in absurd (omega arith)
+    pub on-then-unmatched : q ≡ P.Unmatched → P.Matched a ≡ onward p q
+    on-then-unmatched f = rw (e, f)
 
-  pub both-unmatched : p ≡ P.Unmatched → (q : Pass) → q ≡ passText 2 Denied Deny true r deny → q ≡ passBoth r allow deny
-  unfolding passBoth passText hostsFaultAt hostsFault
-  both-unmatched e q is-q = is-q ∙ by (hostsFault S.allow allow) (first (lineAnswer Granted Allow r) (lines allow)) (sym is-p ∙ e)
-    where
-      by : (o : Option Refusal) (x : Option Answer) → passOf o x ≡ P.Unmatched
-          → passOf (hostsFault S.deny deny) (first (lineAnswer Denied Deny r) (lines deny))
-          ≡ passOf (o orElse hostsFault S.deny deny) (x orElse first (lineAnswer Denied Deny r) (lines deny))
-      by (some h) x e = let z : _≡_ {A = ℕ} 0 1 = cc in absurd (omega arith)
-      by none none e = refl
-      by none (some a) e = let z : _≡_ {A = ℕ} 0 1 = cc in absurd (omega arith)
+    pub on-then-matched : (c : Answer) → q ≡ P.Matched c → P.Matched a ≡ onward p q
+    on-then-matched c f = rw (e, f)
 
-  pub both-matched : (a : Answer) → p ≡ P.Matched a → (q : Pass) → q ≡ passText 2 Denied Deny false r deny
-      → (s : Pass) → s ≡ onward (P.Matched a) q → s ≡ passBoth r allow deny
-  unfolding passBoth passText hostsFaultAt hostsFault
-  both-matched a e q is-q s is-s =
-      is-s ∙ rw is-q (by (hostsFault S.allow allow) (hostsFault S.deny deny) (first (lineAnswer Granted Allow r) (lines allow)) (sym is-p ∙ e))
-    where
-      by : (o d : Option Refusal) (x : Option Answer) → passOf o x ≡ P.Matched a
-          → onward (P.Matched a) (passOf d none) ≡ passOf (o orElse d) (x orElse first (lineAnswer Denied Deny r) (lines deny))
-      by (some h) d x e = let z : _≡_ {A = ℕ} 0 1 = cc in absurd (omega arith)
-      by none d none e = let z : _≡_ {A = ℕ} 0 1 = cc in absurd (omega arith)
-      by none none (some c) e = sym e
-      by none (some h) (some c) e = refl
+-- an answer in the second text is looked for only if the first one has none
+onward-pass : (o o′ : Option Refusal) (x x′ : Option Answer)
+    → onward (passOf o x) (passOf o′ (if isUnmatched (passOf o x) then x′ else none)) ≡ passOf (o orElse o′) (x orElse x′)
+onward-pass (some g) o′ x x′ = refl
+onward-pass none o′ none x′ = refl
+onward-pass none none (some a) x′ = refl
+onward-pass none (some g) (some a) x′ = refl
+
+pub both-pass : (r : Request) (allow deny : List ℕ) (p : Pass) → p ≡ passText 1 Granted Allow true r allow → (b : Bool) → b ≡ isUnmatched p
+    → (q : Pass) → q ≡ passText 2 Denied Deny b r deny → (s : Pass) → s ≡ onward p q → s ≡ passBoth r allow deny
+unfolding passBoth passText hostsFaultAt hostsFault
+both-pass r allow deny p is-p b is-b q is-q s is-s =
+    is-s ∙ rw (is-q, is-b, is-p)
+    (onward-pass (hostsFault S.allow allow) (hostsFault S.deny deny) (first (lineAnswer Granted Allow r) (lines allow)) (first (lineAnswer Denied Deny r) (lines deny)))
 
 -- ## The ruling
 

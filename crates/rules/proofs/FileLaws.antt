@@ -288,10 +288,21 @@ module _ (t : List ℕ) (i : ℕ) (l : LineSpan) (is-l : l ≡ spanAt i (scanLin
 
 -- ## The loop over the lines
 
-onward-unmatched : (q : Pass) → onward P.Unmatched q ≡ q
-onward-unmatched P.Unmatched = refl
-onward-unmatched (P.Faulty g) = refl
-onward-unmatched (P.Matched a) = refl
+onward-nothing : (p : Pass) → onward p P.Unmatched ≡ p
+onward-nothing (P.Faulty g) = refl
+onward-nothing P.Unmatched = refl
+onward-nothing (P.Matched a) = refl
+
+-- no fault
+abbrev pub Sound : Pass → Type 0
+Sound (P.Faulty g) = ⊥
+Sound P.Unmatched = Unit {0}
+Sound (P.Matched a) = Unit {0}
+
+onward-faulty : (p : Pass) (g : Refusal) → Sound p → onward p (P.Faulty g) ≡ P.Faulty g
+onward-faulty (P.Faulty f) g h = absurd h
+onward-faulty P.Unmatched g h = refl
+onward-faulty (P.Matched a) g h = refl
 
 -- the pass over a first line, with the fault x and the answer y, and over the lines after it, with x′ and y′
 both-faulty : (x x′ : Option Refusal) (y y′ : Option Answer) (b : Bool) (g : Refusal)
@@ -317,11 +328,6 @@ both-matched none none (some c) y′ true a e = (refl, e)
 both-matched none x′ none y′ true a e = let z : _≡_ {A = ℕ} 0 1 = cc in absurd (omega arith)
 both-matched none x′ y y′ false a e = let z : _≡_ {A = ℕ} 0 1 = cc in absurd (omega arith)
 
-abbrev Sound : Pass → Type 0
-Sound (P.Faulty g) = ⊥
-Sound P.Unmatched = Unit {0}
-Sound (P.Matched a) = Unit {0}
-
 module _ (o : ℕ) (v : Verdict) (f : File) (r : Request) where
   unfoldable pub passLines : Bool → List Line → Pass
   passLines b ls = passOf (first (faultAt o) ls) (if b then first (lineAnswer v f r) ls else none)
@@ -330,6 +336,7 @@ module _ (o : ℕ) (v : Verdict) (f : File) (r : Request) where
   pub record Passing (whole : Pass) (t : List ℕ) (i n : ℕ) (b : Bool) (found : Pass) : Type 0 where
     pub within : i ≤ length t
     pub number : n ≤ i + 1
+    pub sound : Sound found
     pub fresh : b ≡ true → found ≡ P.Unmatched
     pub rest : whole ≡ onward found (passLines b (logicalLines n i (split "\n" (drop i t))))
 
@@ -338,8 +345,9 @@ module _ (o : ℕ) (v : Verdict) (f : File) (r : Request) where
   passing-start t b = record {
     within = omega arith;
     number = omega arith;
+    sound = tt;
     fresh = λ e. refl;
-    rest = sym (onward-unmatched (passLines b (logicalLines 1 0 (split "\n" t))));
+    rest = refl;
   }
 
   -- a line without an ending newline is faulty
@@ -368,7 +376,7 @@ module _ (o : ℕ) (v : Verdict) (f : File) (r : Request) where
 
   module _ {whole : Pass} {t : List ℕ} {i n : ℕ} {b : Bool} {found : Pass} (inv : Passing whole t i n b found) where
     pub passing-end : length t ≤ i → found ≡ whole
-    passing-end h = sym (inv .rest ∙ rw (logicalLines-end t i n i h, passLines-nil b))
+    passing-end h = sym (inv .rest ∙ rw (logicalLines-end t i n i h, passLines-nil b) (onward-nothing found))
 
     module _ (h : i < length t) (st : Step) (is-st : st ≡ stepOf o v f b r t i n (spanAt i (scanLine (drop i t)))) where
       scanned : LineSpan
@@ -412,13 +420,14 @@ module _ (o : ℕ) (v : Verdict) (f : File) (r : Request) where
       next-number = omega (arith, next-is, number-is, bounds .pairs, bounds .from, inv .number)
 
       pub pass-stop : (g : Refusal) → st .pass ≡ P.Faulty g → P.Faulty g ≡ whole
-      pass-stop g e = sym (inv .rest ∙ rw (all-lines, passLines-faulty b this those g (this-pass (P.Faulty g) e)))
+      pass-stop g e = sym (inv .rest ∙ rw (all-lines, passLines-faulty b this those g (this-pass (P.Faulty g) e)) (onward-faulty found g (inv .sound)))
 
       pub passing-more : st .pass ≡ P.Unmatched → Passing whole t (st .next) (st .number) b found
       unfolding those
       passing-more e = record {
         within = next-within P.Unmatched e tt;
         number = next-number;
+        sound = inv .sound;
         fresh = inv .fresh;
         rest = inv .rest ∙ rw (all-lines, passLines-unmatched b this those (this-pass P.Unmatched e));
       }
@@ -430,8 +439,9 @@ module _ (o : ℕ) (v : Verdict) (f : File) (r : Request) where
           record {
             within = next-within (P.Matched a) e tt;
             number = next-number;
+            sound = tt;
             fresh = λ k. absurd (true≢false (sym k));
-            rest = inv .rest ∙ rw (inv .fresh (m .0), all-lines, m .1) (onward-unmatched (onward (P.Matched a) (passLines false those)));
+            rest = inv .rest ∙ rw (inv .fresh (m .0), all-lines, m .1);
           }
 
 -- ## The checks alone

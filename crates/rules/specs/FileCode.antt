@@ -69,13 +69,18 @@ passLine s v f search r l = passOf (faultAt s l) (if search then lineAnswer v f 
 unfoldable pub passText : ℕ → Verdict → File → Bool → Request → List ℕ → Pass
 passText s v f search r t = passOf (hostsFaultAt s t) (if search then first (lineAnswer v f r) (lines t) else none)
 
--- a pass, and that over what follows: a fault goes before every answer, and the first answer stays
+abbrev pub isUnmatched : Pass → Bool
+isUnmatched (P.Faulty g) = false
+isUnmatched P.Unmatched = true
+isUnmatched (P.Matched a) = false
+
+-- a fault goes before every answer, and the first of each stays
 abbrev pub onward : Pass → Pass → Pass
-onward p P.Unmatched = p
-onward p (P.Faulty g) = P.Faulty g
-onward P.Unmatched (P.Matched a) = P.Matched a
-onward (P.Matched c) (P.Matched a) = P.Matched c
-onward (P.Faulty g) (P.Matched a) = P.Faulty g
+onward (P.Faulty f) q = P.Faulty f
+onward P.Unmatched q = q
+onward (P.Matched a) (P.Faulty g) = P.Faulty g
+onward (P.Matched a) P.Unmatched = P.Matched a
+onward (P.Matched a) (P.Matched c) = P.Matched a
 
 unfoldable pub passBoth : Request → List ℕ → List ℕ → Pass
 passBoth r allow deny = passOf

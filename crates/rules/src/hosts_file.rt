@@ -383,17 +383,14 @@ pub fn pass_file(
             Pass::Faulty(f) => {
                 return Pass::Faulty(f);
             }
-            Pass::Unmatched => {
-                i = step.next;
-                n = step.number;
-            }
+            Pass::Unmatched => {}
             Pass::Matched(a) => {
                 found = Pass::Matched(a);
                 searching = false;
-                i = step.next;
-                n = step.number;
             }
         }
+        i = step.next;
+        n = step.number;
     }
     found
 }

@@ -10,10 +10,7 @@ ghost use mathlib.Core.Path.{_≡_};
 ghost use lib.ListN.{take, drop};
 ghost use Rattle.elements.specs.Request.{requestOf, endpoint};
 ghost use Rattle.rules.specs.Search.{decide as decideBy, rulingOf, commandBytes};
-ghost use Rattle.rules.specs.FileCode.{passText, onward, passBoth, refusingRequest, rulingBy};
-ghost use Rattle.rules.specs.declared.hosts_file.Pass.the-variants.{Matched};
-ghost use Rattle.rules.specs.declared.Verdict.the-variants.{Denied};
-ghost use Rattle.rules.specs.declared.File.the-variants.{Deny};
+ghost use Rattle.rules.specs.FileCode.{isUnmatched, onward, passBoth, refusingRequest, rulingBy};
 use elements::Host;
 use elements::User;
 use hosts_file::Pass;
@@ -55,49 +52,29 @@ pub enum Ruling {
     Answered(Answer),
 }
 
-// The pass over both files where a rule of the allow file answers a, and the pass over the deny file is rest.
-fn kept(a: Answer, rest: Pass) -> Pass
-    ensures { λ r. ⌜ r ≡ onward (Matched a) rest ⌝ }
+fn is_unmatched(pass: Pass) -> bool
+    ensures { λ r. ⌜ r ≡ isUnmatched pass ⌝ }
 {
-    match rest {
-        Pass::Faulty(f) => Pass::Faulty(f),
-        Pass::Unmatched => Pass::Matched(a),
-        Pass::Matched(_) => Pass::Matched(a),
+    match pass {
+        Pass::Faulty(_) => false,
+        Pass::Unmatched => true,
+        Pass::Matched(_) => false,
     }
 }
 
-// The pass over the deny file; a match is looked for only if search holds.
-fn pass_deny(
-    deny: &[u8],
-    search: bool,
-    daemon: &[u8],
-    client: Host,
-    client_name: &[u8],
-    server: Host,
-    server_name: &[u8],
-    user: User,
-    user_name: &[u8],
-) -> Pass
-    ensures { λ r.
-        ⌜ r
-        ≡ passText 2 Denied Deny search
-        (requestOf (now (daemon .entry)) (endpoint client (now («client_name» .entry))) (endpoint server (now («server_name» .entry))) user (now («user_name» .entry)))
-        (now (deny .entry)) ⌝ }
+// The pass over some lines, then over what follows them.
+fn go_on(found: Pass, rest: Pass) -> Pass
+    ensures { λ r. ⌜ r ≡ onward found rest ⌝ }
 {
-    hosts_file::pass_file(
-        deny,
-        section::Deny::ORDER,
-        Verdict::Denied,
-        File::Deny,
-        search,
-        daemon,
-        client,
-        client_name,
-        server,
-        server_name,
-        user,
-        user_name,
-    )
+    match found {
+        Pass::Faulty(f) => Pass::Faulty(f),
+        Pass::Unmatched => rest,
+        Pass::Matched(a) => match rest {
+            Pass::Faulty(f) => Pass::Faulty(f),
+            Pass::Unmatched => Pass::Matched(a),
+            Pass::Matched(_) => Pass::Matched(a),
+        },
+    }
 }
 
 // The pass over both files: the allow file first, and the deny file's rules only if none of the allow file's matches.
@@ -118,7 +95,7 @@ fn pass_both(
         (requestOf (now (daemon .entry)) (endpoint client (now («client_name» .entry))) (endpoint server (now («server_name» .entry))) user (now («user_name» .entry)))
         (now (allow .entry)) (now (deny .entry)) ⌝ }
 {
-    match hosts_file::pass_file(
+    let first = hosts_file::pass_file(
         allow,
         section::Allow::ORDER,
         Verdict::Granted,
@@ -131,34 +108,22 @@ fn pass_both(
         server_name,
         user,
         user_name,
-    ) {
-        Pass::Faulty(f) => Pass::Faulty(f),
-        Pass::Unmatched => pass_deny(
-            deny,
-            true,
-            daemon,
-            client,
-            client_name,
-            server,
-            server_name,
-            user,
-            user_name,
-        ),
-        Pass::Matched(a) => kept(
-            a,
-            pass_deny(
-                deny,
-                false,
-                daemon,
-                client,
-                client_name,
-                server,
-                server_name,
-                user,
-                user_name,
-            ),
-        ),
-    }
+    );
+    let rest = hosts_file::pass_file(
+        deny,
+        section::Deny::ORDER,
+        Verdict::Denied,
+        File::Deny,
+        is_unmatched(first),
+        daemon,
+        client,
+        client_name,
+        server,
+        server_name,
+        user,
+        user_name,
+    );
+    go_on(first, rest)
 }
 
 // The answer, on a request that is sound or not.
