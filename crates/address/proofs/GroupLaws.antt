@@ -1,32 +1,30 @@
 -- Laws of reading IPv6 text: numbers of two words, one group, and several in a row.
 -- Assumes nothing.
-use Prim.Native.Nat.{ℕ, zero, suc, _+_, _-_, _*_, _/_, _%_, _^_, _<_, _≤_}
-use mathlib.Core.Bool.{Bool, true, false, _&&_, _||_, true≢false}
-use mathlib.Core.List.{List, [], _∷_, _++_, map}
+use Prim.Native.Nat.{ℕ, _+_, _-_, _*_, _/_, _%_, _^_, _<_, _≤_}
+use mathlib.Core.Bool.{Bool, true, false, _&&_, true≢false}
+use mathlib.Core.List.{List, [], _∷_, map}
 use mathlib.Core.Logic.{_⊎_, inl, inr, ⊎-elim}
-use mathlib.Core.Option.{Option, none, some}
+use mathlib.Core.Option.{some}
 use mathlib.Core.Path.{_≡_, refl, sym, ap, ap₂, _∙_}
 use native.Mathlib.Nat.{div-add-mod', mod-lt, mul-mod-left, pow-suc, pow-le-pow-right}
 use native.Mathlib.Numerals.{add-one}
 use native.Mathlib.Omega.{arith}
-use borrow.Author.Tests.{leb-true, leb-false, ltb-true, ltb-false, le-leb, lt-leb, lt-ltb, le-ltb, eq-eqb, ne-eqb}
+use borrow.Author.Tests.{leb-true, leb-false, ltb-true, ltb-false, le-leb, lt-leb, lt-ltb}
 use lib.Arith.{digits-lt}
 use lib.Bits.{bitOr, or-shifted}
-use lib.Dec.{leb, ltb, eqb}
-use lib.ListN.{length, take, drop, getD, length-drop, length-map, drop-of-length-le}
+use lib.Dec.{leb, ltb}
+use lib.ListN.{length, drop, getD, length-map, drop-of-length-le}
 use lib.Pow.{pow-pos, pow-add, split, high, low, shl-exact, shl-shr, shr-lt, mod-pow-add}
-use lib.Seq.{drop-cons, take-all, drop-drop}
-use Rattle.text.specs.Basics.{if_then_else_, _>>=_, _orElse_, given, all}
+use lib.Seq.{drop-cons}
+use Rattle.text.specs.Basics.{_>>=_, given, all}
 use Rattle.text.specs.Text.{inRange, charRange, isDigit, lower}
 use Rattle.text.specs.Number.{fromDigits, digitValue}
 use Rattle.text.specs.Scan.{asNumber}
-use Rattle.text.specs.declared.NumberRead.{NumberRead}
 use Rattle.text.specs.declared.NumberRead.the-variants as N
 use Rattle.text.proofs.BasicLaws.{and-true}
 use Rattle.text.proofs.Canonical.{fromDigits-lt}
 use Rattle.address.specs.Address.{readGroup}
 use Rattle.address.specs.Code.{numberOf, words, wordsOf, isHex, hexValue, groupValue}
-use Rattle.address.specs.declared.read.Words.{Words}
 
 -- ## Numbers of two words
 

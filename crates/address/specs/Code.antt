@@ -16,7 +16,7 @@ use mathlib.Core.Option.{Option, none, some}
 use lib.ListN.{length, take}
 use lib.Dec.{leb, ltb, eqb}
 use Rattle.text.specs.Basics.{if_then_else_, _>>=_, given, isEmpty, all}
-use Rattle.text.specs.Text.{inRange, charRange, isDigit, split}
+use Rattle.text.specs.Text.{startsWith, inRange, charRange, isDigit, split}
 use Rattle.text.specs.Number.{fromDigits, toDigits, digitValue, readDecimal}
 use Rattle.text.specs.Scan.{indexOf}
 use Rattle.address.specs.Address.{readV4, readGroup, readLastGroup}
@@ -92,6 +92,15 @@ readsLast false = readGroup
 -- the texts of one side of `::`
 abbrev pub sideParts : List ℕ → List (List ℕ)
 sideParts t = if isEmpty t then [] else split ":" t
+
+-- the first place of the mark m in t, the length where there is none
+unfoldable pub placeOf : List ℕ → List ℕ → ℕ
+placeOf m [] = 0
+placeOf m (x ∷ t) = if startsWith m (x ∷ t) then 0 else suc (placeOf m t)
+
+-- the number of eight groups
+abbrev pub ofGroups : Option (List ℕ) → Option ℕ
+ofGroups o = o >>= λ gs. given (eqb (length gs) 8) (fromDigits 65536 0 gs)
 
 abbrev pub asV6 : Option ℕ → V6Read
 asV6 none = S.Nothing

@@ -1,6 +1,5 @@
 -- `address::read::first_field` meets its contract: the field ends at the first dot, or at the end. Assumes nothing.
 use mathlib.Core.Path.{sym}
-use native.Mathlib.Omega.{arith}
 use lib.Seq.{length-take-le}
 use borrow.Author.Needs.{needs}
 use Rattle.address.proofs.ReadLaws.{field-nothing, field-more, field-last}
