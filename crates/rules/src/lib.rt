@@ -3,7 +3,6 @@
 //   command_part(allow, deny, answer) == the bytes of the answer's raw command
 pub mod check;
 pub mod hosts_file;
-pub mod stub;
 pub mod walk;
 
 ghost use mathlib.Core.Path.{_≡_};
@@ -193,7 +192,7 @@ pub fn decide(
     );
     ruling_by(
         pass,
-        stub::well_formed(
+        elements::element::well_formed(
             daemon,
             client,
             client_name,
