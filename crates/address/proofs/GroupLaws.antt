@@ -1,20 +1,17 @@
--- Laws of reading IPv6 text: numbers of two words, one group, and several in a row.
+-- Laws of reading one group of hex digits.
 -- Assumes nothing.
-use Prim.Native.Nat.{ℕ, _+_, _-_, _*_, _/_, _%_, _^_, _<_, _≤_}
+use Prim.Native.Nat.{ℕ, _+_, _-_, _*_, _^_, _<_, _≤_}
 use mathlib.Core.Bool.{Bool, true, false, _&&_, true≢false}
 use mathlib.Core.List.{List, [], _∷_, map}
 use mathlib.Core.Logic.{_⊎_, inl, inr, ⊎-elim}
 use mathlib.Core.Option.{some}
-use mathlib.Core.Path.{_≡_, refl, sym, ap, ap₂, _∙_}
-use native.Mathlib.Nat.{div-add-mod', mod-lt, mul-mod-left, pow-suc, pow-le-pow-right}
+use mathlib.Core.Path.{_≡_, refl, sym, _∙_}
+use native.Mathlib.Nat.{pow-suc, pow-le-pow-right}
 use native.Mathlib.Numerals.{add-one}
 use native.Mathlib.Omega.{arith}
 use borrow.Author.Tests.{leb-true, leb-false, ltb-true, ltb-false, le-leb, lt-leb, lt-ltb}
-use lib.Arith.{digits-lt}
-use lib.Bits.{bitOr, or-shifted}
 use lib.Dec.{leb, ltb}
 use lib.ListN.{length, drop, getD, length-map, drop-of-length-le}
-use lib.Pow.{pow-pos, pow-add, split, high, low, shl-exact, shl-shr, shr-lt, mod-pow-add}
 use lib.Seq.{drop-cons}
 use Rattle.text.specs.Basics.{_>>=_, given, all}
 use Rattle.text.specs.Text.{inRange, charRange, isDigit, lower}
@@ -24,50 +21,7 @@ use Rattle.text.specs.declared.NumberRead.the-variants as N
 use Rattle.text.proofs.BasicLaws.{and-true}
 use Rattle.text.proofs.Canonical.{fromDigits-lt}
 use Rattle.address.specs.Address.{readGroup}
-use Rattle.address.specs.Code.{numberOf, words, wordsOf, isHex, hexValue, groupValue}
-
--- ## Numbers of two words
-
-pub numberOf-wordsOf : (n : ℕ) → numberOf (wordsOf n) ≡ n
-numberOf-wordsOf n = div-add-mod' n (2 ^ 64)
-
--- k bits more, at words of j + k bits
-module _ (j k a b g : ℕ) (ha : a < 2 ^ j) (hb : b < 2 ^ (j + k)) (hg : g < 2 ^ k) where
-  abbrev w : ℕ
-  w = j + k
-
-  shl-low : b * 2 ^ k % 2 ^ w ≡ b % 2 ^ j * 2 ^ k
-  shl-low =
-      mod-pow-add (b * 2 ^ k) j k
-      ∙ ap₂ (λ (x y : ℕ). x % 2 ^ j * 2 ^ k + y) (shl-shr b k) (mul-mod-left b (2 ^ k))
-      ∙ omega arith
-
-  pushed-high : bitOr (a * 2 ^ k % 2 ^ w) (b / 2 ^ j) ≡ a * 2 ^ k + b / 2 ^ j
-  pushed-high =
-      let e : k + j ≡ w = omega arith in
-      let l : b < 2 ^ (k + j) = rw e hb in
-      ap (λ (x : ℕ). bitOr x (b / 2 ^ j)) (shl-exact j k w ha (omega arith)) ∙ or-shifted a k (b / 2 ^ j) (shr-lt k j l)
-
-  pushed-low : bitOr (b * 2 ^ k % 2 ^ w) g ≡ b % 2 ^ j * 2 ^ k + g
-  pushed-low = ap (λ (x : ℕ). bitOr x g) shl-low ∙ or-shifted (b % 2 ^ j) k g hg
-
-  abbrev up : ℕ
-  up = a * 2 ^ k + b / 2 ^ j
-
-  abbrev down : ℕ
-  down = b % 2 ^ j * 2 ^ k + g
-
-  down-lt : down < 2 ^ w
-  down-lt = rw (pow-add 2 j k) (digits-lt (mod-lt b (pow-pos j)) hg)
-
-  pushed-number : (a * 2 ^ w + b) * 2 ^ k + g ≡ up * 2 ^ w + down
-  pushed-number = rw (pow-add 2 j k) (omega (arith, ap (λ (x : ℕ). x * 2 ^ k) (split b j)))
-
-  pub pushed : words (bitOr (a * 2 ^ k % 2 ^ w) (b / 2 ^ j)) (bitOr (b * 2 ^ k % 2 ^ w) g) ≡ words (((a * 2 ^ w + b) * 2 ^ k + g) / 2 ^ w) (((a * 2 ^ w + b) * 2 ^ k + g) % 2 ^ w)
-  pushed =
-      ap₂ words
-      (pushed-high ∙ sym (ap (λ (x : ℕ). x / 2 ^ w) pushed-number ∙ high up w down-lt))
-      (pushed-low ∙ sym (ap (λ (x : ℕ). x % 2 ^ w) pushed-number ∙ low up w down-lt))
+use Rattle.address.specs.Code.{isHex, hexValue, groupValue}
 
 -- ## A group
 

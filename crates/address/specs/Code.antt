@@ -1,7 +1,7 @@
--- What the contracts inside the crate cite. Nothing here needs to be believed for the meaning of document 01: the public promises are stated
--- over Address alone.
+-- What the contracts inside the crate, and those of what other crates call, are written in. Nothing here needs to be believed for the meaning
+-- of document 01: the calls are stated over Address alone.
 --   bitAt w i a       == the bit of a, a number of w bits, at place i from the most significant
---   sameBits w n a b  == the first n bits of a and b are equal, compared one by one
+--   sameBits w n a b  == the first n bits of a and b are equal, compared one by one; samePrefix is proved equal to it
 --   firstField t      == what the code finds at the front of a dotted text, and firstGroup t of one with colons
 --   numberOf w        == the number of two words, and wordsOf n the words of a number
 --   hexValue b        == the value of a hex digit, 16 where b is none

@@ -1,10 +1,10 @@
 -- Laws of a line's forms: what is found at its first mark, and what each answer follows from.
 -- Assumes nothing.
 use Prim.Native.Nat.{ℕ, _+_, _-_, _*_, _^_, _<_, _≤_}
-use mathlib.Core.Bool.{Bool, true, false, _&&_}
+use mathlib.Core.Bool.{Bool, false, _&&_}
 use mathlib.Core.List.{List, []}
 use mathlib.Core.Option.{Option, none, some}
-use mathlib.Core.Path.{_≡_, refl, sym, ap, ap₂, _∙_}
+use mathlib.Core.Path.{_≡_, refl, sym, ap, _∙_}
 use native.Mathlib.Omega.{arith}
 use lib.ListN.{length, take, drop}
 use Rattle.text.specs.Basics.{_>>=_, _orElse_, holds}
@@ -19,11 +19,10 @@ use Rattle.address.specs.declared.read.V6Read.{V6Read}
 use Rattle.address.specs.declared.read.V6Read.the-variants as W
 use Rattle.byuid.specs.Byuid.{Range, readRange, readNet, readPort, readCommaForm, readColonForm, lineGrants}
 use Rattle.byuid.specs.Code.{readerOf, bitsOf, inside, insideBoth, heldBy, isHeld, bothOf, betweenOf, endsOf, netFrom, portsOf}
-use Rattle.byuid.specs.declared.line.Kind.{Kind}
 use Rattle.byuid.specs.declared.line.Kind.the-variants as K
 use Rattle.byuid.specs.declared.line.Held.{Held}
 use Rattle.byuid.specs.declared.line.Held.the-variants as H
-use Rattle.byuid.proofs.NumberLaws.{asV6-none, asV6-some, alone-held}
+use Rattle.byuid.proofs.NumberLaws.{asV6-none, asV6-some, range, alone-held}
 
 -- what the code lends of a text around a mark at i
 abbrev pub rest : List ℕ → ℕ → List ℕ
@@ -54,9 +53,6 @@ module _ {A : Type 0} (p : A → Bool) (o q : Option A) (h : Held) (is-h : h ≡
       by : (o : Option A) → heldBy p o ≡ H.Is b → heldBy p o ≡ heldBy p (o orElse q)
       by none z = let z : _≡_ {A = ℕ} 0 1 = cc in absurd (omega arith)
       by (some x) z = refl
-
-abbrev range : ℕ → ℕ → Option Range
-range low high = some (low, high)
 
 abbrev ranges : Range → Range → Option (Range × Range)
 ranges x y = some (x, y)

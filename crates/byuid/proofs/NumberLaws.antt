@@ -1,13 +1,13 @@
 -- Laws of numbers: those of two words, ranges of them, and nets, over the width.
 -- Assumes nothing.
 use Prim.Native.Nat.{ℕ, suc, _+_, _-_, _*_, _/_, _%_, _^_, _<_, _≤_}
-use mathlib.Core.Bool.{Bool, true, false, _&&_}
+use mathlib.Core.Bool.{Bool, true, false, _&&_, and-false}
 use mathlib.Core.List.{List}
 use mathlib.Core.Option.{Option, none, some}
-use mathlib.Core.Path.{_≡_, refl, sym, ap, ap₂, _∙_}
+use mathlib.Core.Path.{_≡_, refl, sym, ap, _∙_}
 use native.Mathlib.Nat.{div-add-mod', div-eq-of-lt, mod-eq-of-lt, mod-lt, mul-le-mul-right, add-mul}
 use native.Mathlib.Omega.{arith}
-use borrow.Author.Tests.{leb-true, leb-false, le-leb, lt-leb, eqb-true, eqb-false, eq-eqb, ne-eqb}
+use borrow.Author.Tests.{leb-true, leb-false, le-leb, lt-leb, eqb-true, eq-eqb, ne-eqb}
 use lib.Dec.{leb, ltb, eqb}
 use lib.Pow.{pow-pos}
 use Rattle.text.specs.Basics.{_>>=_}
@@ -21,6 +21,7 @@ use Rattle.address.specs.Code.{asV6}
 use Rattle.address.specs.declared.read.V6Read.{V6Read}
 use Rattle.address.specs.declared.read.V6Read.the-variants as W
 use Rattle.address.proofs.ReadLaws.{readDecimal-le, asNumber-none, asNumber-some}
+use Rattle.byuid.specs.Byuid.{Range}
 use Rattle.byuid.specs.Code.{readerOf, bitsOf, wideOf, inside, heldBy, betweenOf, endsOf, netFrom}
 use Rattle.byuid.specs.declared.line.Kind.{Kind}
 use Rattle.byuid.specs.declared.line.Kind.the-variants as K
@@ -31,15 +32,12 @@ use Rattle.byuid.specs.declared.line.Held.the-variants as H
 
 -- two tests that hold at the same time
 leb-iff : (a b c d : ℕ) → (a ≤ b → c ≤ d) → (c ≤ d → a ≤ b) → leb a b ≡ leb c d
-leb-iff a b c d f g = by (leb a b) refl
+leb-iff a b c d f g = by (leb a b) (leb c d) refl refl
   where
-    by : (t : Bool) → leb a b ≡ t → leb a b ≡ leb c d
-    by true e = e ∙ sym (le-leb c d (f (leb-true a b e)))
-    by false e = e ∙ sym (by-false (leb c d) refl)
-      where
-        by-false : (t : Bool) → leb c d ≡ t → leb c d ≡ false
-        by-false true q = absurd (omega (arith, g (leb-true c d q), leb-false a b e))
-        by-false false q = q
+    by : (t u : Bool) → leb a b ≡ t → leb c d ≡ u → leb a b ≡ leb c d
+    by true u p q = p ∙ sym (le-leb c d (f (leb-true a b p)))
+    by false true p q = absurd (omega (arith, g (leb-true c d q), leb-false a b p))
+    by false false p q = p ∙ sym q
 
 module _ (a b c d : ℕ) where
   pub words-same : a ≡ c → leb b d ≡ leb (a * 2 ^ 64 + b) (c * 2 ^ 64 + d)
@@ -87,8 +85,11 @@ pub between-value : (min max : V6Read) (a b c d n : ℕ) (x y : Bool) → min �
     → x ≡ leb (a * 2 ^ 64 + b) n → y ≡ leb n (c * 2 ^ 64 + d) → H.Is (x && y) ≡ betweenOf min max n
 between-value min max a b c d n x y p q h k = rw (p, q, h, k)
 
+abbrev pub range : ℕ → ℕ → Option Range
+range low high = some (low, high)
+
 -- between what two texts write
-between-read : (o p : Option ℕ) (n : ℕ) → betweenOf (asV6 o) (asV6 p) n ≡ heldBy (inside n) (o >>= λ l. p >>= λ h. some (l, h))
+between-read : (o p : Option ℕ) (n : ℕ) → betweenOf (asV6 o) (asV6 p) n ≡ heldBy (inside n) (o >>= λ l. p >>= λ h. range l h)
 unfolding heldBy inside
 between-read none p n = refl
 between-read (some l) none n = refl
@@ -100,13 +101,13 @@ unfolding endsOf
 ends-held f x y n min max r p q e = e ∙ rw (p, q) (between-read (f x) (f y) n)
 
 pub alone-held : (f : List ℕ → Option ℕ) (t : List ℕ) (n : ℕ) (v : V6Read) (r : Held) → v ≡ asV6 (f t) → r ≡ betweenOf v v n
-    → r ≡ heldBy (inside n) (f t >>= λ m. some (m, m))
-unfolding heldBy inside
-alone-held f t n v r p e = e ∙ rw p (by (f t))
+    → r ≡ heldBy (inside n) (f t >>= λ m. range m m)
+unfolding endsOf
+alone-held f t n v r p e = ends-held f t t n v v r p p e ∙ ap (heldBy (inside n)) (twice (f t))
   where
-    by : (o : Option ℕ) → betweenOf (asV6 o) (asV6 o) n ≡ heldBy (inside n) (o >>= λ m. some (m, m))
-    by none = refl
-    by (some m) = rw (div-add-mod' m (2 ^ 64))
+    twice : (o : Option ℕ) → (o >>= λ l. o >>= λ h. range l h) ≡ (o >>= λ m. range m m)
+    twice none = refl
+    twice (some m) = refl
 
 -- ## Nets
 
@@ -127,10 +128,6 @@ module _ (k n a : ℕ) (clear : n % 2 ^ k ≡ 0) where
   pub inRange-prefix : inRange n (n + size - 1) a ≡ eqb (n / size) (a / size)
   inRange-prefix = by (leb (n / size) (a / size)) (leb (a / size) (n / size)) refl refl
     where
-      both-false : (b : Bool) → (b && false) ≡ false
-      both-false true = refl
-      both-false false = refl
-
       by : (t u : Bool) → leb (n / size) (a / size) ≡ t → leb (a / size) (n / size) ≡ u → inRange n (n + size - 1) a ≡ eqb (n / size) (a / size)
       by true true p q =
           let e : n / size ≡ a / size = omega (arith, leb-true (n / size) (a / size) p, leb-true (a / size) (n / size) q) in
@@ -142,7 +139,7 @@ module _ (k n a : ℕ) (clear : n % 2 ^ k ≡ 0) where
             ne-eqb (n / size) (a / size) (λ e. omega arith),
             lt-leb a (n + size - 1) (omega (arith, first, split-at .0, next (n / size) (a / size) h, pow-pos k)),
           )
-          (both-false (leb n a))
+          (and-false (leb n a))
       by false u p q =
           let h : a / size < n / size = leb-false (n / size) (a / size) p in
           rw (ne-eqb (n / size) (a / size) (λ e. omega arith), lt-leb n a (omega (arith, first, split-at .1, next (a / size) (n / size) h)))

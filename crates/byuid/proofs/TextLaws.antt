@@ -21,7 +21,6 @@ use Rattle.address.specs.declared.Addr.the-variants as A
 use Rattle.byuid.specs.Byuid.{lineGrants, byuidDecision, decideByuid, rulingOf}
 use Rattle.byuid.specs.declared.Decision.{Decision}
 use Rattle.byuid.specs.declared.Decision.the-variants.{NotRuled, Granted, NoLine}
-use Rattle.byuid.specs.declared.Ruling.{Ruling}
 use Rattle.byuid.specs.declared.Ruling.the-variants as R
 use Rattle.byuid.proofs.LineLaws.{grants-nil}
 

@@ -200,7 +200,7 @@ fn colon_form(l: &[u8], addr: u32, port: u16) -> Held
     }
 }
 
-// What a line grants at an IPv4 address.
+// Whether a line holds the request, at an IPv4 address.
 fn held_v4(l: &[u8], addr: u32, port: u16) -> Held
     ensures { λ r. ⌜ r ≡ heldBy (insideBoth addr port) (readCommaForm 32 readV4 (now (l .entry)) orElse readColonForm (now (l .entry))) ⌝ }
 {
@@ -211,6 +211,7 @@ fn held_v4(l: &[u8], addr: u32, port: u16) -> Held
     }
 }
 
+// Whether the request is held.
 fn is_held(h: Held) -> bool
     ensures { λ r. ⌜ r ≡ isHeld h ⌝ }
 {

@@ -2,7 +2,7 @@
 use mathlib.Core.Path.{sym}
 use lib.Seq.{length-take-le}
 use borrow.Author.Needs.{needs}
-use Rattle.address.proofs.ReadV6Laws.{group-last, group-nothing, group-more}
+use Rattle.address.proofs.RowLaws.{group-last, group-nothing, group-more}
 use Rattle.address.proofs.read.first_group.Statement.{statement}
 use Rattle.address.proofs.read.first_group.Tie as tie
 

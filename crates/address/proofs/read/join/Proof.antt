@@ -1,6 +1,6 @@
 -- `address::read::join` meets its contract: the bits of both sides lie apart, so no word carries. Assumes nothing.
 use borrow.Author.Needs.{needs}
-use Rattle.address.proofs.ReadV6Laws.{join-over, join-high, join-low, join-value}
+use Rattle.address.proofs.WordLaws.{join-over, join-high, join-low, join-value}
 use Rattle.address.proofs.read.join.Statement.{statement}
 use Rattle.address.proofs.read.join.Tie as tie
 

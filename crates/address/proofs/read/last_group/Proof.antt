@@ -1,6 +1,6 @@
 -- `address::read::last_group` meets its contract: a group, or where tail holds IPv4 text. Assumes nothing.
 use borrow.Author.Needs.{needs}
-use Rattle.address.proofs.ReadV6Laws.{group-lt, row-room, last-value, last-nothing, last-tail}
+use Rattle.address.proofs.RowLaws.{group-lt, row-room, last-value, last-nothing, last-tail}
 use Rattle.address.proofs.read.last_group.Statement.{statement}
 use Rattle.address.proofs.read.last_group.Tie as tie
 

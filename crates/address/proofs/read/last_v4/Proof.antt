@@ -1,6 +1,6 @@
 -- `address::read::last_v4` meets its contract: IPv4 text is two groups, which fit where at most six stand before. Assumes nothing.
 use borrow.Author.Needs.{needs}
-use Rattle.address.proofs.ReadV6Laws.{row-room-v4, tail-nothing, tail-full, tail-value}
+use Rattle.address.proofs.RowLaws.{row-room-v4, tail-nothing, tail-full, tail-value}
 use Rattle.address.proofs.read.last_v4.Statement.{statement}
 use Rattle.address.proofs.read.last_v4.Tie as tie
 

@@ -2,7 +2,7 @@
 -- The measure is how many are left. Assumes nothing.
 use Prim.Native.Nat.{_-_}
 use borrow.Author.Needs.{needs}
-use Rattle.address.proofs.ReadV6Laws.{Padded, padded-start, padded-room, padded-step, padded-end}
+use Rattle.address.proofs.WordLaws.{Padded, padded-start, padded-room, padded-step, padded-end}
 use Rattle.address.proofs.read.pad.Statement.{statement}
 use Rattle.address.proofs.read.pad.Tie as tie
 

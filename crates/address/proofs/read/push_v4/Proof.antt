@@ -1,6 +1,6 @@
 -- `address::read::push_v4` meets its contract: the bits that leave the low word enter the high one. Assumes nothing.
 use borrow.Author.Needs.{needs}
-use Rattle.address.proofs.GroupLaws.{pushed}
+use Rattle.address.proofs.WordLaws.{pushed}
 use Rattle.address.proofs.read.push_v4.Statement.{statement}
 use Rattle.address.proofs.read.push_v4.Tie as tie
 

@@ -2,7 +2,7 @@
 -- The measure is how many groups are left. Assumes nothing.
 use Prim.Native.Nat.{_-_}
 use borrow.Author.Needs.{needs}
-use Rattle.address.proofs.ReadV6Laws.{Row, no-groups, row-start, row-many, row-bad, row-ends, row-group, row-at, row-step, row-room}
+use Rattle.address.proofs.RowLaws.{Row, no-groups, row-start, row-many, row-bad, row-ends, row-group, row-at, row-step, row-room}
 use Rattle.address.proofs.read.read_groups.Statement.{statement}
 use Rattle.address.proofs.read.read_groups.Tie as tie
 
