@@ -1,4 +1,6 @@
 // The checks of the allow and deny files, and the verdict on a request.
+pub mod check;
+pub mod walk;
 
 // The words of the verdict.
 pub enum Verdict {
