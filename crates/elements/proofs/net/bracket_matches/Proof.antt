@@ -1,7 +1,7 @@
--- `elements::pattern::bracket_matches` meets its contract. Only an IPv6 address is looked at. Assumes nothing.
+-- `elements::net::bracket_matches` meets its contract. Only an IPv6 address is looked at. Assumes nothing.
 use borrow.Author.Needs.{needs}
-use Rattle.elements.proofs.pattern.bracket_matches.Statement.{statement}
-use Rattle.elements.proofs.pattern.bracket_matches.Tie as tie
+use Rattle.elements.proofs.net.bracket_matches.Statement.{statement}
+use Rattle.elements.proofs.net.bracket_matches.Tie as tie
 
 pub bracket-matches-spec : {M : Type 1} → statement M
 bracket-matches-spec =

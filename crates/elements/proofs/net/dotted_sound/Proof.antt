@@ -1,8 +1,8 @@
--- `elements::pattern::dotted_sound` meets its contract. A pattern is one where its net is read. Assumes nothing.
+-- `elements::net::dotted_sound` meets its contract. A pattern is one where its net is read. Assumes nothing.
 use borrow.Author.Needs.{needs}
 use Rattle.elements.proofs.CoverLaws.{dotted-nothing, dotted-net}
-use Rattle.elements.proofs.pattern.dotted_sound.Statement.{statement}
-use Rattle.elements.proofs.pattern.dotted_sound.Tie as tie
+use Rattle.elements.proofs.net.dotted_sound.Statement.{statement}
+use Rattle.elements.proofs.net.dotted_sound.Tie as tie
 
 pub dotted-sound-spec : {M : Type 1} → statement M
 dotted-sound-spec =

@@ -1,8 +1,8 @@
--- `elements::pattern::bracket_sound` meets its contract. A pattern is one where its prefix is read. Assumes nothing.
+-- `elements::net::bracket_sound` meets its contract. A pattern is one where its prefix is read. Assumes nothing.
 use borrow.Author.Needs.{needs}
 use Rattle.elements.proofs.CoverLaws.{bracket-nothing, bracket-prefix}
-use Rattle.elements.proofs.pattern.bracket_sound.Statement.{statement}
-use Rattle.elements.proofs.pattern.bracket_sound.Tie as tie
+use Rattle.elements.proofs.net.bracket_sound.Statement.{statement}
+use Rattle.elements.proofs.net.bracket_sound.Tie as tie
 
 pub bracket-sound-spec : {M : Type 1} → statement M
 bracket-sound-spec =

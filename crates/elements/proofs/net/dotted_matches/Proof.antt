@@ -1,8 +1,8 @@
--- `elements::pattern::dotted_matches` meets its contract. An IPv4 address has 32 bits, so that its net covers it where the pattern's test holds. Assumes nothing.
+-- `elements::net::dotted_matches` meets its contract. An IPv4 address has 32 bits, so that its net covers it where the pattern's test holds. Assumes nothing.
 use borrow.Author.Needs.{needs}
 use Rattle.elements.proofs.CoverLaws.{net-covers}
-use Rattle.elements.proofs.pattern.dotted_matches.Statement.{statement}
-use Rattle.elements.proofs.pattern.dotted_matches.Tie as tie
+use Rattle.elements.proofs.net.dotted_matches.Statement.{statement}
+use Rattle.elements.proofs.net.dotted_matches.Tie as tie
 
 pub dotted-matches-spec : {M : Type 1} → statement M
 dotted-matches-spec =

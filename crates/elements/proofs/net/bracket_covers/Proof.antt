@@ -1,8 +1,8 @@
--- `elements::pattern::bracket_covers` meets its contract. The length of a prefix that is read is at most 128. Assumes nothing.
+-- `elements::net::bracket_covers` meets its contract. The length of a prefix that is read is at most 128. Assumes nothing.
 use borrow.Author.Needs.{needs}
 use Rattle.elements.proofs.CoverLaws.{length-fits, covers-nothing, covers-prefix}
-use Rattle.elements.proofs.pattern.bracket_covers.Statement.{statement}
-use Rattle.elements.proofs.pattern.bracket_covers.Tie as tie
+use Rattle.elements.proofs.net.bracket_covers.Statement.{statement}
+use Rattle.elements.proofs.net.bracket_covers.Tie as tie
 
 pub bracket-covers-spec : {M : Type 1} → statement M
 bracket-covers-spec =

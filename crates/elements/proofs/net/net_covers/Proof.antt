@@ -1,8 +1,8 @@
--- `elements::pattern::net_covers` meets its contract. The callee's answer about the net that was read. Assumes nothing.
+-- `elements::net::net_covers` meets its contract. The callee's answer about the net that was read. Assumes nothing.
 use borrow.Author.Needs.{needs}
 use Rattle.elements.proofs.CoverLaws.{cover-net}
-use Rattle.elements.proofs.pattern.net_covers.Statement.{statement}
-use Rattle.elements.proofs.pattern.net_covers.Tie as tie
+use Rattle.elements.proofs.net.net_covers.Statement.{statement}
+use Rattle.elements.proofs.net.net_covers.Tie as tie
 
 pub net-covers-spec : {M : Type 1} → statement M
 net-covers-spec =
