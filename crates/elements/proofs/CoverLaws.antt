@@ -2,21 +2,21 @@
 -- A dotted pattern that ends in a dot is no address and no net/mask, since the last field of either is not empty.
 -- Assumes nothing.
 use Prim.Native.Nat.{ℕ, zero, suc, _+_, _-_, _*_, _/_, _%_, _^_, _<_, _≤_}
-use mathlib.Core.Bool.{Bool, true, false, _&&_, _||_, true≢false}
+use mathlib.Core.Bool.{Bool, true, false, true≢false}
 use mathlib.Core.Bool as Bool
-use mathlib.Core.List.{List, [], _∷_, _++_}
+use mathlib.Core.List.{List, [], _∷_}
 use mathlib.Core.Option.{Option, none, some}
 use mathlib.Core.Path.{_≡_, refl, sym, ap, ap₂, _∙_}
 use native.Mathlib.Nat.{zero-add, add-zero, add-suc, mul-comm, div-add-mod', div-div-eq-div-mul, mod-eq-of-lt, pow-zero, pow-suc, div-one}
 use native.Mathlib.Omega.{arith}
-use borrow.Author.Tests.{eqb-true, eqb-false, eq-eqb, ne-eqb, le-leb, lt-leb, lt-ltb, leb-true}
+use borrow.Author.Tests.{eqb-true, eqb-false, eq-eqb, ne-eqb, lt-ltb, leb-true}
 use lib.Bits.{bitAnd, and-mask}
 use lib.Dec.{eqb, leb, ltb}
 use lib.Pow.{pow-pos, shl-shr}
-use lib.ListN.{length, take, drop, getD, length-drop}
+use lib.ListN.{length, take, drop, getD}
 use lib.Seq.{take-all, take-append-le}
 use Rattle.text.specs.Basics.{if_then_else_, _>>=_, _orElse_, given, holds, isSome, isEmpty, any, all, each}
-use Rattle.text.specs.Text.{bytes, among, lastAmong, startsWith, splitOnce, split, consHead, equal}
+use Rattle.text.specs.Text.{bytes, among, lastAmong, startsWith, splitOnce, split, equal}
 use Rattle.text.specs.Number.{fromDigits, toDigits, numeral, readDecimal}
 use Rattle.text.specs.Scan.{indexOf}
 use Rattle.text.proofs.Digits.{length-toDigits, fromDigits-toDigits, toDigits-fromDigits}

@@ -1,31 +1,30 @@
 -- Laws of the elements of daemon and client lists, as the code reads them.
 -- Assumes nothing.
-use Prim.Native.Nat.{ℕ, zero, suc, _+_, _-_, _<_, _≤_}
+use Prim.Native.Nat.{ℕ, suc, _+_, _-_, _<_, _≤_}
 use Prim.Native.String.{String}
 use mathlib.Core.Bool.{Bool, true, false, not, _&&_, _||_}
 use mathlib.Core.Bool as Bool
 use mathlib.Core.List.{List, [], _∷_, map}
 use mathlib.Core.Option.{Option, none, some}
-use mathlib.Core.Path.{_≡_, refl, sym, ap, ap₂, _∙_}
+use mathlib.Core.Path.{_≡_, refl, sym, ap, _∙_}
 use native.Mathlib.Numerals.{add-one}
 use native.Mathlib.Omega.{arith}
-use borrow.Author.Tests.{ne-eqb, le-leb, lt-leb}
+use borrow.Author.Tests.{le-leb, lt-leb}
 use lib.Dec.{eqb, leb}
 use lib.ListN.{length, take, drop, getD}
-use Rattle.text.specs.Basics.{if_then_else_, _>>=_, _orElse_, given, holds, isSome, any, all, first}
-use Rattle.text.specs.Text.{bytes, among, firstAmong, consFirst, splitOnce, inRange, lower, equal, equalFold, isWord}
+use Rattle.text.specs.Basics.{if_then_else_, _>>=_, _orElse_, given, holds, isSome, any, all}
+use Rattle.text.specs.Text.{bytes, firstAmong, inRange, lower, equal, equalFold, isWord}
 use Rattle.text.specs.Scan.{indexOf}
 use Rattle.text.proofs.ScanLaws.{take-rest, splitOnce-mark, splitOnce-no-mark, eq-of-equal}
-use Rattle.elements.specs.declared.Host.{Host}
 use Rattle.elements.specs.declared.User.{User}
 use Rattle.elements.specs.declared.User.the-variants as U
 use Rattle.elements.specs.declared.Found.{Found}
-use Rattle.elements.specs.declared.Found.the-variants.{No, Yes, Ask}
+use Rattle.elements.specs.declared.Found.the-variants.{No, Ask}
 use Rattle.elements.specs.declared.pattern.Wildcard.{Wildcard}
 use Rattle.elements.specs.declared.pattern.Wildcard.the-variants as W
 use Rattle.elements.specs.declared.element.ElementFault.the-variants as E
-use Rattle.elements.specs.Request.{Endpoint, Request, endpoint, requestOf, nameCase, userCase, wellFormed}
-use Rattle.elements.specs.Pattern.{Pattern, wildcard, isNameByte, hostPattern}
+use Rattle.elements.specs.Request.{Endpoint, Request, requestOf, nameCase, userCase, wellFormed}
+use Rattle.elements.specs.Pattern.{Pattern, isNameByte, hostPattern}
 use Rattle.elements.specs.Element.{Element, halves, reservedStart, isPlainName, daemonName, userHalf, foundIf, daemonParts, clientParts, daemonElement, clientElement, lookAt}
 use Rattle.elements.specs.Code.{elementFault, userFits, wildcardOf, wildcardPattern, matchesPattern, hostMatches, atSign, nameFits, nameEquals, userTest, userFound, askIf, nobody, daemonRequest, clientRequest}
 use Rattle.elements.proofs.TestLaws.{firstAmong-head, indexOf-length}
@@ -60,7 +59,7 @@ module _ (e : List ℕ) (at : ℕ) (is-at : at ≡ atSign e) where
     where
       by : (e : List ℕ) → (atSign e ≡ length e → ⊥) → halves e ≡ some (take (atSign e) e, drop (atSign e + 1) e)
       by [] n = absurd (n refl)
-      by (x ∷ t) n = rw (splitOnce-mark 64 t (indexOf 64 t) refl (omega (arith, indexOf-length 64 t)), add-one, add-one)
+      by (x ∷ t) n = rw (splitOnce-mark 64 t (indexOf 64 t) refl (omega (arith, indexOf-length 64 t)), add-one (indexOf 64 t), add-one (suc (indexOf 64 t)))
 
 -- ## Reserved marks
 

@@ -2,8 +2,8 @@
 -- Assumes nothing.
 use Prim.Native.String.{String}
 use Prim.Native.Nat.{ℕ, zero, suc, _+_, _-_, _*_, _/_, _%_, _^_, _<_, _≤_}
-use mathlib.Core.Bool.{Bool, true, false, _&&_, _||_}
-use mathlib.Core.List.{List, [], _∷_, _++_}
+use mathlib.Core.Bool.{Bool, true, false}
+use mathlib.Core.List.{List, [], _∷_}
 use mathlib.Core.Option.{Option, none, some}
 use mathlib.Core.Path.{_≡_, refl, sym, ap, ap₂, _∙_}
 use native.Mathlib.Nat.{pow-suc, pow-le-pow-right, mod-eq-of-lt}
@@ -12,9 +12,9 @@ use native.Mathlib.Omega.{arith}
 use borrow.Author.Tests.{eqb-true, eqb-false, eq-eqb, ne-eqb, le-leb, lt-leb}
 use lib.Dec.{eqb, leb}
 use lib.ListN.{length, take, drop, getD, length-take, length-drop}
-use lib.Seq.{take-take, getD-drop, drop-drop}
-use Rattle.text.specs.Basics.{if_then_else_, _>>=_, _orElse_, given, any, each}
-use Rattle.text.specs.Text.{bytes, among, lastAmong, splitOnce, split, consHead, equal}
+use lib.Seq.{take-take, drop-drop}
+use Rattle.text.specs.Basics.{if_then_else_, _>>=_, given, any, each}
+use Rattle.text.specs.Text.{among, lastAmong, splitOnce, split, consHead, equal}
 use Rattle.text.specs.Number.{fromDigits, numeral, readDecimal}
 use Rattle.text.specs.Scan.{indexOf, asNumber}
 use Rattle.text.specs.declared.NumberRead.{NumberRead}

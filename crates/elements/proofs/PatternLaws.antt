@@ -1,23 +1,22 @@
 -- Laws of host patterns, by what the code reads a pattern as.
 -- Assumes nothing.
-use Prim.Native.Nat.{ℕ, zero, suc, _+_, _-_, _<_, _≤_}
+use Prim.Native.Nat.{ℕ, _-_, _<_, _≤_}
 use Prim.Native.String.{String}
-use mathlib.Core.Bool.{Bool, true, false, not, _&&_, _||_}
+use mathlib.Core.Bool.{Bool, true, false, not, _&&_}
 use mathlib.Core.Bool as Bool
 use mathlib.Core.List.{List, [], _∷_}
-use mathlib.Core.Option.{Option, none, some}
-use mathlib.Core.Path.{_≡_, refl, sym, ap, ap₂, _∙_}
+use mathlib.Core.Path.{_≡_, refl, sym, ap₂, _∙_}
 use native.Mathlib.Omega.{arith}
 use borrow.Author.Tests.{ne-eqb, le-leb, lt-leb}
-use lib.Dec.{eqb, leb, ltb}
+use lib.Dec.{leb, ltb}
 use lib.ListN.{length, drop, getD}
-use Rattle.text.specs.Basics.{if_then_else_, _orElse_, given, holds, isSome, first, all, any}
+use Rattle.text.specs.Basics.{if_then_else_, _orElse_, given, isSome, first, all, any}
 use Rattle.text.specs.Text.{bytes, isWord, among, firstAmong, lastAmong, inRange, equalFold}
 use Rattle.text.proofs.ScanLaws.{equalFold-lengths}
 use Rattle.elements.specs.declared.pattern.Wildcard.{Wildcard}
 use Rattle.elements.specs.declared.pattern.Wildcard.the-variants as W
 use Rattle.elements.specs.declared.pattern.Form.the-variants as F
-use Rattle.elements.specs.Pattern.{Pattern, wildcard, isNameByte, domainPattern, bracketPattern, dottedPattern, namePattern, hostPattern}
+use Rattle.elements.specs.Pattern.{wildcard, isNameByte, domainPattern, bracketPattern, dottedPattern, namePattern, hostPattern}
 use Rattle.elements.specs.Code.{wildcardOf, formOf, isDottedByte, wildcardPattern, formPattern, matchesPattern, hostMatches, domainCovers, plainCovers}
 use Rattle.elements.specs.Request.{Endpoint, endpoint, nameKnown}
 use Rattle.elements.specs.declared.Host.{Host}

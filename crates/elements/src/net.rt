@@ -1,25 +1,31 @@
-// Patterns of addresses: what the dotted and the bracketed ones write.
-//   read_dotted(e)  == the net and the mask of a pattern of IPv4 addresses
-//   read_bracket(e) == the address and the prefix length of a pattern of IPv6 addresses
+// Patterns of addresses: the dotted ones of IPv4 are read as a net and a mask, the bracketed ones of IPv6 as a prefix.
+//   dotted_sound(e), bracket_sound(e)                 == e is such a pattern
+//   dotted_matches(e, host), bracket_matches(e, host) == e is one that matches the host's address
+use super::Host;
+use address::Addr;
+use address::prefix::in_net;
+use address::prefix::same_prefix_v6;
 use address::read::V6Read;
 use address::read::read_v4;
 use address::read::read_v6;
 use text::NumberRead;
 ghost use mathlib.Core.Path.{_≡_};
 ghost use mathlib.Core.Option.{some};
-ghost use Prim.Native.Nat.{_^_, _<_, _≤_};
+ghost use Prim.Native.Nat.{_+_, _*_, _^_, _<_, _≤_};
+ghost use Rattle.text.specs.Basics.{isSome};
 ghost use Rattle.text.specs.Scan.{asNumber};
-ghost use Rattle.elements.specs.Code.{fieldOf, asNet, leadingNet, fieldsNet, maskNet, pairNet, wholeNet, dottedNet};
-ghost use Rattle.elements.specs.Code.{prefixLength, asPrefix, prefixWith, bracketPrefix};
+ghost use Rattle.elements.specs.Pattern.{bracketPattern, dottedPattern};
+ghost use Rattle.elements.specs.Code.{fieldOf, asNet, leadingNet, fieldsNet, maskNet, pairNet, wholeNet, dottedNet, netCovers, dottedCovers};
+ghost use Rattle.elements.specs.Code.{prefixLength, asPrefix, prefixWith, bracketPrefix, prefixCovers, bracketCovers};
 
 // A net and the mask that an address is put under before it is compared with the net.
-pub enum NetRead {
+enum NetRead {
     Nothing,
     Net(u32, u32),
 }
 
 // An IPv6 address as its two halves, and how many of its leading bits are compared.
-pub enum PrefixRead {
+enum PrefixRead {
     Nothing,
     Prefix(u64, u64, u32),
 }
@@ -117,7 +123,7 @@ fn read_whole(e: &[u8]) -> NetRead
 }
 
 // The net of a dotted pattern: fields where it ends in a dot, else an address or net/mask.
-pub fn read_dotted(e: &[u8]) -> NetRead
+fn read_dotted(e: &[u8]) -> NetRead
     ensures { λ r. ⌜ r ≡ asNet (dottedNet (now (e .entry))) ⌝ }
 {
     if e.len() == 0 {
@@ -158,7 +164,7 @@ fn pair_prefix(address: V6Read, length: NumberRead) -> PrefixRead
 }
 
 // The prefix of a bracketed pattern: what stands between its first byte and the first closing bracket, and after that.
-pub fn read_bracket(e: &[u8]) -> PrefixRead
+fn read_bracket(e: &[u8]) -> PrefixRead
     ensures { λ r. ⌜ r ≡ asPrefix (bracketPrefix (now (e .entry))) ⌝ }
 {
     if e.len() == 0 {
@@ -171,4 +177,71 @@ pub fn read_bracket(e: &[u8]) -> PrefixRead
     }
     let after = i + 1;
     pair_prefix(read_v6(&s[..i]), read_length(&s[after..]))
+}
+
+// Whether e is a dotted pattern.
+pub fn dotted_sound(e: &[u8]) -> bool
+    ensures { λ r. ⌜ r ≡ isSome (dottedPattern (now (e .entry))) ⌝ }
+{
+    let net = read_dotted(e);
+    match net {
+        NetRead::Nothing => false,
+        NetRead::Net(_, _) => true,
+    }
+}
+
+// Whether an address lies in a net that was read.
+fn net_covers(net: NetRead, a: u32) -> bool
+    ensures { λ r. ⌜ r ≡ netCovers net a ⌝ }
+{
+    match net {
+        NetRead::Nothing => false,
+        NetRead::Net(net, mask) => in_net(net, mask, a),
+    }
+}
+
+// Whether the dotted pattern e matches: an IPv4 address, never a name.
+pub fn dotted_matches(e: &[u8], host: Host) -> bool
+    ensures { λ r. ⌜ r ≡ dottedCovers (now (e .entry)) host ⌝ }
+{
+    let addr = host.addr;
+    match addr {
+        Addr::Unknown => false,
+        Addr::V4(a) => net_covers(read_dotted(e), a),
+        Addr::V6(_, _) => false,
+    }
+}
+
+// Whether e is a bracketed pattern.
+pub fn bracket_sound(e: &[u8]) -> bool
+    ensures { λ r. ⌜ r ≡ isSome (bracketPattern (now (e .entry))) ⌝ }
+{
+    let prefix = read_bracket(e);
+    match prefix {
+        PrefixRead::Nothing => false,
+        PrefixRead::Prefix(_, _, _) => true,
+    }
+}
+
+// Whether the bracketed pattern e covers an IPv6 address.
+fn bracket_covers(e: &[u8], high: u64, low: u64) -> bool
+    ensures { λ r. ⌜ r ≡ prefixCovers (now (e .entry)) (high * 2 ^ 64 + low) ⌝ }
+{
+    let prefix = read_bracket(e);
+    match prefix {
+        PrefixRead::Nothing => false,
+        PrefixRead::Prefix(h, l, m) => same_prefix_v6(h, l, high, low, m),
+    }
+}
+
+// Whether the bracketed pattern e matches: an IPv6 address, in the first bits.
+pub fn bracket_matches(e: &[u8], host: Host) -> bool
+    ensures { λ r. ⌜ r ≡ bracketCovers (now (e .entry)) host ⌝ }
+{
+    let addr = host.addr;
+    match addr {
+        Addr::Unknown => false,
+        Addr::V4(_) => false,
+        Addr::V6(high, low) => bracket_covers(e, high, low),
+    }
 }

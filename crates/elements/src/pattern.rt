@@ -1,24 +1,22 @@
-// Host patterns: whether a text is one, and whether one matches a host.
+// Host patterns: wildcards, domains and names, and which form a pattern has.
+//   host_sound(e)               == e is a host pattern
+//   host_matches(e, host, name) == e is one that matches the host
 use super::Host;
 use super::Name;
-use super::net::NetRead;
-use super::net::PrefixRead;
-use super::net::read_bracket;
-use super::net::read_dotted;
+use super::net::bracket_matches;
+use super::net::bracket_sound;
+use super::net::dotted_matches;
+use super::net::dotted_sound;
 use address::Addr;
-use address::prefix::in_net;
-use address::prefix::same_prefix_v6;
 use text::equal_fold;
 ghost use mathlib.Core.Path.{_≡_};
 ghost use mathlib.Core.Bool.{true, false, not, _&&_, _||_};
 ghost use mathlib.Core.List.{[]};
 ghost use Rattle.text.specs.Basics.{isSome, any, all};
 ghost use Rattle.text.specs.Text.{among};
-ghost use Prim.Native.Nat.{_+_, _*_, _^_};
 ghost use Rattle.elements.specs.Request.{endpoint, nameCase, nameKnown, addrKnown};
-ghost use Rattle.elements.specs.Pattern.{isNameByte, domainPattern, bracketPattern, dottedPattern, namePattern, hostPattern};
-ghost use Rattle.elements.specs.Code.{wildcardOf, formOf, isDottedByte, formPattern, matchesPattern, hostMatches};
-ghost use Rattle.elements.specs.Code.{domainCovers, plainCovers, netCovers, dottedCovers, prefixCovers, bracketCovers};
+ghost use Rattle.elements.specs.Pattern.{isNameByte, domainPattern, namePattern, hostPattern};
+ghost use Rattle.elements.specs.Code.{wildcardOf, formOf, isDottedByte, formPattern, matchesPattern, hostMatches, domainCovers, plainCovers};
 
 // The wildcard that a text is.
 pub enum Wildcard {
@@ -271,73 +269,6 @@ fn plain_matches(e: &[u8], host: Host, name: &[u8]) -> bool
     ensures { λ r. ⌜ r ≡ matchesPattern (namePattern (now (e .entry))) (endpoint host (now (name .entry))) ⌝ }
 {
     name_known(host) & plain_covers(e, name)
-}
-
-// Whether e is a dotted pattern.
-fn dotted_sound(e: &[u8]) -> bool
-    ensures { λ r. ⌜ r ≡ isSome (dottedPattern (now (e .entry))) ⌝ }
-{
-    let net = read_dotted(e);
-    match net {
-        NetRead::Nothing => false,
-        NetRead::Net(_, _) => true,
-    }
-}
-
-// Whether an address lies in a net that was read.
-fn net_covers(net: NetRead, a: u32) -> bool
-    ensures { λ r. ⌜ r ≡ netCovers net a ⌝ }
-{
-    match net {
-        NetRead::Nothing => false,
-        NetRead::Net(net, mask) => in_net(net, mask, a),
-    }
-}
-
-// Whether the dotted pattern e matches: an IPv4 address, never a name.
-fn dotted_matches(e: &[u8], host: Host) -> bool
-    ensures { λ r. ⌜ r ≡ dottedCovers (now (e .entry)) host ⌝ }
-{
-    let addr = host.addr;
-    match addr {
-        Addr::Unknown => false,
-        Addr::V4(a) => net_covers(read_dotted(e), a),
-        Addr::V6(_, _) => false,
-    }
-}
-
-// Whether e is a bracketed pattern.
-fn bracket_sound(e: &[u8]) -> bool
-    ensures { λ r. ⌜ r ≡ isSome (bracketPattern (now (e .entry))) ⌝ }
-{
-    let prefix = read_bracket(e);
-    match prefix {
-        PrefixRead::Nothing => false,
-        PrefixRead::Prefix(_, _, _) => true,
-    }
-}
-
-// Whether the bracketed pattern e covers an IPv6 address.
-fn bracket_covers(e: &[u8], high: u64, low: u64) -> bool
-    ensures { λ r. ⌜ r ≡ prefixCovers (now (e .entry)) (high * 2 ^ 64 + low) ⌝ }
-{
-    let prefix = read_bracket(e);
-    match prefix {
-        PrefixRead::Nothing => false,
-        PrefixRead::Prefix(h, l, m) => same_prefix_v6(h, l, high, low, m),
-    }
-}
-
-// Whether the bracketed pattern e matches: an IPv6 address, in the first bits.
-fn bracket_matches(e: &[u8], host: Host) -> bool
-    ensures { λ r. ⌜ r ≡ bracketCovers (now (e .entry)) host ⌝ }
-{
-    let addr = host.addr;
-    match addr {
-        Addr::Unknown => false,
-        Addr::V4(_) => false,
-        Addr::V6(high, low) => bracket_covers(e, high, low),
-    }
 }
 
 // Whether e, no wildcard, is a pattern.
