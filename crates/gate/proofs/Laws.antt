@@ -12,6 +12,13 @@ use Rattle.address.specs.declared.Addr.{Addr}
 use Rattle.address.specs.declared.Addr.the-variants as A
 use Rattle.elements.specs.declared.Name.{Name}
 use Rattle.elements.specs.declared.Host.{Host}
+use Rattle.elements.specs.declared.User.{User}
+use Rattle.elements.specs.Request.{endpoint, requestOf}
+use Rattle.rules.specs.declared.Answer.{Answer}
+use Rattle.rules.specs.declared.Ruling.{Ruling as VerdictRuling}
+use Rattle.rules.specs.declared.Ruling.the-variants as R
+use Rattle.rules.specs.Search as Search
+use Rattle.rules.specs.Search.{decide}
 use Rattle.byuid.specs.declared.Decision.{Decision as ByuidDecision}
 use Rattle.byuid.specs.declared.Ruling.{Ruling as ByuidRuling}
 use Rattle.byuid.specs.Byuid as Byuid
@@ -29,9 +36,12 @@ use Rattle.gate.specs.declared.NameRead.{NameRead}
 use Rattle.gate.specs.declared.NameRead.the-variants as OfName
 use Rattle.gate.specs.declared.AddressRead.{AddressRead}
 use Rattle.gate.specs.declared.AddressRead.the-variants as OfAddress
+use Rattle.gate.specs.declared.HostRead.{HostRead}
 use Rattle.gate.specs.declared.HostRead.the-variants as OfHost
-use Rattle.gate.specs.Gate.{nameState, addressOf, hostOf, portBy, addressBy, byuidAnswer, bind, illFormedBind, knownBind, bindBy, portaclAnswer}
-use Rattle.gate.specs.Code.{asName, asAddress, asHost, asProtocol, byuidNumbers, portaclNumbers}
+use Rattle.gate.specs.declared.UserRead.{UserRead}
+use Rattle.gate.specs.declared.UserRead.the-variants as OfUser
+use Rattle.gate.specs.Gate.{nameState, addressOf, hostOf, portBy, addressBy, byuidAnswer, bind, illFormedBind, knownBind, bindBy, portaclAnswer, illFormed, requestBy, answerNumbers, verdictAnswer}
+use Rattle.gate.specs.Code.{asName, asAddress, asHost, asProtocol, asUser, byuidNumbers, portaclNumbers, verdictNumbers}
 
 name-none : (o : Option Name) → asName o ≡ OfName.Bad → o ≡ none
 unfolding asName
@@ -113,3 +123,58 @@ module _ (t : List ℕ) (s : Settings) (uid port : ℕ) (groups : List ℕ) (a :
   unfolding asProtocol knownBind
   portacl-known none x is-x p f e = let z : _≡_ {A = ℕ} 0 1 = cc in absurd (omega arith)
   portacl-known (some q) x is-x p f e = let g : q ≡ p = cc in rw g e
+
+-- ## The verdict
+
+pub verdict-answered : (x : VerdictRuling) (b : Answer) (a : GateAnswer) → x ≡ R.Answered b → a ≡ answerNumbers b → a ≡ verdictNumbers x
+unfolding verdictNumbers
+verdict-answered x b a e f = rw e f
+
+pub verdict-numbers : (o : Outcome Answer) (x : VerdictRuling) (a : GateAnswer) → x ≡ Search.rulingOf o → a ≡ verdictNumbers x → a ≡ verdictAnswer o
+unfolding verdictNumbers verdictAnswer
+verdict-numbers (refused r) x a e f = rw e at f
+verdict-numbers (answered b) x a e f = rw e at f
+
+host-none : (o : Option Host) (x : HostRead) → x ≡ asHost o → x ≡ OfHost.Bad → o ≡ none
+unfolding asHost
+host-none none x e f = refl
+host-none (some h) x e f = let z : _≡_ {A = ℕ} 0 1 = cc in absurd (omega arith)
+
+host-some : (o : Option Host) (x : HostRead) → x ≡ asHost o → (h : Host) → x ≡ OfHost.Host h → o ≡ some h
+unfolding asHost
+host-some none x e h f = let z : _≡_ {A = ℕ} 0 1 = cc in absurd (omega arith)
+host-some (some g) x e h f = cc
+
+user-none : (o : Option User) (x : UserRead) → x ≡ asUser o → x ≡ OfUser.Bad → o ≡ none
+unfolding asUser
+user-none none x e f = refl
+user-none (some u) x e f = let z : _≡_ {A = ℕ} 0 1 = cc in absurd (omega arith)
+
+user-some : (o : Option User) (x : UserRead) → x ≡ asUser o → (u : User) → x ≡ OfUser.State u → o ≡ some u
+unfolding asUser
+user-some none x e u f = let z : _≡_ {A = ℕ} 0 1 = cc in absurd (omega arith)
+user-some (some v) x e u f = cc
+
+-- a request by numbers, the first of which outside its kinds makes it one that nothing fits
+module _ (allow deny d cn sn un : List ℕ) (c s : Option Host) (u : Option User) (a : GateAnswer) where
+  abbrev Answers : Type 0
+  Answers = a ≡ verdictAnswer (decide allow deny (requestBy d c cn s sn u un))
+
+  module _ (x : HostRead) (is-x : x ≡ asHost c) where
+    pub verdict-no-client : x ≡ OfHost.Bad → a ≡ verdictAnswer (decide allow deny illFormed) → Answers
+    unfolding requestBy
+    verdict-no-client f e = rw (host-none c x is-x f) e
+
+    module _ (h : Host) (known : x ≡ OfHost.Host h) (y : HostRead) (is-y : y ≡ asHost s) where
+      pub verdict-no-server : y ≡ OfHost.Bad → a ≡ verdictAnswer (decide allow deny illFormed) → Answers
+      unfolding requestBy
+      verdict-no-server f e = rw (host-some c x is-x h known, host-none s y is-y f) e
+
+      module _ (k : Host) (also : y ≡ OfHost.Host k) (z : UserRead) (is-z : z ≡ asUser u) where
+        pub verdict-no-user : z ≡ OfUser.Bad → a ≡ verdictAnswer (decide allow deny illFormed) → Answers
+        unfolding requestBy
+        verdict-no-user f e = rw (host-some c x is-x h known, host-some s y is-y k also, user-none u z is-z f) e
+
+        pub verdict-known : (w : User) → z ≡ OfUser.State w → a ≡ verdictAnswer (decide allow deny (requestOf d (endpoint h cn) (endpoint k sn) w un)) → Answers
+        unfolding requestBy
+        verdict-known w f e = rw (host-some c x is-x h known, host-some s y is-y k also, user-some u z is-z w f) e

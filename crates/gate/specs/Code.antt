@@ -5,8 +5,10 @@ use Rattle.byuid.specs.declared.Ruling.{Ruling as ByuidRuling}
 use Rattle.byuid.specs.declared.Ruling.the-variants as B
 use Rattle.portacl.specs.declared.Ruling.{Ruling as PortaclRuling}
 use Rattle.portacl.specs.declared.Ruling.the-variants as P
+use Rattle.rules.specs.declared.Ruling.{Ruling as VerdictRuling}
+use Rattle.rules.specs.declared.Ruling.the-variants as R
 use Rattle.gate.specs.declared.GateAnswer.{GateAnswer}
-use Rattle.gate.specs.Gate.{gateAnswer, refusalAnswer, byuidCode, portaclCode}
+use Rattle.gate.specs.Gate.{gateAnswer, refusalAnswer, answerNumbers, byuidCode, portaclCode}
 use Rattle.elements.specs.declared.Name.{Name}
 use Rattle.elements.specs.declared.User.{User}
 use Rattle.portacl.specs.declared.Protocol.{Protocol}
@@ -50,3 +52,7 @@ byuidNumbers (B.Answered d) = gateAnswer 0 0 0 (byuidCode d) 0 0 0
 unfoldable pub portaclNumbers : PortaclRuling → GateAnswer
 portaclNumbers (P.Refused r) = refusalAnswer r
 portaclNumbers (P.Answered d) = gateAnswer 0 0 0 (portaclCode d) 0 0 0
+
+unfoldable pub verdictNumbers : VerdictRuling → GateAnswer
+verdictNumbers (R.Refused r) = refusalAnswer r
+verdictNumbers (R.Answered a) = answerNumbers a

@@ -106,9 +106,12 @@ verdictCode Ver.Granted = 1
 verdictCode Ver.Denied = 2
 verdictCode Ver.Ask = 3
 
+abbrev pub answerNumbers : Answer → GateAnswer
+answerNumbers a = gateAnswer 0 0 (a .line) (verdictCode (a .verdict)) (fileSection (a .file)) (a .command .place) (a .command .len)
+
 unfoldable pub verdictAnswer : Outcome Answer → GateAnswer
 verdictAnswer (refused r) = refusalAnswer r
-verdictAnswer (answered a) = gateAnswer 0 0 (a .line) (verdictCode (a .verdict)) (fileSection (a .file)) (a .command .place) (a .command .len)
+verdictAnswer (answered a) = answerNumbers a
 
 abbrev pub byuidCode : ByuidDecision → ℕ
 byuidCode B.Granted = 1

@@ -10,7 +10,7 @@ use portacl::Settings;
 ghost use mathlib.Core.Path.{_≡_};
 ghost use mathlib.Core.Option.{Option};
 ghost use Rattle.elements.specs.Request.{endpoint, requestOf};
-ghost use Rattle.rules.specs.Search.{decide as decideBy};
+ghost use Rattle.rules.specs.Search.{decide as decideBy, fileSection};
 ghost use Rattle.byuid.specs.Byuid.{decideByuid};
 ghost use Rattle.portacl.specs.Portacl.{decidePortacl};
 ghost use Rattle.gate.specs.Gate as Gate;
@@ -286,4 +286,151 @@ pub extern "C" fn gate_portacl(
         return portacl_bad(text, settings, uid);
     }
     portacl_by(text, settings, uid, groups, protocol, port as u16)
+}
+
+fn verdict_code(v: rules::Verdict) -> u32
+    ensures { λ r. ⌜ r ≡ Gate.verdictCode v ⌝ }
+{
+    match v {
+        rules::Verdict::Granted => 1,
+        rules::Verdict::Denied => 2,
+        rules::Verdict::Ask => 3,
+    }
+}
+
+fn file_section(f: rules::File) -> u32
+    ensures { λ r. ⌜ r ≡ fileSection f ⌝ }
+{
+    match f {
+        rules::File::Neither => 0,
+        rules::File::Allow => 1,
+        rules::File::Deny => 2,
+    }
+}
+
+fn verdict_word(a: rules::Answer) -> GateAnswer
+    ensures { λ r. ⌜ r ≡ Gate.answerNumbers a ⌝ }
+{
+    let verdict = a.verdict;
+    let file = a.file;
+    let command = a.command;
+    GateAnswer {
+        number: 0,
+        section: 0,
+        line: a.line as u64,
+        word: verdict_code(verdict),
+        file: file_section(file),
+        place: command.place as u64,
+        len: command.len as u64,
+    }
+}
+
+fn verdict_numbers(r: rules::Ruling) -> GateAnswer
+    ensures { λ a. ⌜ a ≡ Code.verdictNumbers r ⌝ }
+{
+    match r {
+        rules::Ruling::Refused(refusal) => refused(refusal),
+        rules::Ruling::Answered(answer) => verdict_word(answer),
+    }
+}
+
+fn verdict_at(
+    allow: &[u8],
+    deny: &[u8],
+    daemon: &[u8],
+    client: Host,
+    client_name: &[u8],
+    server: Host,
+    server_name: &[u8],
+    user: User,
+    user_name: &[u8],
+) -> GateAnswer
+    ensures { λ r.
+        ⌜ r
+        ≡ Gate.verdictAnswer
+        (decideBy (now (allow .entry)) (now (deny .entry))
+        (requestOf (now (daemon .entry)) (endpoint client (now («client_name» .entry))) (endpoint server (now («server_name» .entry))) user (now («user_name» .entry)))) ⌝ }
+{
+    verdict_numbers(rules::decide(
+        allow,
+        deny,
+        daemon,
+        client,
+        client_name,
+        server,
+        server_name,
+        user,
+        user_name,
+    ))
+}
+
+// The verdict on a request that nothing fits: what is left is the refusals.
+fn verdict_bad(allow: &[u8], deny: &[u8]) -> GateAnswer
+    ensures { λ r. ⌜ r ≡ Gate.verdictAnswer (decideBy (now (allow .entry)) (now (deny .entry)) Gate.illFormed) ⌝ }
+{
+    let nobody = Host {
+        name: Name::Unknown,
+        addr: Addr::Unknown,
+    };
+    verdict_at(
+        allow,
+        deny,
+        b"",
+        nobody,
+        b"",
+        nobody,
+        b"",
+        User::Unknown,
+        b"",
+    )
+}
+
+// The verdict.
+#[no_mangle]
+pub extern "C" fn gate_verdict(
+    allow: &[u8],
+    deny: &[u8],
+    daemon: &[u8],
+    client_state: u32,
+    client_kind: u32,
+    client_high: u64,
+    client_low: u64,
+    client_name: &[u8],
+    server_state: u32,
+    server_kind: u32,
+    server_high: u64,
+    server_low: u64,
+    server_name: &[u8],
+    user: u32,
+    user_name: &[u8],
+) -> GateAnswer
+    ensures { λ r.
+        ⌜ r
+        ≡ Gate.verdictAnswer
+        (decideBy (now (allow .entry)) (now (deny .entry))
+        (Gate.requestBy (now (daemon .entry)) (Gate.hostOf «client_state» «client_kind» «client_high» «client_low») (now («client_name» .entry))
+        (Gate.hostOf «server_state» «server_kind» «server_high» «server_low») (now («server_name» .entry)) (Gate.userState user) (now («user_name» .entry)))) ⌝ }
+{
+    match host(client_state, client_kind, client_high, client_low) {
+        HostRead::Bad => verdict_bad(allow, deny),
+        HostRead::Host(client) => match host(server_state, server_kind, server_high, server_low) {
+            HostRead::Bad => verdict_bad(allow, deny),
+            HostRead::Host(server) => match user_state(user) {
+                UserRead::Bad => verdict_bad(allow, deny),
+                UserRead::State(who) => {
+                    verdict_at(
+                        allow,
+                        deny,
+                        daemon,
+                        client,
+                        client_name,
+                        server,
+                        server_name,
+                        who,
+                        user_name,
+                    )
+                }
+            },
+        },
+    }
 }
