@@ -20,11 +20,12 @@ use Rattle.text.proofs.Canonical.{numeral-digit, length-numeral-below}
 use Rattle.text.proofs.Digits.{length-toDigits}
 use Rattle.text.proofs.Numeral.{length-numeral}
 use Rattle.text.proofs.PasteLaws.{length-putAt, put-put}
+use Rattle.text.proofs.ScanLaws.{take-rest}
 use Rattle.address.specs.declared.Addr.{Addr}
 use Rattle.address.specs.declared.Addr.the-variants as A
 use Rattle.address.specs.declared.write.Run.{Run}
 use Rattle.address.specs.Address.{hexGroups, compress, textV4, textV6, addrText}
-use Rattle.address.specs.WriteCode.{runAt, longerZeros, leadingZeros, longerRun, longestFrom, longestRun}
+use Rattle.address.specs.WriteCode.{colonGroups, runAt, longerZeros, leadingZeros, longerRun, longestFrom, longestRun}
 
 -- ## Texts one after the other
 
@@ -40,12 +41,32 @@ pub wrote-byte : (d : List ℕ) (at x : ℕ) → at + 1 ≤ length d → Wrote d
 unfolding putAt
 wrote-byte d at x h = (refl, rw (set-split d at x (omega arith), add-one) (sym (append-snoc (take at d) x (drop (suc at) d))))
 
-module _ (d o s t : List ℕ) (at m : ℕ) (w : Wrote d o s at m) (room : at + length (s ++ t) ≤ length d) where
-  pub wrote-room : m + length t ≤ length o
-  wrote-room = let l = length-append s t in rw (w .0, w .1, length-putAt d s at (omega arith)) (omega arith)
+-- a hex digit, below 10 and from 10 on
+pub wrote-low : (d : List ℕ) (at x : ℕ) → at + 1 ≤ length d → x < 10 → Wrote d (set d at (48 + x)) (digitByte x ∷ []) at (at + 1)
+wrote-low d at x h l = rw (lt-ltb x 10 l) (wrote-byte d at (48 + x) h)
 
-  pub wrote-append : (p : List ℕ) (n : ℕ) → Wrote o p t m n → Wrote d p (s ++ t) at n
-  wrote-append p n v = let l = length-append s t in (omega (arith, v .0, w .0), put-put d o p s t at m (v .1) (w .1) (w .0) (omega arith))
+pub wrote-high : (d : List ℕ) (at x : ℕ) → at + 1 ≤ length d → 10 ≤ x → Wrote d (set d at (97 + (x - 10))) (digitByte x ∷ []) at (at + 1)
+wrote-high d at x h l = rw (le-ltb x 10 l) (wrote-byte d at (97 + (x - 10)) h)
+
+-- the text t is a, which is written first, and then u
+module _ (d t a u : List ℕ) (at : ℕ) (whole : t ≡ a ++ u) (room : at + length t ≤ length d) where
+  pub front-room : at + length a ≤ length d
+  front-room = omega (arith, ap length whole, length-append a u)
+
+  module _ (o : List ℕ) (m : ℕ) (w : Wrote d o a at m) where
+    pub rest-room : m + length u ≤ length o
+    rest-room = rw (w .0, w .1, length-putAt d a at front-room) (omega (arith, ap length whole, length-append a u))
+
+    pub rest-all : (p : List ℕ) (n : ℕ) → Wrote o p u m n → Wrote d p t at n
+    rest-all p n v = rw whole (omega (arith, v .0, w .0, length-append a u), put-put d o p a u at m (v .1) (w .1) (w .0) front-room)
+
+-- a byte first
+module _ (d t : List ℕ) (at x : ℕ) (room : at + length (x ∷ t) ≤ length d) where
+  pub byte-room : at + 1 + length t ≤ length (set d at x)
+  byte-room = rest-room d (x ∷ t) (x ∷ []) t at refl room (set d at x) (at + 1) (wrote-byte d at x (omega arith))
+
+  pub byte-all : (p : List ℕ) (n : ℕ) → Wrote (set d at x) p t (at + 1) n → Wrote d p (x ∷ t) at n
+  byte-all = rest-all d (x ∷ t) (x ∷ []) t at refl room (set d at x) (at + 1) (wrote-byte d at x (omega arith))
 
 -- ## Hex groups
 
@@ -53,25 +74,73 @@ numeral-div : (b k n : ℕ) → b ≤ n → numeral b (suc k) n ≡ numeral b k 
 unfolding numeral
 numeral-div b k n h = rw (le-ltb n b h)
 
-pub numeral-two : (n : ℕ) → 16 ≤ n → n < 256 → numeral 16 2 n ≡ (digitByte (n / 16) ∷ []) ++ (digitByte (n % 16) ∷ [])
-numeral-two n h l = rw (numeral-div 16 1 n h, numeral-digit 16 0 (n / 16) (omega arith))
+-- a number of at most two digits
+module _ (n : ℕ) (small : n < 256) where
+  pub numeral-one : n < 16 → numeral 16 2 n ≡ digitByte n ∷ []
+  numeral-one h = numeral-digit 16 1 n h
 
-pub numeral-pair : (n : ℕ) → n < 256 → numeral 16 4 n ≡ numeral 16 2 n
-numeral-pair n l = by (ltb n 16) refl
-  where
-    by : (t : Bool) → ltb n 16 ≡ t → numeral 16 4 n ≡ numeral 16 2 n
-    by true e = rw (numeral-digit 16 3 n (ltb-true n 16 e), numeral-digit 16 1 n (ltb-true n 16 e))
-    by false e =
-        let h : 16 ≤ n = ltb-false n 16 e in
-        rw (numeral-div 16 3 n h, numeral-div 16 1 n h, numeral-digit 16 2 (n / 16) (omega arith), numeral-digit 16 0 (n / 16) (omega arith))
+  pub numeral-two : 16 ≤ n → numeral 16 2 n ≡ (digitByte (n / 16) ∷ []) ++ (digitByte (n % 16) ∷ [])
+  numeral-two h = rw (numeral-div 16 1 n h, numeral-digit 16 0 (n / 16) (omega arith))
 
-pub numeral-four : (n : ℕ) → 256 ≤ n → numeral 16 4 n ≡ numeral 16 2 (n / 256) ++ (digitByte (n / 16 % 16) ∷ []) ++ (digitByte (n % 16) ∷ [])
-numeral-four n h = rw (numeral-div 16 3 n (omega arith), numeral-div 16 2 (n / 16) (omega arith), div-div-eq-div-mul n 16 16)
+  pub numeral-pair : numeral 16 4 n ≡ numeral 16 2 n
+  numeral-pair = by (ltb n 16) refl
+    where
+      by : (t : Bool) → ltb n 16 ≡ t → numeral 16 4 n ≡ numeral 16 2 n
+      by true e = rw (numeral-digit 16 3 n (ltb-true n 16 e), numeral-digit 16 1 n (ltb-true n 16 e))
+      by false e =
+          let h : 16 ≤ n = ltb-false n 16 e in
+          rw (numeral-div 16 3 n h, numeral-div 16 1 n h, numeral-digit 16 2 (n / 16) (omega arith), numeral-digit 16 0 (n / 16) (omega arith))
 
--- groups, a colon before each
-unfoldable pub colonGroups : List ℕ → List ℕ
-colonGroups [] = []
-colonGroups (g ∷ gs) = bytes ":" ++ numeral 16 4 g ++ colonGroups gs
+-- one of more: its last two digits
+pub numeral-four : (n : ℕ) → 256 ≤ n → numeral 16 4 n ≡ numeral 16 2 (n / 256) ++ ((digitByte (n / 16 % 16) ∷ []) ++ (digitByte (n % 16) ∷ []))
+numeral-four n h =
+    rw (numeral-div 16 3 n (omega arith), numeral-div 16 2 (n / 16) (omega arith), div-div-eq-div-mul n 16 16)
+    (append-assoc (numeral 16 2 (n / 256)) (digitByte (n / 16 % 16) ∷ []) (digitByte (n % 16) ∷ []))
+
+module _ (d : List ℕ) (at n : ℕ) where
+  module _ (small : n < 256) (room : at + length (numeral 16 2 n) ≤ length d) where
+    pub pair-room : at + 1 ≤ length d
+    pair-room = omega (arith, length-numeral 16 2 n .1 (omega arith))
+
+    pub pair-one : n < 16 → (o : List ℕ) (m : ℕ) → Wrote d o (digitByte n ∷ []) at m → Wrote d o (numeral 16 2 n) at m
+    pair-one h o m w = rw (numeral-one n small h) w
+
+    module _ (h : 16 ≤ n) (o : List ℕ) (m : ℕ) (w : Wrote d o (digitByte (n / 16) ∷ []) at m) where
+      pub pair-last-room : m + 1 ≤ length o
+      pair-last-room = rest-room d (numeral 16 2 n) (digitByte (n / 16) ∷ []) (digitByte (n % 16) ∷ []) at (numeral-two n small h) room o m w
+
+      pub pair-two : (p : List ℕ) (k : ℕ) → Wrote o p (digitByte (n % 16) ∷ []) m k → Wrote d p (numeral 16 2 n) at k
+      pair-two = rest-all d (numeral 16 2 n) (digitByte (n / 16) ∷ []) (digitByte (n % 16) ∷ []) at (numeral-two n small h) room o m w
+
+  module _ (room : at + length (numeral 16 4 n) ≤ length d) where
+    pub group-pair-room : n < 256 → at + length (numeral 16 2 n) ≤ length d
+    group-pair-room h = rw (← (numeral-pair n h)) room
+
+    pub group-pair : n < 256 → (o : List ℕ) (m : ℕ) → Wrote d o (numeral 16 2 n) at m → Wrote d o (numeral 16 4 n) at m
+    group-pair h o m w = rw (numeral-pair n h) w
+
+    module _ (h : 256 ≤ n) where
+      abbrev last-two : List ℕ
+      last-two = (digitByte (n / 16 % 16) ∷ []) ++ (digitByte (n % 16) ∷ [])
+
+      pub group-first-room : at + length (numeral 16 2 (n / 256)) ≤ length d
+      group-first-room = front-room d (numeral 16 4 n) (numeral 16 2 (n / 256)) last-two at (numeral-four n h) room
+
+      module _ (o : List ℕ) (m : ℕ) (w : Wrote d o (numeral 16 2 (n / 256)) at m) where
+        left-two : m + 2 ≤ length o
+        left-two = rest-room d (numeral 16 4 n) (numeral 16 2 (n / 256)) last-two at (numeral-four n h) room o m w
+
+        pub group-third-room : m + 1 ≤ length o
+        group-third-room = omega (arith, left-two)
+
+        module _ (p : List ℕ) (k : ℕ) (v : Wrote o p (digitByte (n / 16 % 16) ∷ []) m k) where
+          pub group-last-room : k + 1 ≤ length p
+          group-last-room = rest-room o last-two (digitByte (n / 16 % 16) ∷ []) (digitByte (n % 16) ∷ []) m refl left-two p k v
+
+          pub group-four : (q : List ℕ) (i : ℕ) → Wrote p q (digitByte (n % 16) ∷ []) k i → Wrote d q (numeral 16 4 n) at i
+          group-four q i u =
+              rest-all d (numeral 16 4 n) (numeral 16 2 (n / 256)) last-two at (numeral-four n h) room o m w q i
+              (rest-all o last-two (digitByte (n / 16 % 16) ∷ []) (digitByte (n % 16) ∷ []) m refl left-two p k v q i u)
 
 hexGroups-cons : (g : ℕ) (gs : List ℕ) → hexGroups (g ∷ gs) ≡ numeral 16 4 g ++ colonGroups gs
 unfolding intercalate colonGroups
@@ -88,59 +157,73 @@ unfolding intercalate
 length-hexGroups [] = omega arith
 length-hexGroups (g ∷ gs) = rw (hexGroups-cons g gs, length-append (numeral 16 4 g) (colonGroups gs)) (omega (arith, length-numeral 16 4 g .0, length-colonGroups gs))
 
--- the output o is d with the first i groups of gs, at least one, written from `at` on; p is the place after them
+-- the first i groups of gs are written into d from `at` on, which gave o; p is the place after them
 pub record Groups (d o gs : List ℕ) (at p i : ℕ) : Type 0 where
   pub done : List ℕ
   pub wrote : Wrote d o done at p
-  pub whole : hexGroups gs ≡ done ++ colonGroups (drop i gs)
+  pub whole : colonGroups gs ≡ done ++ colonGroups (drop i gs)
   pub long : length o ≡ length d
   pub within : i ≤ length gs
 
-pub groups-none : (d gs : List ℕ) (at : ℕ) → length gs ≡ 0 → Wrote d d (hexGroups gs) at at
-unfolding intercalate
-groups-none d [] at e = wrote-nil d at
-groups-none d (g ∷ gs) at e = absurd (omega arith)
+pub groups-start : (d gs : List ℕ) (at : ℕ) → Groups d d gs at at 0
+groups-start d gs at = record { done = []; wrote = wrote-nil d at; whole = refl; long = refl; within = omega arith }
 
-module _ (d gs : List ℕ) (at : ℕ) (room : at + length (hexGroups gs) ≤ length d) where
-  split-first : (length gs ≡ 0 → ⊥) → hexGroups gs ≡ numeral 16 4 (getD gs 0 0) ++ colonGroups (drop 1 gs)
-  split-first n = by gs n
-    where
-      by : (gs : List ℕ) → (length gs ≡ 0 → ⊥) → hexGroups gs ≡ numeral 16 4 (getD gs 0 0) ++ colonGroups (drop 1 gs)
-      by [] n = absurd (n refl)
-      by (g ∷ gs) n = hexGroups-cons g gs
+colonGroups-next : (gs : List ℕ) (i : ℕ) → i < length gs → colonGroups (drop i gs) ≡ (bytes ":" ++ numeral 16 4 (getD gs i 0)) ++ colonGroups (drop (i + 1) gs)
+unfolding colonGroups
+colonGroups-next gs i h = rw (drop-cons gs i 0, add-one)
 
-  pub groups-first-room : (length gs ≡ 0 → ⊥) → at + length (numeral 16 4 (getD gs 0 0)) ≤ length d
-  groups-first-room n = omega (arith, simp length-append at (ap length (split-first n)))
+module _ (d gs : List ℕ) (at : ℕ) (room : at + length (colonGroups gs) ≤ length d) (o : List ℕ) (p i : ℕ) (h : Groups d o gs at p i) where
+  module _ (lt : i < length gs) where
+    abbrev next : List ℕ
+    next = bytes ":" ++ numeral 16 4 (getD gs i 0)
 
-  pub groups-first : (o : List ℕ) (p : ℕ) → (length gs ≡ 0 → ⊥) → Wrote d o (numeral 16 4 (getD gs 0 0)) at p → length o ≡ length d → Groups d o gs at p 1
-  groups-first o p n w e = record { done = numeral 16 4 (getD gs 0 0); wrote = w; whole = split-first n; long = e; within = omega arith }
+    left : p + length (colonGroups (drop i gs)) ≤ length o
+    left = rest-room d (colonGroups gs) (h .done) (colonGroups (drop i gs)) at (h .whole) room o p (h .wrote)
 
-  module _ (o : List ℕ) (p i : ℕ) (h : Groups d o gs at p i) (lt : i < length gs) where
-    split-next : hexGroups gs ≡ h .done ++ (bytes ":" ++ numeral 16 4 (getD gs i 0)) ++ colonGroups (drop (i + 1) gs)
-    unfolding colonGroups
-    split-next = h .whole ∙ rw (drop-cons gs i 0, add-one) (simp append-assoc)
-
-    room-next : at + length (h .done ++ (bytes ":" ++ numeral 16 4 (getD gs i 0))) ≤ length d
-    room-next = omega (arith, ap length split-next, length-append (h .done ++ (bytes ":" ++ numeral 16 4 (getD gs i 0))) (colonGroups (drop (i + 1) gs)))
+    whole-next : colonGroups gs ≡ (h .done ++ next) ++ colonGroups (drop (i + 1) gs)
+    whole-next = h .whole ∙ rw (colonGroups-next gs i lt) (sym (append-assoc (h .done) next (colonGroups (drop (i + 1) gs))))
 
     pub groups-room : p + length (bytes ":" ++ numeral 16 4 (getD gs i 0)) ≤ length o
-    groups-room = wrote-room d o (h .done) (bytes ":" ++ numeral 16 4 (getD gs i 0)) at p (h .wrote) room-next
+    groups-room = front-room o (colonGroups (drop i gs)) next (colonGroups (drop (i + 1) gs)) p (colonGroups-next gs i lt) left
 
-    pub groups-more : (o' : List ℕ) (p' : ℕ) → Wrote o o' (bytes ":" ++ numeral 16 4 (getD gs i 0)) p p' → length o' ≡ length o → Groups d o' gs at p' (i + 1)
-    groups-more o' p' w e =
+    pub groups-step : (q : List ℕ) (k : ℕ) → Wrote o q (bytes ":" ++ numeral 16 4 (getD gs i 0)) p k → length q ≡ length o → Groups d q gs at k (i + 1)
+    groups-step q k w e =
         record {
-          done = h .done ++ (bytes ":" ++ numeral 16 4 (getD gs i 0));
-          wrote = wrote-append d o (h .done) (bytes ":" ++ numeral 16 4 (getD gs i 0)) at p (h .wrote) room-next o' p' w;
-          whole = split-next;
+          done = h .done ++ next;
+          wrote = rest-all d (h .done ++ next) (h .done) next at refl (front-room d (colonGroups gs) (h .done ++ next) (colonGroups (drop (i + 1) gs)) at whole-next room) o p (h .wrote) q k w;
+          whole = whole-next;
           long = e ∙ h .long;
           within = omega arith;
         }
 
-  pub groups-all : (o : List ℕ) (p i : ℕ) → Groups d o gs at p i → length gs ≤ i → Wrote d o (hexGroups gs) at p
+  pub groups-end : length gs ≤ i → Wrote d o (colonGroups gs) at p
   unfolding colonGroups
-  groups-all o p i h le =
-      let e : hexGroups gs ≡ h .done = h .whole ∙ rw (drop-of-length-le gs le) (append-nil (h .done)) in
-      rw e (h .wrote)
+  groups-end le = let e : colonGroups gs ≡ h .done = h .whole ∙ rw (drop-of-length-le gs le) (append-nil (h .done)) in rw e (h .wrote)
+
+-- the first group, and then the others
+hexGroups-first : (gs : List ℕ) → (length gs ≡ 0 → ⊥) → hexGroups gs ≡ numeral 16 4 (getD gs 0 0) ++ colonGroups (take (length gs - 1) (drop 1 gs))
+hexGroups-first [] n = absurd (n refl)
+hexGroups-first (g ∷ gs) n = rw (take-rest (g ∷ gs) 1) (hexGroups-cons g gs)
+
+module _ (d gs : List ℕ) (at : ℕ) where
+  pub hexGroups-none : length gs ≡ 0 → Wrote d d (hexGroups gs) at at
+  unfolding intercalate
+  hexGroups-none = by gs
+    where
+      by : (gs : List ℕ) → length gs ≡ 0 → Wrote d d (hexGroups gs) at at
+      by [] e = wrote-nil d at
+      by (g ∷ gs) e = absurd (omega arith)
+
+  module _ (room : at + length (hexGroups gs) ≤ length d) (n : length gs ≡ 0 → ⊥) where
+    pub hexGroups-first-room : at + length (numeral 16 4 (getD gs 0 0)) ≤ length d
+    hexGroups-first-room = front-room d (hexGroups gs) (numeral 16 4 (getD gs 0 0)) (colonGroups (take (length gs - 1) (drop 1 gs))) at (hexGroups-first gs n) room
+
+    module _ (o : List ℕ) (p : ℕ) (w : Wrote d o (numeral 16 4 (getD gs 0 0)) at p) where
+      pub hexGroups-rest-room : p + length (colonGroups (take (length gs - 1) (drop 1 gs))) ≤ length o
+      hexGroups-rest-room = rest-room d (hexGroups gs) (numeral 16 4 (getD gs 0 0)) (colonGroups (take (length gs - 1) (drop 1 gs))) at (hexGroups-first gs n) room o p w
+
+      pub hexGroups-all : (q : List ℕ) (k : ℕ) → Wrote o q (colonGroups (take (length gs - 1) (drop 1 gs))) p k → Wrote d q (hexGroups gs) at k
+      hexGroups-all = rest-all d (hexGroups gs) (numeral 16 4 (getD gs 0 0)) (colonGroups (take (length gs - 1) (drop 1 gs))) at (hexGroups-first gs n) room o p w
 
 -- ## Runs of zeros
 
@@ -314,10 +397,50 @@ toDigits-halves high low h l =
     let b : low / 2 ^ 48 % 65536 ≡ low / 2 ^ 48 = mod-eq-of-lt (omega arith) in
     sym (toDigits-append 65536 4 4 high low (omega arith) l ∙ rw (toDigits-four 65536 high, toDigits-four 65536 low, a, b))
 
-pub textV4-fields : (n : ℕ)
-    → textV4 n ≡ decimal (n / 2 ^ 24 % 256) ++ (bytes "." ++ decimal (n / 2 ^ 16 % 256)) ++ (bytes "." ++ decimal (n / 2 ^ 8 % 256)) ++ (bytes "." ++ decimal (n % 256))
+abbrev pub dotted : ℕ → List ℕ
+dotted n = bytes "." ++ decimal n
+
+pub textV4-fields : (n : ℕ) → textV4 n ≡ decimal (n / 2 ^ 24 % 256) ++ (dotted (n / 2 ^ 16 % 256) ++ (dotted (n / 2 ^ 8 % 256) ++ dotted (n % 256)))
 unfolding intercalate
 textV4-fields n = rw (toDigits-four 256 n) (simp append-assoc)
+
+-- the four fields, one after the other
+module _ (d : List ℕ) (at n : ℕ) (fits : n < 2 ^ 32) (room : at + length (textV4 n) ≤ length d) where
+  abbrev after-one : List ℕ
+  after-one = dotted (n / 2 ^ 16 % 256) ++ (dotted (n / 2 ^ 8 % 256) ++ dotted (n % 256))
+
+  abbrev after-two : List ℕ
+  after-two = dotted (n / 2 ^ 8 % 256) ++ dotted (n % 256)
+
+  whole : textV4 n ≡ decimal (n / 2 ^ 24) ++ after-one
+  whole = let e : n / 2 ^ 24 % 256 ≡ n / 2 ^ 24 = mod-eq-of-lt (omega arith) in rw e at (textV4-fields n)
+
+  pub fields-room : at + length (decimal (n / 2 ^ 24)) ≤ length d
+  fields-room = front-room d (textV4 n) (decimal (n / 2 ^ 24)) after-one at whole room
+
+  module _ (o : List ℕ) (m : ℕ) (w : Wrote d o (decimal (n / 2 ^ 24)) at m) where
+    left-one : m + length after-one ≤ length o
+    left-one = rest-room d (textV4 n) (decimal (n / 2 ^ 24)) after-one at whole room o m w
+
+    pub fields-room-2 : m + length (dotted (n / 2 ^ 16 % 256)) ≤ length o
+    fields-room-2 = front-room o after-one (dotted (n / 2 ^ 16 % 256)) after-two m refl left-one
+
+    module _ (o2 : List ℕ) (m2 : ℕ) (w2 : Wrote o o2 (dotted (n / 2 ^ 16 % 256)) m m2) where
+      left-two-fields : m2 + length after-two ≤ length o2
+      left-two-fields = rest-room o after-one (dotted (n / 2 ^ 16 % 256)) after-two m refl left-one o2 m2 w2
+
+      pub fields-room-3 : m2 + length (dotted (n / 2 ^ 8 % 256)) ≤ length o2
+      fields-room-3 = front-room o2 after-two (dotted (n / 2 ^ 8 % 256)) (dotted (n % 256)) m2 refl left-two-fields
+
+      module _ (o3 : List ℕ) (m3 : ℕ) (w3 : Wrote o2 o3 (dotted (n / 2 ^ 8 % 256)) m2 m3) where
+        pub fields-room-4 : m3 + length (dotted (n % 256)) ≤ length o3
+        fields-room-4 = rest-room o2 after-two (dotted (n / 2 ^ 8 % 256)) (dotted (n % 256)) m2 refl left-two-fields o3 m3 w3
+
+        pub fields-all : (o4 : List ℕ) (m4 : ℕ) → Wrote o3 o4 (dotted (n % 256)) m3 m4 → Wrote d o4 (textV4 n) at m4
+        fields-all o4 m4 w4 =
+            rest-all d (textV4 n) (decimal (n / 2 ^ 24)) after-one at whole room o m w o4 m4
+            (rest-all o after-one (dotted (n / 2 ^ 16 % 256)) after-two m refl left-one o2 m2 w2 o4 m4
+            (rest-all o2 after-two (dotted (n / 2 ^ 8 % 256)) (dotted (n % 256)) m2 refl left-two-fields o3 m3 w3 o4 m4 w4))
 
 -- ## How long a text can be
 

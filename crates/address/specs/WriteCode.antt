@@ -1,13 +1,20 @@
--- The longest run of zeros among the groups of an IPv6 address, as the code finds it. Nothing here needs to be believed for the meaning of
--- document 01: the public promises are stated over Address alone, and only inner contracts cite these definitions.
+-- The groups of an IPv6 address as the code writes them, and the longest run of zeros among them as it finds it. Nothing here needs to be
+-- believed for the meaning of document 01: the public promises are stated over Address alone, and only inner contracts cite these definitions.
+--   colonGroups gs  == the hex groups gs, a colon before each
 --   leadingZeros gs == how many groups at the front of gs are 0
 --   longestRun gs   == the first of the longest runs of zeros in gs
 -- Assumes nothing: these are definitions.
 use Prim.Native.Nat.{ℕ, suc, _+_}
-use mathlib.Core.List.{List, [], _∷_}
+use mathlib.Core.List.{List, [], _∷_, _++_}
 use lib.Dec.{leb, eqb}
 use Rattle.text.specs.Basics.{if_then_else_}
+use Rattle.text.specs.Text.{bytes}
+use Rattle.text.specs.Number.{numeral}
 use Rattle.address.specs.declared.write.Run.{Run}
+
+unfoldable pub colonGroups : List ℕ → List ℕ
+colonGroups [] = []
+colonGroups (g ∷ gs) = bytes ":" ++ numeral 16 4 g ++ colonGroups gs
 
 abbrev pub runAt : ℕ → ℕ → Run
 runAt p n = record { place = p; len = n }

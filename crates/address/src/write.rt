@@ -13,7 +13,7 @@ ghost use Rattle.text.specs.Number.{toDigits, digitByte, numeral, decimal};
 ghost use Rattle.text.specs.Scan.{putAt};
 ghost use Rattle.section.specs.Refusal.{writtenOf, lentAfter};
 ghost use Rattle.address.specs.Address.{hexGroups, compress, textV4, textV6, addrText, writeAddress};
-ghost use Rattle.address.specs.WriteCode.{longerZeros, longerRun, longestRun};
+ghost use Rattle.address.specs.WriteCode.{colonGroups, longerZeros, longerRun, longestRun};
 
 // A run of zeros among the groups of an IPv6 address.
 pub struct Run {
@@ -72,7 +72,22 @@ fn put_next_group(out: &mut [u8], at: usize, g: u16) -> usize
     put_group(out, at + 1, g)
 }
 
-// Writes groups, colons between them.
+// Writes groups, a colon before each.
+fn put_colon_groups(out: &mut [u8], at: usize, gs: &[u16]) -> usize
+    requires { ⌜ at + length (colonGroups (now gs)) ≤ length (now out) ⌝ }
+    ensures next { λ r. ⌜ r ≡ at + length (colonGroups (now (gs .entry))) ⌝ }
+    ensures written { λ _. ⌜ now (out .exit) ≡ putAt (now (out .entry)) at (colonGroups (now (gs .entry))) ⌝ }
+{
+    let mut p = at;
+    let mut i = 0;
+    while i < gs.len() {
+        p = put_next_group(out, p, gs[i]);
+        i += 1;
+    }
+    p
+}
+
+// Writes groups, a colon between each two.
 fn put_groups(out: &mut [u8], at: usize, gs: &[u16]) -> usize
     requires { ⌜ at + length (hexGroups (now gs)) ≤ length (now out) ⌝ }
     ensures next { λ r. ⌜ r ≡ at + length (hexGroups (now (gs .entry))) ⌝ }
@@ -81,13 +96,8 @@ fn put_groups(out: &mut [u8], at: usize, gs: &[u16]) -> usize
     if gs.len() == 0 {
         return at;
     }
-    let mut p = put_group(out, at, gs[0]);
-    let mut i = 1;
-    while i < gs.len() {
-        p = put_next_group(out, p, gs[i]);
-        i += 1;
-    }
-    p
+    let p = put_group(out, at, gs[0]);
+    put_colon_groups(out, p, &gs[1..])
 }
 
 // How many zeros stand in a row from a group on, where there are n after it.
