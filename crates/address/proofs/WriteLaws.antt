@@ -11,20 +11,24 @@ use native.Mathlib.Nat.{zero-add, mod-lt, mod-eq-of-lt, div-div-eq-div-mul, mul-
 use borrow.Author.Tests.{ltb-true, ltb-false, lt-ltb, le-ltb, leb-true, leb-false, eqb-true, eqb-false, eq-eqb, ne-eqb}
 use lib.Dec.{ltb, leb, eqb}
 use lib.ListN.{length, take, drop, getD, set, replicate, length-append, length-set, length-replicate, length-drop, drop-of-length-le}
-use lib.Seq.{set-split, append-snoc, drop-cons, take-length, drop-length, length-take-le, paste-zero}
+use lib.Seq.{set-split, append-snoc, drop-cons, take-length, drop-length, length-take-le, paste-zero, take-paste}
 use Rattle.text.specs.Basics.{if_then_else_}
 use Rattle.text.specs.Text.{bytes, equal, consFirst, splitOnce, intercalate}
 use Rattle.text.specs.Number.{toDigits, digitByte, numeral, decimal}
-use Rattle.text.specs.Scan.{putAt}
+use Rattle.text.specs.Scan.{putAt, after}
 use Rattle.text.proofs.Canonical.{numeral-digit, length-numeral-below}
 use Rattle.text.proofs.Digits.{length-toDigits}
 use Rattle.text.proofs.Numeral.{length-numeral}
-use Rattle.text.proofs.PasteLaws.{length-putAt, put-put}
+use Rattle.text.proofs.PasteLaws.{length-putAt, put-put, put-first}
 use Rattle.text.proofs.ScanLaws.{take-rest}
+use Rattle.section.specs.declared.Fault.the-variants as F
+use Rattle.section.specs.declared.Refusal.{Refusal}
+use Rattle.section.specs.declared.Written.the-variants as W
+use Rattle.section.specs.Refusal.{placeless, writtenOf, lentAfter}
 use Rattle.address.specs.declared.Addr.{Addr}
 use Rattle.address.specs.declared.Addr.the-variants as A
 use Rattle.address.specs.declared.write.Run.{Run}
-use Rattle.address.specs.Address.{hexGroups, compress, textV4, textV6, addrText}
+use Rattle.address.specs.Address.{hexGroups, compress, textV4, textV6, addrText, writeAddress}
 use Rattle.address.specs.WriteCode.{colonGroups, runAt, longerZeros, leadingZeros, longerRun, longestFrom, longestRun}
 
 -- ## Texts one after the other
@@ -346,6 +350,9 @@ module _ (gs : List ℕ) (r : Run) (is-r : r ≡ longestRun gs) where
   longest : Longest 0 gs r
   longest = rw is-r (longest-from 0 gs)
 
+  pub run-within : r .place + r .len ≤ length gs
+  run-within = omega (arith, longest .at, longest .within)
+
   pub compress-plain : r .len < 2 → (k : ℕ) → compress k gs ≡ hexGroups gs
   unfolding compress
   compress-plain h zero = refl
@@ -369,6 +376,47 @@ module _ (gs : List ℕ) (r : Run) (is-r : r ≡ longestRun gs) where
           let f : splitOnce (replicate (suc (suc k)) 0) gs ≡ some (take (r .place) gs, drop (r .place + r .len) gs) =
           ap (λ (m : ℕ). splitOnce (replicate m 0) gs) n ∙ rw e (longest .found (omega arith)) in
           rw f
+
+pub runs-within : (gs : List ℕ) (i zeros : ℕ) (best : Run) → Runs gs i zeros best → i ≤ 0 → best .place + best .len ≤ length gs
+runs-within gs i zeros best h le = run-within gs best (runs-end gs i zeros best h le)
+
+module _ (d gs : List ℕ) (at : ℕ) (r : Run) (is-r : r ≡ longestRun gs) (long : length gs ≡ 8) (room : at + length (compress 7 gs) ≤ length d) where
+  pub plain-room : r .len < 2 → at + length (hexGroups gs) ≤ length d
+  plain-room h = rw (← (compress-plain gs r is-r h 7)) room
+
+  pub plain-all : r .len < 2 → (o : List ℕ) (m : ℕ) → Wrote d o (hexGroups gs) at m → Wrote d o (compress 7 gs) at m
+  plain-all h o m w = rw (compress-plain gs r is-r h 7) w
+
+  module _ (h : 2 ≤ r .len) where
+    abbrev ahead : List ℕ
+    ahead = hexGroups (take (r .place) gs)
+
+    abbrev behind : List ℕ
+    behind = hexGroups (take (length gs - (r .place + r .len)) (drop (r .place + r .len) gs))
+
+    whole-run : compress 7 gs ≡ ahead ++ (bytes "::" ++ behind)
+    whole-run =
+        compress-run gs r is-r h 7 (omega (arith, run-within gs r is-r))
+        ∙ rw (take-rest gs (r .place + r .len)) (append-assoc ahead (bytes "::") (hexGroups (drop (r .place + r .len) gs)))
+
+    pub run-room : at + length (hexGroups (take (r .place) gs)) ≤ length d
+    run-room = front-room d (compress 7 gs) ahead (bytes "::" ++ behind) at whole-run room
+
+    module _ (o : List ℕ) (m : ℕ) (w : Wrote d o (hexGroups (take (r .place) gs)) at m) where
+      left-run : m + length (bytes "::" ++ behind) ≤ length o
+      left-run = rest-room d (compress 7 gs) ahead (bytes "::" ++ behind) at whole-run room o m w
+
+      pub run-mark-room : m + 2 ≤ length o
+      run-mark-room = front-room o (bytes "::" ++ behind) (bytes "::") behind m refl left-run
+
+      module _ (p : List ℕ) (k : ℕ) (v : Wrote o p (bytes "::") m k) where
+        pub run-rest-room : k + length (hexGroups (take (length gs - (r .place + r .len)) (drop (r .place + r .len) gs))) ≤ length p
+        run-rest-room = rest-room o (bytes "::" ++ behind) (bytes "::") behind m refl left-run p k v
+
+        pub run-all : (q : List ℕ) (i : ℕ) → Wrote p q (hexGroups (take (length gs - (r .place + r .len)) (drop (r .place + r .len) gs))) k i → Wrote d q (compress 7 gs) at i
+        run-all q i u =
+            rest-all d (compress 7 gs) ahead (bytes "::" ++ behind) at whole-run room o m w q i
+            (rest-all o (bytes "::" ++ behind) (bytes "::") behind m refl left-run p k v q i u)
 
 -- ## The digits of an address
 
@@ -473,3 +521,41 @@ unfolding addrText
 length-addrText A.Unknown = omega arith
 length-addrText (A.V4 n) = omega (arith, length-textV4 n)
 length-addrText (A.V6 high low) = length-compress (toDigits 65536 8 (high * 2 ^ 64 + low)) (length-toDigits 65536 8 (high * 2 ^ 64 + low))
+
+-- ## The calls
+
+pub addrText-unknown : (a : Addr) → a ≡ A.Unknown → addrText a ≡ bytes "unknown"
+unfolding addrText
+addrText-unknown a e = rw e
+
+pub addrText-v4 : (a : Addr) (n : ℕ) → a ≡ A.V4 n → addrText a ≡ textV4 n
+unfolding addrText
+addrText-v4 a n e = rw e
+
+pub addrText-v6 : (a : Addr) (high low : ℕ) → a ≡ A.V6 high low → addrText a ≡ textV6 (high * 2 ^ 64 + low)
+unfolding addrText
+addrText-v6 a high low e = rw e
+
+-- the text of a, n bytes, was written at the front of the buffer b, which gave o
+module _ (a : Addr) (b o : List ℕ) (n : ℕ) (w : Wrote b o (addrText a) 0 n) where
+  pub buffer-within : length b ≡ 39 → n ≤ length o
+  buffer-within e = let l = length-addrText a in rw (w .0, w .1, length-putAt b (addrText a) 0 (omega arith)) (omega arith)
+
+  pub buffer-text : take n o ≡ addrText a
+  unfolding putAt
+  buffer-text = rw (w .0, w .1, take-paste b 0 (addrText a) (length (addrText a)) (omega arith) (omega arith), take-length (addrText a))
+
+  module _ (d : List ℕ) where
+    pub write-refused : length d < n → (r : Refusal) → r ≡ placeless F.NoRoom
+        → (W.Refused r ≡ writtenOf (writeAddress a (length d))) × (d ≡ lentAfter d (writeAddress a (length d)))
+    unfolding writeAddress
+    write-refused h r e = let l : length d < length (addrText a) = omega (arith, w .0) in
+        (rw (e, lt-ltb (length d) (length (addrText a)) l), rw (lt-ltb (length d) (length (addrText a)) l))
+
+    pub write-count : n ≤ length d → (p : List ℕ) (k : ℕ) → Wrote d p (take n o) 0 k
+        → (W.Count k ≡ writtenOf (writeAddress a (length d))) × (p ≡ lentAfter d (writeAddress a (length d)))
+    unfolding writeAddress after
+    write-count h p k v = let l : length (addrText a) ≤ length d = omega (arith, w .0) in
+        let c : k ≡ length (addrText a) = v .0 ∙ rw buffer-text (omega arith) in
+        let f : p ≡ addrText a ++ drop (length (addrText a)) d = rw buffer-text at (put-first d p (take n o) (v .1)) in
+        (rw (le-ltb (length d) (length (addrText a)) l) (ap (λ (m : ℕ). W.Count m) c), rw (le-ltb (length d) (length (addrText a)) l) f)

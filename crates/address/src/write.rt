@@ -3,7 +3,8 @@
 //   put_address(out, at, a) == writes the text of a from at on, where there is room
 //   address_len(a)          == how many bytes that text has
 use crate::Addr;
-use section::{Fault, Written};
+use section::Fault;
+use section::Written;
 ghost use mathlib.Core.Path.{_≡_};
 ghost use mathlib.Core.List.{[], _∷_, _++_};
 ghost use Prim.Native.Nat.{_+_, _*_, _^_, _≤_, _<_};
@@ -122,7 +123,8 @@ fn longer_run(r: Run, place: usize, len: usize) -> Run
 // The first of the longest runs of zeros, found from the last group on.
 fn longest_run(gs: &[u16]) -> Run
     requires { ⌜ length (now gs) ≡ 8 ⌝ }
-    ensures { λ r. ⌜ r ≡ longestRun (now (gs .entry)) ⌝ }
+    ensures run { λ r. ⌜ r ≡ longestRun (now (gs .entry)) ⌝ }
+    ensures within { λ r. ⌜ r .place + r .len ≤ length (now (gs .entry)) ⌝ }
 {
     let mut i = gs.len();
     let mut zeros = 0;

@@ -1,21 +1,12 @@
+-- `address::write::address_len` meets its contract: a text has at most 39 bytes. Assumes nothing.
 use borrow.Author.Needs.{needs}
+use native.Mathlib.Omega.{arith}
+use Rattle.address.proofs.WriteLaws.{length-addrText}
 use Rattle.address.proofs.write.address_len.Statement.{statement}
 use Rattle.address.proofs.write.address_len.Tie as tie
-use Rattle.address.proofs.write.address_len.Reads as reads
-use Rattle.address.proofs.write.address_len.Lts as lts
-use Rattle.address.proofs.write.put_address.Reads as put-address-reads
 
--- src/write.rt:220:17
-slice-aggregate-put-address : tie.Need-slice-aggregate-put-address
-slice-aggregate-put-address c = search needs
-
--- src/write.rt:220:5
 put-address-requires : tie.Need-put-address-requires
-put-address-requires c κs = ?
-
--- src/write.rt:216:1
-returns : tie.Need-returns
-returns c = search needs
+put-address-requires c κs = omega (arith, length-addrText (c .before .args .a))
 
 pub address-len-spec : {M : Type 1} → statement M
-address-len-spec = tie.close (tie.spec slice-aggregate-put-address put-address-requires returns)
+address-len-spec = tie.close (tie.spec (λ c. search needs) put-address-requires (λ c. search needs))

@@ -1,13 +1,9 @@
 -- `address::write::longest_run` meets its contract. The loop's invariant is Runs: the zeros that stand at place i, and the first of the longest
 -- runs from there on. The measure is i. Assumes nothing.
 use borrow.Author.Needs.{needs}
-use Rattle.address.proofs.WriteLaws.{Runs, runs-start, runs-few, runs-step, runs-end}
+use Rattle.address.proofs.WriteLaws.{Runs, runs-start, runs-few, runs-step, runs-end, runs-within}
 use Rattle.address.proofs.write.longest_run.Statement.{statement}
 use Rattle.address.proofs.write.longest_run.Tie as tie
-use Rattle.address.proofs.write.longest_run.Reads as reads
-use Rattle.address.proofs.write.longest_run.Lts as lts
-use Rattle.address.proofs.write.longer_run.Reads as longer-run-reads
-use Rattle.address.proofs.write.longer_zeros.Reads as longer-zeros-reads
 
 abbrev Inv-loop : tie.InvT-loop
 Inv-loop gs i₀ zeros₀ best₀ i zeros best = Runs gs i zeros best
@@ -29,4 +25,4 @@ longest-run-spec =
     (λ c κs. search needs)
     (λ c. search needs)
     (λ c. search (runs-step, needs))
-    (λ c. search (runs-end, needs)))
+    (λ c. search (runs-end, runs-within, needs)))

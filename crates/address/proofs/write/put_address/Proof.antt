@@ -1,78 +1,49 @@
+-- `address::write::put_address` meets its contract, by the kind of address. Assumes nothing.
 use borrow.Author.Needs.{needs}
+use Rattle.address.proofs.WriteLaws.{addrText-unknown, addrText-v4, addrText-v6}
 use Rattle.address.proofs.write.put_address.Statement.{statement}
 use Rattle.address.proofs.write.put_address.Tie as tie
-use Rattle.address.proofs.write.put_address.Reads as reads
-use Rattle.address.proofs.write.put_address.Lts as lts
-use Rattle.address.proofs.write.put_v4.Reads as put-v4-reads
-use Rattle.address.proofs.write.put_v6.Reads as put-v6-reads
-use Rattle.text.proofs.put.Reads as put-reads
 
--- src/write.rt:209:36
-enum-told : tie.Need-enum-told
-enum-told c = search needs
-
--- src/write.rt:209:45
-slice-aggregate-put : tie.Need-slice-aggregate-put
-slice-aggregate-put c = search needs
-
--- src/write.rt:209:26
 put-requires : tie.Need-put-requires
-put-requires c κs = ?
+put-requires c κs = let a = c .before .before .before .before .before in rw (addrText-unknown (a .args .a) (search needs)) at (a .pre)
 
--- src/write.rt:210:18
-enum-known-a : tie.Need-enum-known-a
-enum-known-a c = search needs
-
--- src/write.rt:210:24
 put-v4-requires : tie.Need-put-v4-requires
-put-v4-requires c κs = ?
+put-v4-requires c κs = let a = c .before .before .before .before .before in rw (addrText-v4 (a .args .a) (c .before .before .a .given .0 .0) (search needs)) at (a .pre)
 
--- src/write.rt:211:18
-enum-known-a-2 : tie.Need-enum-known-a-2
-enum-known-a-2 c = search needs
-
--- src/write.rt:211:32
 put-v6-requires : tie.Need-put-v6-requires
-put-v6-requires c κs = ?
+put-v6-requires c κs =
+    let a = c .before .before .before .before .before in
+    let g = c .before .before .a2 .given .0 in
+    rw (addrText-v6 (a .args .a) (g .0) (g .1 .0) (search needs)) at (a .pre)
 
--- src/write.rt:203:1
-same-length : tie.Need-same-length
-same-length c = search needs
-
--- src/write.rt:203:1
 returns : tie.Need-returns
-returns c = ?
+returns c = let a = c .before .before .before .before .before .before .before .before in rw (addrText-unknown (a .args .a) (search needs)) (c .before .before .put .ensures)
 
--- src/write.rt:203:1
-same-length-2 : tie.Need-same-length-2
-same-length-2 c = search needs
-
--- src/write.rt:203:1
 returns-2 : tie.Need-returns-2
-returns-2 c = ?
+returns-2 c =
+    let a = c .before .before .before .before .before .before .before .before in
+    rw (addrText-v4 (a .args .a) (c .before .before .before .before .before .a .given .0 .0) (search needs)) (c .before .before .put-v4 .ensures)
 
--- src/write.rt:203:1
-same-length-3 : tie.Need-same-length-3
-same-length-3 c = search needs
-
--- src/write.rt:203:1
 returns-3 : tie.Need-returns-3
-returns-3 c = ?
+returns-3 c =
+    let a = c .before .before .before .before .before .before .before .before in
+    let g = c .before .before .before .before .before .a2 .given .0 in
+    rw (addrText-v6 (a .args .a) (g .0) (g .1 .0) (search needs)) (c .before .before .put-v6 .ensures)
 
 pub put-address-spec : {M : Type 1} → statement M
 put-address-spec =
     tie.close
     (tie.spec
-    enum-told
-    slice-aggregate-put
+    (λ c. search needs)
+    (λ c. search needs)
     put-requires
-    enum-known-a
+    (λ c. search needs)
     put-v4-requires
-    enum-known-a-2
+    (λ c. search needs)
     put-v6-requires
-    same-length
+    (λ c. search needs)
     returns
-    same-length-2
+    (λ c. search needs)
     returns-2
-    same-length-3
+    (λ c. search needs)
     returns-3)

@@ -1,93 +1,55 @@
+-- `address::write::put_compressed` meets its contract: all the groups, or those before the run, `::` and those behind it. Assumes nothing.
+use mathlib.Core.Path.{sym}
 use borrow.Author.Needs.{needs}
+use lib.Seq.{length-take-le}
+use Rattle.address.proofs.WriteLaws.{plain-room, plain-all, run-room, run-mark-room, run-rest-room, run-all}
 use Rattle.address.proofs.write.put_compressed.Statement.{statement}
 use Rattle.address.proofs.write.put_compressed.Tie as tie
-use Rattle.address.proofs.write.put_compressed.Reads as reads
-use Rattle.address.proofs.write.put_compressed.Lts as lts
-use Rattle.address.proofs.write.longest_run.Reads as longest-run-reads
-use Rattle.address.proofs.write.put_groups.Reads as put-groups-reads
-use Rattle.text.proofs.put.Reads as put-reads
 
--- src/write.rt:144:9
-longest-run-requires : tie.Need-longest-run-requires
-longest-run-requires c κs = search needs
-
--- src/write.rt:148:9
-put-groups-requires : tie.Need-put-groups-requires
-put-groups-requires c κs = ?
-
--- src/write.rt:148:9
-same-length : tie.Need-same-length
-same-length c = search needs
-
--- src/write.rt:148:9
 returns : tie.Need-returns
-returns c = ?
+returns c =
+    let l = c .before .before .before .before .before in
+    let a = l .before .before .before in
+    plain-all (a .args .out .now) (a .args .gs .now) (a .args .at) _ (l .longest-run .ensures .0) (a .pre .1) (a .pre .0) (c .before .before .before .before .if1 .taken) _ _ (c .before .before .put-groups .ensures)
 
--- src/write.rt:150:15
-add-end : tie.Need-add-end
-add-end c = ?
-
--- src/write.rt:151:33
 slice-aggregate-put-groups : tie.Need-slice-aggregate-put-groups
-slice-aggregate-put-groups c = ?
+slice-aggregate-put-groups c = sym (length-take-le _ _ (search needs))
 
--- src/write.rt:151:9
-put-groups-requires-2 : tie.Need-put-groups-requires-2
-put-groups-requires-2 c κs = ?
-
--- src/write.rt:152:31
-slice-aggregate-put : tie.Need-slice-aggregate-put
-slice-aggregate-put c = search needs
-
--- src/write.rt:152:9
-put-requires : tie.Need-put-requires
-put-requires c κs = ?
-
--- src/write.rt:153:24
-mul-put-groups : tie.Need-mul-put-groups
-mul-put-groups c = ?
-
--- src/write.rt:153:24
-sub-put-groups : tie.Need-sub-put-groups
-sub-put-groups c = ?
-
--- src/write.rt:153:24
-part-put-groups-start : tie.Need-part-put-groups-start
-part-put-groups-start c = ?
-
--- src/write.rt:153:24
-part-put-groups-end : tie.Need-part-put-groups-end
-part-put-groups-end c = search needs
-
--- src/write.rt:153:5
 put-groups-requires-3 : tie.Need-put-groups-requires-3
-put-groups-requires-3 c κs = ?
+put-groups-requires-3 c κs =
+    let q = c .before .before .before .before in
+    let p = q .before .before .before .before .before in
+    let e = p .before .before .before in
+    let l = e .before in
+    let a = l .before .before .before in
+    run-rest-room (a .args .out .now) (a .args .gs .now) (a .args .at) _ (l .longest-run .ensures .0) (a .pre .1) (a .pre .0) (e .if1 .left) _ _ (p .put-groups2 .ensures) _ _ (q .put .ensures)
 
--- src/write.rt:139:1
-same-length-2 : tie.Need-same-length-2
-same-length-2 c = search needs
-
--- src/write.rt:139:1
 returns-2 : tie.Need-returns-2
-returns-2 c = ?
+returns-2 c =
+    let q = c .before .before .before .before .before .before .before in
+    let p = q .before .before .before .before .before in
+    let e = p .before .before .before in
+    let l = e .before in
+    let a = l .before .before .before in
+    run-all (a .args .out .now) (a .args .gs .now) (a .args .at) _ (l .longest-run .ensures .0) (a .pre .1) (a .pre .0) (e .if1 .left) _ _ (p .put-groups2 .ensures) _ _ (q .put .ensures) _ _ (c .before .before .put-groups3 .ensures)
 
 pub put-compressed-spec : {M : Type 1} → statement M
 put-compressed-spec =
     tie.close
     (tie.spec
-    longest-run-requires
-    put-groups-requires
-    same-length
+    (λ c κs. search needs)
+    (λ c κs. search (plain-room, needs))
+    (λ c. search needs)
     returns
-    add-end
+    (λ c. search needs)
     slice-aggregate-put-groups
-    put-groups-requires-2
-    slice-aggregate-put
-    put-requires
-    mul-put-groups
-    sub-put-groups
-    part-put-groups-start
-    part-put-groups-end
+    (λ c κs. search (run-room, needs))
+    (λ c. search needs)
+    (λ c κs. search (run-mark-room, needs))
+    (λ c. search needs)
+    (λ c. search needs)
+    (λ c. search needs)
+    (λ c. search needs)
     put-groups-requires-3
-    same-length-2
+    (λ c. search needs)
     returns-2)

@@ -3,9 +3,6 @@ use borrow.Author.Needs.{needs}
 use Rattle.address.proofs.WriteLaws.{pair-room, pair-one, pair-last-room, pair-two}
 use Rattle.address.proofs.write.put_pair.Statement.{statement}
 use Rattle.address.proofs.write.put_pair.Tie as tie
-use Rattle.address.proofs.write.put_pair.Reads as reads
-use Rattle.address.proofs.write.put_pair.Lts as lts
-use Rattle.address.proofs.write.put_digit.Reads as put-digit-reads
 
 put-digit-requires : tie.Need-put-digit-requires
 put-digit-requires c κs = search (pair-room, needs)

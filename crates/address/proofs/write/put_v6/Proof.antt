@@ -1,37 +1,16 @@
+-- `address::write::put_v6` meets its contract: the groups of the two halves. Assumes nothing.
+use mathlib.Core.Path.{ap, _∙_}
 use borrow.Author.Needs.{needs}
+use lib.ListN.{length}
+use Rattle.text.proofs.Digits.{length-toDigits}
 use Rattle.address.proofs.write.put_v6.Statement.{statement}
 use Rattle.address.proofs.write.put_v6.Tie as tie
-use Rattle.address.proofs.write.put_v6.Reads as reads
-use Rattle.address.proofs.write.put_v6.Lts as lts
-use Rattle.address.proofs.write.groups.Reads as groups-reads
-use Rattle.address.proofs.write.put_compressed.Reads as put-compressed-reads
 
--- src/write.rt:177:14
-groups-requires : tie.Need-groups-requires
-groups-requires c κs = search needs
-
--- src/write.rt:178:29
-slice-aggregate-put-compressed : tie.Need-slice-aggregate-put-compressed
-slice-aggregate-put-compressed c = search needs
-
--- src/write.rt:178:5
 put-compressed-requires : tie.Need-put-compressed-requires
-put-compressed-requires c κs = ?
+put-compressed-requires c κs = let g = c .before .before in (rw (g .groups .ensures) (g .before .before .pre), ap length (g .groups .ensures) ∙ length-toDigits 65536 8 _)
 
--- src/write.rt:172:1
-same-length : tie.Need-same-length
-same-length c = search needs
-
--- src/write.rt:172:1
 returns : tie.Need-returns
-returns c = ?
+returns c = rw (← (c .before .before .before .before .before .groups .ensures)) (c .before .before .put-compressed .ensures)
 
 pub put-v6-spec : {M : Type 1} → statement M
-put-v6-spec =
-    tie.close
-    (tie.spec
-    groups-requires
-    slice-aggregate-put-compressed
-    put-compressed-requires
-    same-length
-    returns)
+put-v6-spec = tie.close (tie.spec (λ c κs. search needs) (λ c. search needs) put-compressed-requires (λ c. search needs) returns)

@@ -1,58 +1,42 @@
+-- `address::write::write_address` meets its contract: the text stands at the front of a buffer first, and is copied where there is room.
+-- Assumes nothing.
+use mathlib.Core.Path.{refl, sym}
 use borrow.Author.Needs.{needs}
+use native.Mathlib.Omega.{arith}
+use lib.Seq.{length-take-le}
+use Rattle.address.proofs.WriteLaws.{length-addrText, buffer-within, write-refused, write-count}
 use Rattle.address.proofs.write.write_address.Statement.{statement}
 use Rattle.address.proofs.write.write_address.Tie as tie
-use Rattle.address.proofs.write.write_address.Reads as reads
-use Rattle.address.proofs.write.write_address.Lts as lts
-use Rattle.address.proofs.write.put_address.Reads as put-address-reads
-use Rattle.section.proofs.placeless.Reads as placeless-reads
-use Rattle.text.proofs.put.Reads as put-reads
 
--- src/write.rt:229:25
-slice-aggregate-put-address : tie.Need-slice-aggregate-put-address
-slice-aggregate-put-address c = search needs
-
--- src/write.rt:229:9
 put-address-requires : tie.Need-put-address-requires
-put-address-requires c κs = ?
+put-address-requires c κs = omega (arith, length-addrText (c .before .before .args .a))
 
--- src/write.rt:231:33
-placeless-requires : tie.Need-placeless-requires
-placeless-requires c κs = search needs
-
--- src/write.rt:231:9
 returns : tie.Need-returns
-returns c = ?
+returns c =
+    write-refused _ _ _ _ (c .before .before .before .put-address .ensures) _ (c .before .if1 .taken) _ (c .placeless .ensures)
 
--- src/write.rt:233:35
 array-share-prefix-buffer : tie.Need-array-share-prefix-buffer
-array-share-prefix-buffer c = ?
+array-share-prefix-buffer c = buffer-within _ _ _ _ (c .before .before .before .put-address .ensures) refl
 
--- src/write.rt:233:35
 slice-aggregate-put : tie.Need-slice-aggregate-put
-slice-aggregate-put c = ?
+slice-aggregate-put c = sym (length-take-le _ _ (buffer-within _ _ _ _ (c .before .before .before .before .put-address .ensures) refl))
 
--- src/write.rt:233:9
 put-requires : tie.Need-put-requires
-put-requires c κs = ?
+put-requires c κs = omega (arith, length-take-le (c .before .before .before .before .put-address .result) (c .before .before .before .before .put-address .last .0) (buffer-within _ _ _ _ (c .before .before .before .before .put-address .ensures) refl))
 
--- src/write.rt:224:1
-same-length : tie.Need-same-length
-same-length c = search needs
-
--- src/write.rt:224:1
 returns-2 : tie.Need-returns-2
-returns-2 c = ?
+returns-2 c = write-count _ _ _ _ (c .before .before .before .before .before .before .before .put-address .ensures) _ (c .before .before .before .before .before .if1 .left) _ _ (c .before .before .put .ensures)
 
 pub write-address-spec : {M : Type 1} → statement M
 write-address-spec =
     tie.close
     (tie.spec
-    slice-aggregate-put-address
+    (λ c. search needs)
     put-address-requires
-    placeless-requires
+    (λ c κs. search needs)
     returns
     array-share-prefix-buffer
     slice-aggregate-put
     put-requires
-    same-length
+    (λ c. search needs)
     returns-2)
