@@ -17,9 +17,9 @@ ghost use Rattle.address.specs.Address.{hexGroups, compress, textV4, tex
 ghost use Rattle.address.specs.WriteCode.{colonGroups, longerZeros, longerRun, longestRun};
 
 // A run of zeros among the groups of an IPv6 address.
-pub struct Run {
-    pub place: usize,
-    pub len: usize,
+struct Run {
+    place: usize,
+    len: usize,
 }
 
 // Writes a hex digit.

@@ -1,7 +1,7 @@
 -- `address::write::longest_run` meets its contract. The loop's invariant is Runs: the zeros that stand at place i, and the first of the longest
 -- runs from there on. The measure is i. Assumes nothing.
 use borrow.Author.Needs.{needs}
-use Rattle.address.proofs.WriteLaws.{Runs, runs-start, runs-few, runs-step, runs-end, runs-within}
+use Rattle.address.proofs.WriteRuns.{Runs, runs-start, runs-few, runs-step, runs-end, runs-within}
 use Rattle.address.proofs.write.longest_run.Statement.{statement}
 use Rattle.address.proofs.write.longest_run.Tie as tie
 

@@ -2,7 +2,7 @@
 use mathlib.Core.Path.{sym}
 use borrow.Author.Needs.{needs}
 use lib.Seq.{length-take-le}
-use Rattle.address.proofs.WriteLaws.{plain-room, plain-all, run-room, run-mark-room, run-rest-room, run-all}
+use Rattle.address.proofs.WriteLaws.{plain-room, plain-all, run-room, run-mark-room, run-behind-room, run-all}
 use Rattle.address.proofs.write.put_compressed.Statement.{statement}
 use Rattle.address.proofs.write.put_compressed.Tie as tie
 
@@ -22,7 +22,7 @@ put-groups-requires-3 c κs =
     let e = p .before .before .before in
     let l = e .before in
     let a = l .before .before .before in
-    run-rest-room (a .args .out .now) (a .args .gs .now) (a .args .at) _ (l .longest-run .ensures .0) (a .pre .1) (a .pre .0) (e .if1 .left) _ _ (p .put-groups2 .ensures) _ _ (q .put .ensures)
+    run-behind-room (a .args .out .now) (a .args .gs .now) (a .args .at) _ (l .longest-run .ensures .0) (a .pre .1) (a .pre .0) (e .if1 .left) _ _ (p .put-groups2 .ensures) _ _ (q .put .ensures)
 
 returns-2 : tie.Need-returns-2
 returns-2 c =

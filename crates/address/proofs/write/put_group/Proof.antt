@@ -1,6 +1,6 @@
 -- `address::write::put_group` meets its contract: at most two digits, or the last two after them. Assumes nothing.
 use borrow.Author.Needs.{needs}
-use Rattle.address.proofs.WriteLaws.{group-pair-room, group-pair, group-first-room, group-third-room, group-last-room, group-four}
+use Rattle.address.proofs.WriteLaws.{group-pair-room, group-pair, group-room, group-third-room, group-last-room, group-four}
 use Rattle.address.proofs.write.put_group.Statement.{statement}
 use Rattle.address.proofs.write.put_group.Tie as tie
 
@@ -11,7 +11,7 @@ returns : tie.Need-returns
 returns c = group-pair _ _ _ (c .before .before .before .before .before .before .pre) (c .before .before .before .before .if1 .taken) _ _ (c .before .before .put-pair .ensures)
 
 put-pair-requires-2 : tie.Need-put-pair-requires-2
-put-pair-requires-2 c κs = search (group-first-room, needs)
+put-pair-requires-2 c κs = search (group-room, needs)
 
 put-digit-requires : tie.Need-put-digit-requires
 put-digit-requires c κs = search (group-third-room, needs)

@@ -3,7 +3,7 @@ use mathlib.Core.Path.{_∙_}
 use borrow.Author.Needs.{needs}
 use lib.ListN.{length-set}
 use Rattle.text.specs.Number.{decimal}
-use Rattle.address.proofs.WriteLaws.{byte-room, byte-all}
+use Rattle.address.proofs.WriteText.{byte-room, byte-all}
 use Rattle.address.proofs.write.put_next_field.Statement.{statement}
 use Rattle.address.proofs.write.put_next_field.Tie as tie
 
