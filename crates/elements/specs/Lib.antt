@@ -1,3 +1,4 @@
 pub mod Request
 pub mod Pattern
 pub mod Element
+pub mod Code

@@ -1,4 +1,7 @@
 // Requests, host patterns, and the elements of daemon and client lists.
+pub mod element;
+pub mod net;
+pub mod pattern;
 
 // What is known of a host's name; the bytes of a known one are lent beside it.
 pub enum Name {

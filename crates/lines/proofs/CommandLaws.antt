@@ -7,24 +7,25 @@ use mathlib.Core.Path.{_≡_, refl, sym, ap, _∙_}
 use mathlib.Core.Bool.{Bool, true, false, not, _||_, or-false}
 use mathlib.Core.List.{List, [], _∷_, _++_, reverse, reverse-append, reverse-reverse}
 use lib.Dec.{eqb}
-use lib.ListN.{length, take, drop, getD, length-drop, length-reverse, take-append-drop, drop-of-length-le}
+use lib.ListN.{length, take, drop, getD, length-reverse, take-append-drop, drop-of-length-le}
 use lib.Seq.{drop-cons, take-suc, take-length, take-at, length-take-le}
-use borrow.Author.Tests.{eq-eqb, ne-eqb}
-use Rattle.text.specs.Basics.{if_then_else_, any}
+use borrow.Author.Tests.{ne-eqb}
+use Rattle.text.specs.Basics.{any}
 use Rattle.text.specs.Text.{among}
+use Rattle.text.specs.Scan.{spanLen}
+use Rattle.text.proofs.ScanLaws.{take-rest}
 use Rattle.lines.specs.Line.{join}
-use Rattle.lines.specs.Command.{skipBlanks, trimmed, pieces, isDirective, hasBadPercent}
-use Rattle.lines.specs.Parts.{spanLength, isBlankByte, unblankedLength, trimBlanks, anyBadPercent}
-use Rattle.lines.proofs.RuleLaws.{part-to-end}
+use Rattle.lines.specs.Command.{skipBlanks, trimmed, pieces, hasBadPercent}
+use Rattle.lines.specs.Parts.{isBlankByte, unblankedLength, trimBlanks, anyBadPercent}
 
 -- ## Trimming
 
-skipBlanks-drop : (s : List ℕ) → skipBlanks s ≡ drop (spanLength isBlankByte s) s
-unfolding skipBlanks spanLength isBlankByte
+skipBlanks-drop : (s : List ℕ) → skipBlanks s ≡ drop (spanLen isBlankByte s) s
+unfolding skipBlanks spanLen isBlankByte
 skipBlanks-drop [] = refl
 skipBlanks-drop (x ∷ t) = by (among " \t" x) refl (skipBlanks-drop t)
   where
-    by : (b : Bool) → among " \t" x ≡ b → skipBlanks t ≡ drop (spanLength isBlankByte t) t → skipBlanks (x ∷ t) ≡ drop (spanLength isBlankByte (x ∷ t)) (x ∷ t)
+    by : (b : Bool) → among " \t" x ≡ b → skipBlanks t ≡ drop (spanLen isBlankByte t) t → skipBlanks (x ∷ t) ≡ drop (spanLen isBlankByte (x ∷ t)) (x ∷ t)
     by true e h = rw e h
     by false e h = rw e
 
@@ -66,14 +67,14 @@ take-unblanked : (t : List ℕ) → take (unblankedLength t) t ≡ reverse (skip
 unfolding unblankedLength
 take-unblanked t =
     rw (skipBlanks-drop (reverse t))
-    (ap (take (length (drop (spanLength isBlankByte (reverse t)) (reverse t)))) (sym (reverse-reverse t))
-    ∙ take-reverse-drop (spanLength isBlankByte (reverse t)) (reverse t))
+    (ap (take (length (drop (spanLen isBlankByte (reverse t)) (reverse t)))) (sym (reverse-reverse t))
+    ∙ take-reverse-drop (spanLen isBlankByte (reverse t)) (reverse t))
 
 -- the part that the code returns
-pub trim-part : (s : List ℕ) (a n : ℕ) → a ≡ spanLength isBlankByte s → n ≡ unblankedLength (take (length s - a) (drop a s))
+pub trim-part : (s : List ℕ) (a n : ℕ) → a ≡ spanLen isBlankByte s → n ≡ unblankedLength (take (length s - a) (drop a s))
     → take n (take (length s - a) (drop a s)) ≡ trimBlanks s
 unfolding trimBlanks
-trim-part s a n e f = rw (f, part-to-end s a, e, ← skipBlanks-drop s) (take-unblanked (skipBlanks s))
+trim-part s a n e f = rw (f, take-rest s a, e, ← skipBlanks-drop s) (take-unblanked (skipBlanks s))
 
 pub trimmed-join : (t : List ℕ) → trimmed t ≡ trimBlanks (join t)
 unfolding trimmed trimBlanks

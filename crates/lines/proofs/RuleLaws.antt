@@ -4,59 +4,71 @@ use Prim.Native.Nat.{ℕ, suc, _+_, _-_, _≤_, _<_}
 use native.Mathlib.Nat.{add-sub-cancel-left}
 use native.Mathlib.Numerals.{add-one}
 use native.Mathlib.Omega.{arith}
-use mathlib.Core.Path.{_≡_, refl, sym, ap, ap₂, _∙_}
-use mathlib.Core.Bool.{Bool, true, false, not, _&&_, _||_, or-false}
+use mathlib.Core.Path.{_≡_, refl, sym, ap, _∙_}
+use mathlib.Core.Bool.{Bool, true, false}
 use mathlib.Core.List.{List, [], _∷_}
 use mathlib.Core.Option.{Option, none, some}
 use lib.Dec.{ltb, eqb, leb·suc-suc}
 use lib.ListN.{length, take, drop, getD, length-drop, drop-of-length-le}
-use lib.Seq.{drop-cons, drop-drop, take-all}
-use borrow.Author.Tests.{eqb-true, lt-ltb, le-ltb}
+use lib.Seq.{drop-cons, drop-drop, drop-length, take-all}
+use borrow.Author.Tests.{eqb-true, ltb-true, ltb-false, ne-eqb, lt-ltb, le-ltb}
 use Rattle.text.specs.Basics.{if_then_else_, given, any}
-use Rattle.text.specs.Text.{among, split, consFirst, consHead}
+use Rattle.text.specs.Text.{among, split, consFirst}
+use Rattle.text.specs.Scan.{spanLen, indexOf}
+use Rattle.text.proofs.ScanLaws.{take-rest, spanLen-stop, spanLen-more}
 use Rattle.lines.specs.Line.{join}
 use Rattle.lines.specs.Rule.{splitSeparator, nonEmpty, elements, Rule, parseRule}
-use Rattle.lines.specs.Parts.{isSeparator, insideAfter, separatorIndex, words, spanLength, isParting, isElementByte, partingLength, elementLength}
+use Rattle.lines.specs.Parts.{isSeparator, insideAfter, separatorIndex, afterSeparator, words, isParting, isElementByte, partingLength, elementLength}
 use Rattle.lines.specs.Parts.{elementSpan, firstElement, afterElement}
 use Rattle.lines.specs.declared.rule.ElementSpan.{ElementSpan}
 
 -- ## The separators
 
--- the state as the code computes it
-insideAfter-code : (inside : Bool) (b : ℕ) → (inside && not (eqb b 93) || eqb b 91) ≡ insideAfter inside b
-unfolding any
-insideAfter-code true b = by (eqb b 93) refl
+-- inside brackets, up to the next `]`
+separatorIndex-inside : (t : List ℕ) → separatorIndex true t ≡ indexOf 93 t + separatorIndex false (drop (indexOf 93 t) t)
+unfolding separatorIndex indexOf spanLen any
+separatorIndex-inside [] = refl
+separatorIndex-inside (x ∷ t) = by (eqb x 93) refl (separatorIndex-inside t)
   where
-    by : (x : Bool) → eqb b 93 ≡ x → (not (eqb b 93) || eqb b 91) ≡ not (eqb b 93 || false)
-    by true e = rw (e, eqb-true b 93 e)
-    by false e = rw e
-insideAfter-code false b = rw or-false
+    by : (b : Bool) → eqb x 93 ≡ b → separatorIndex true t ≡ indexOf 93 t + separatorIndex false (drop (indexOf 93 t) t)
+        → separatorIndex true (x ∷ t) ≡ indexOf 93 (x ∷ t) + separatorIndex false (drop (indexOf 93 (x ∷ t)) (x ∷ t))
+    by true e ih = simp (e, eqb-true x 93 e) (omega arith)
+    by false e ih = rw e (omega (arith, ih))
 
-separatorIndex-skip : (inside : Bool) (x : ℕ) (t : List ℕ) → (not inside && eqb x 58) ≡ false
-    → separatorIndex inside (x ∷ t) ≡ suc (separatorIndex (inside && not (eqb x 93) || eqb x 91) t)
-unfolding separatorIndex any
-separatorIndex-skip inside x t e = rw (insideAfter-code inside x, or-false, e)
-
--- the search has passed i bytes without a separator
-pub record Searched (s : List ℕ) (inside : Bool) (i : ℕ) : Type 0 where
+-- the search has passed i bytes without a separator, and no bracket is open
+pub record Searched (s : List ℕ) (i : ℕ) : Type 0 where
   pub within : i ≤ length s
-  pub index : separatorIndex false s ≡ i + separatorIndex inside (drop i s)
+  pub index : separatorIndex false s ≡ i + separatorIndex false (drop i s)
 
-pub searched-none : (s : List ℕ) → Searched s false 0
+pub searched-none : (s : List ℕ) → Searched s 0
 searched-none s = record { within = omega arith; index = omega arith }
 
-module _ (s : List ℕ) (inside : Bool) (i : ℕ) (h : Searched s inside i) where
+module _ (s : List ℕ) (i : ℕ) (h : Searched s i) where
   pub separator-end : length s ≤ i → i ≡ separatorIndex false s
   unfolding separatorIndex
   separator-end l = sym (h .index ∙ rw (drop-of-length-le s l) (omega arith))
 
   module _ (l : i < length s) where
-    pub separator-here : (not inside && eqb (getD s i 0) 58) ≡ true → i ≡ separatorIndex false s
+    pub separator-here : getD s i 0 ≡ 58 → i ≡ separatorIndex false s
     unfolding separatorIndex any
-    separator-here e = sym (h .index ∙ rw (drop-cons s i 0, or-false, e) (omega arith))
+    separator-here e = sym (h .index ∙ rw (drop-cons s i 0, e) (omega arith))
 
-    pub searched-more : (not inside && eqb (getD s i 0) 58) ≡ false → Searched s (inside && not (eqb (getD s i 0) 93) || eqb (getD s i 0) 91) (i + 1)
-    searched-more e = record { within = omega arith; index = h .index ∙ rw (drop-cons s i 0, separatorIndex-skip inside (getD s i 0) (drop (suc i) s) e, add-one) (omega arith) }
+    pub searched-byte : (getD s i 0 ≡ 58 → ⊥) → (getD s i 0 ≡ 91 → ⊥) → Searched s (i + 1)
+    unfolding separatorIndex any
+    searched-byte e f = record {
+      within = omega arith;
+      index = h .index ∙ rw (add-one, drop-cons s i 0, ne-eqb (getD s i 0) 58 e, ne-eqb (getD s i 0) 91 f) (omega arith);
+    }
+
+    pub searched-bracket : (n : ℕ) → getD s i 0 ≡ 91 → n ≡ indexOf 93 (take (length s - (i + 1)) (drop (i + 1) s)) → n ≤ length (take (length s - (i + 1)) (drop (i + 1) s))
+        → Searched s (i + 1 + n)
+    unfolding separatorIndex any
+    searched-bracket n e is-n k =
+        let r : take (length s - (i + 1)) (drop (i + 1) s) ≡ drop (i + 1) s = take-rest s (i + 1) in
+        let f : separatorIndex false (drop i s) ≡ suc (separatorIndex true (drop (i + 1) s)) = rw (add-one, drop-cons s i 0, e) in
+        let g : separatorIndex true (drop (i + 1) s) ≡ n + separatorIndex false (drop (i + 1 + n) s)
+        = rw (is-n, r, ← (drop-drop (indexOf 93 (drop (i + 1) s)) (i + 1) s)) (separatorIndex-inside (drop (i + 1) s)) in
+        record { within = omega (arith, rw (r, length-drop) at k); index = omega (arith, h .index, f, g) }
 
 -- the text s parted at the place i, none where that is its end
 abbrev parted : List ℕ → ℕ → Option (List ℕ × List ℕ)
@@ -106,49 +118,64 @@ module _ (raw : List ℕ) (i : ℕ) (is-i : i ≡ separatorIndex false raw) wher
     unfolding parseRule
     parseRule-long k = rw (splitSeparator-some raw i is-i l, ← is-rest, splitSeparator-some rest j is-j k)
 
+    -- both at once: where there is no second separator, j is the end of the rest
+    pub parseRule-some : parseRule raw ≡ some (rule (elements (take i raw)) (elements (take j rest)) (drop (j + 1) rest))
+    parseRule-some = by (ltb j (length rest)) refl
+      where
+        by : (b : Bool) → ltb j (length rest) ≡ b → parseRule raw ≡ some (rule (elements (take i raw)) (elements (take j rest)) (drop (j + 1) rest))
+        by true e = parseRule-long (ltb-true j (length rest) e)
+        by false e =
+            let k : length rest ≤ j = ltb-false j (length rest) e in
+            let m : length rest ≤ j + 1 = omega arith in
+            parseRule-short k ∙ rw (take-all j rest k, drop-of-length-le rest m)
+
+-- the same of the parts as they are lent
+pub parseRule-parts : (raw : List ℕ) (i : ℕ) → i ≡ separatorIndex false raw → i < length raw → (rest : List ℕ) → rest ≡ afterSeparator i raw
+    → (j : ℕ) → j ≡ separatorIndex false rest → (command : List ℕ) → command ≡ afterSeparator j rest
+    → parseRule raw ≡ some (rule (elements (take i raw)) (elements (take j rest)) command)
+unfolding afterSeparator
+parseRule-parts raw i is-i l rest is-rest j is-j command is-command = rw is-command (parseRule-some raw i is-i l rest is-rest j is-j)
+
+module _ (s : List ℕ) (i : ℕ) where
+  pub afterSeparator-end : length s ≤ i → take (length s - length s) (drop (length s) s) ≡ afterSeparator i s
+  unfolding afterSeparator
+  afterSeparator-end l =
+      let m : length s ≤ i + 1 = omega arith in
+      take-rest s (length s) ∙ rw (drop-length, drop-of-length-le s m)
+
+  pub afterSeparator-part : take (length s - (i + 1)) (drop (i + 1) s) ≡ afterSeparator i s
+  unfolding afterSeparator
+  afterSeparator-part = take-rest s (i + 1)
+
 -- ## Spans
 
 -- the i bytes passed satisfy p
 pub record Passed (p : ℕ → Bool) (s : List ℕ) (i : ℕ) : Type 0 where
   pub within : i ≤ length s
-  pub count : spanLength p s ≡ i + spanLength p (drop i s)
+  pub count : spanLen p s ≡ i + spanLen p (drop i s)
 
-pub passed-none : (p : ℕ → Bool) (s : List ℕ) → Passed p s 0
-passed-none p s = record { within = omega arith; count = omega arith }
+module _ (p : ℕ → Bool) (s : List ℕ) (i : ℕ) (h : Passed p s i) (l : i < length s) (x : Bool) (is-x : x ≡ p (getD s i 0)) where
+  pub passed-stop : x ≡ false → i ≡ spanLen p s
+  passed-stop e = spanLen-stop p s i (h .count) l (sym is-x ∙ e)
 
-module _ (p : ℕ → Bool) (s : List ℕ) (i : ℕ) (h : Passed p s i) where
-  pub span-end : length s ≤ i → i ≡ spanLength p s
-  unfolding spanLength
-  span-end l = sym (h .count ∙ rw (drop-of-length-le s l) (omega arith))
+  pub passed-more : x ≡ true → Passed p s (i + 1)
+  passed-more e = record { within = omega arith; count = spanLen-more p s i (h .count) l (sym is-x ∙ e) }
 
-  module _ (l : i < length s) (x : Bool) (is-x : x ≡ p (getD s i 0)) where
-    pub span-stop : x ≡ false → i ≡ spanLength p s
-    unfolding spanLength
-    span-stop e = sym (h .count ∙ rw (drop-cons s i 0, ← is-x, e) (omega arith))
-
-    pub passed-more : x ≡ true → Passed p s (i + 1)
-    unfolding spanLength
-    passed-more e = record { within = omega arith; count = h .count ∙ rw (add-one, drop-cons s i 0, ← is-x, e) (omega arith) }
-
-pub spanLength-le : (p : ℕ → Bool) (s : List ℕ) → spanLength p s ≤ length s
-unfolding spanLength
-spanLength-le p [] = omega arith
-spanLength-le p (x ∷ t) = by (p x) (spanLength-le p t)
+pub spanLen-le : (p : ℕ → Bool) (s : List ℕ) → spanLen p s ≤ length s
+unfolding spanLen
+spanLen-le p [] = omega arith
+spanLen-le p (x ∷ t) = by (p x) (spanLen-le p t)
   where
-    by : (b : Bool) → spanLength p t ≤ length t → (if b then suc (spanLength p t) else 0) ≤ suc (length t)
+    by : (b : Bool) → spanLen p t ≤ length t → (if b then suc (spanLen p t) else 0) ≤ suc (length t)
     by true ih = omega arith
     by false ih = omega arith
 
 -- ## The first element
 
--- a part that runs to the end
-pub part-to-end : (s : List ℕ) (a : ℕ) → take (length s - a) (drop a s) ≡ drop a s
-part-to-end s a = take-all (length s - a) (drop a s) (rw length-drop (omega arith))
-
 pub elementSpan-is : (s : List ℕ) (a n : ℕ) → a ≡ partingLength s → n ≡ elementLength (take (length s - a) (drop a s))
     → record { start = a; end = a + n } ≡ elementSpan s
 unfolding elementSpan
-elementSpan-is s a n e f = rw (f, part-to-end s a, e)
+elementSpan-is s a n e f = rw (f, take-rest s a, e)
 
 module _ (s : List ℕ) (p : ElementSpan) (is-p : p ≡ elementSpan s) where
   pub element-start : p .start ≤ p .end
@@ -159,7 +186,7 @@ module _ (s : List ℕ) (p : ElementSpan) (is-p : p ≡ elementSpan s) where
   unfolding elementSpan
   element-end =
       rw is-p
-      (omega (arith, spanLength-le isParting s, spanLength-le isElementByte (drop (partingLength s) s), length-drop (partingLength s) s))
+      (omega (arith, spanLen-le isParting s, spanLen-le isElementByte (drop (partingLength s) s), length-drop (partingLength s) s))
 
   pub element-part : take (p .end - p .start) (drop (p .start) s) ≡ firstElement s
   unfolding elementSpan firstElement
@@ -167,7 +194,7 @@ module _ (s : List ℕ) (p : ElementSpan) (is-p : p ≡ elementSpan s) where
 
   pub after-part : take (length s - p .end) (drop (p .end) s) ≡ afterElement s
   unfolding elementSpan afterElement
-  after-part = part-to-end s (p .end) ∙ rw (is-p, ← drop-drop (elementLength (drop (partingLength s) s)) (partingLength s) s)
+  after-part = take-rest s (p .end) ∙ rw (is-p, ← drop-drop (elementLength (drop (partingLength s) s)) (partingLength s) s)
 
 -- ## The elements of a list
 
@@ -178,7 +205,7 @@ record Split (t : List ℕ) : Type 0 where
   rest : nonEmpty others ≡ words (drop (elementLength t) t)
 
 split-element : (t : List ℕ) → Split t
-unfolding split spanLength isElementByte isParting words nonEmpty
+unfolding split spanLen isElementByte isParting words nonEmpty
 split-element [] = record { others = []; parts = refl; rest = refl }
 split-element (x ∷ t) = by (among " \t," x) refl (split-element t)
   where
@@ -199,11 +226,11 @@ module _ (x : ℕ) (t : List ℕ) where
     words-parting = rw e
 
     firstElement-parting : firstElement (x ∷ t) ≡ firstElement t
-    unfolding firstElement spanLength isParting
+    unfolding firstElement spanLen isParting
     firstElement-parting = rw e
 
     afterElement-parting : afterElement (x ∷ t) ≡ afterElement t
-    unfolding afterElement spanLength isParting
+    unfolding afterElement spanLen isParting
     afterElement-parting = rw e
 
     step-parting : Step t → Step (x ∷ t)
@@ -215,11 +242,11 @@ module _ (x : ℕ) (t : List ℕ) where
 
   module _ (e : among " \t," x ≡ false) where
     firstElement-byte : firstElement (x ∷ t) ≡ x ∷ take (elementLength t) t
-    unfolding firstElement spanLength isParting isElementByte
+    unfolding firstElement spanLen isParting isElementByte
     firstElement-byte = simp e
 
     afterElement-byte : afterElement (x ∷ t) ≡ drop (elementLength t) t
-    unfolding afterElement spanLength isParting isElementByte
+    unfolding afterElement spanLen isParting isElementByte
     afterElement-byte = simp e
 
     words-byte : Split t → words (x ∷ t) ≡ (x ∷ take (elementLength t) t) ∷ words (drop (elementLength t) t)
@@ -234,7 +261,7 @@ module _ (x : ℕ) (t : List ℕ) where
     }
 
 pub step : (s : List ℕ) → Step s
-unfolding firstElement words split nonEmpty spanLength
+unfolding firstElement words split nonEmpty spanLen
 step [] = record { none = λ z. refl; some = λ z. absurd (z refl); less = λ z. absurd (z refl) }
 step (x ∷ t) = by (among " \t," x) refl (step t)
   where

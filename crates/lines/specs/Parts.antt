@@ -2,7 +2,6 @@
 -- Nothing here needs to be believed for document 01's meaning: laws tie each to Rule.antt or Command.antt.
 --   separatorIndex inside t == the place of the first separator, the length where there is none
 --   words t                 == the elements of the joined list t
---   spanLength p t          == how many bytes at the front of t satisfy p
 --   elementSpan t           == where the first element of t starts and ends
 --   trimBlanks t            == t without the spaces and tabs at either end
 -- Assumes nothing: these are definitions.
@@ -12,6 +11,7 @@ use mathlib.Core.List.{List, [], _∷_, reverse}
 use lib.ListN.{length, take, drop}
 use Rattle.text.specs.Basics.{if_then_else_, any}
 use Rattle.text.specs.Text.{among, split}
+use Rattle.text.specs.Scan.{spanLen}
 use Rattle.lines.specs.Rule.{nonEmpty}
 use Rattle.lines.specs.Command.{skipBlanks, isDirective, pieces}
 use Rattle.lines.specs.declared.rule.ElementSpan.{ElementSpan}
@@ -29,14 +29,14 @@ unfoldable pub separatorIndex : Bool → List ℕ → ℕ
 separatorIndex inside [] = 0
 separatorIndex inside (x ∷ t) = if isSeparator inside x then 0 else suc (separatorIndex (insideAfter inside x) t)
 
+-- what follows the separator at i; nothing where that is the end
+unfoldable pub afterSeparator : ℕ → List ℕ → List ℕ
+afterSeparator i t = drop (i + 1) t
+
 -- ## The elements of a list
 
 unfoldable pub words : List ℕ → List (List ℕ)
 words t = nonEmpty (split " \t," t)
-
-unfoldable pub spanLength : (ℕ → Bool) → List ℕ → ℕ
-spanLength p [] = 0
-spanLength p (x ∷ t) = if p x then suc (spanLength p t) else 0
 
 -- a byte that parts elements, or belongs to one
 unfoldable pub isParting : ℕ → Bool
@@ -47,10 +47,10 @@ isElementByte x = not (isParting x)
 
 -- what parts the elements, at the front of t; the element at the front of t
 abbrev pub partingLength : List ℕ → ℕ
-partingLength t = spanLength isParting t
+partingLength t = spanLen isParting t
 
 abbrev pub elementLength : List ℕ → ℕ
-elementLength t = spanLength isElementByte t
+elementLength t = spanLen isElementByte t
 
 unfoldable pub elementSpan : List ℕ → ElementSpan
 elementSpan t = let a : ℕ = partingLength t in record { start = a; end = a + elementLength (drop a t) }

@@ -2,10 +2,11 @@
 ghost use mathlib.Core.Path.{_≡_};
 ghost use Prim.Native.Nat.{_≤_};
 ghost use Rattle.text.specs.Text.{among};
-ghost use Rattle.lines.specs.Parts.{spanLength, isBlankByte, unblankedLength, trimBlanks, anyBadPercent};
+ghost use Rattle.text.specs.Scan.{spanLen};
+ghost use Rattle.lines.specs.Parts.{isBlankByte, unblankedLength, trimBlanks, anyBadPercent};
 
 // Whether b is a space or a tab.
-fn is_blank(b: u8) -> bool
+fn is_blank_byte(b: u8) -> bool
     ensures { λ r. ⌜ r ≡ isBlankByte b ⌝ }
 {
     (b == 32) | (b == 9)
@@ -13,12 +14,12 @@ fn is_blank(b: u8) -> bool
 
 // How many spaces and tabs stand at the front of s.
 fn blank_length(s: &[u8]) -> usize
-    ensures count { λ r. ⌜ r ≡ spanLength isBlankByte (now (s .entry)) ⌝ }
+    ensures count { λ r. ⌜ r ≡ spanLen isBlankByte (now (s .entry)) ⌝ }
     ensures within { λ r. do ⌜ r ≤ (← ⟦s.len()⟧ .entry) ⌝ }
 {
     let mut i = 0;
     while i < s.len() {
-        if is_blank(s[i]) {
+        if is_blank_byte(s[i]) {
             i += 1;
         } else {
             return i;
@@ -35,7 +36,7 @@ fn unblanked_length(s: &[u8]) -> usize
     let mut e = s.len();
     while 0 < e {
         let k = e - 1;
-        if is_blank(s[k]) {
+        if is_blank_byte(s[k]) {
             e = k;
         } else {
             return e;
@@ -59,14 +60,17 @@ pub fn is_directive(b: u8) -> bool
     ensures { λ r. ⌜ r ≡ among "aAnNhHucdsp%" b ⌝ }
 {
     (b == 97)
-        | ((b == 65)
-            | ((b == 110)
-                | ((b == 78)
-                    | ((b == 104)
-                        | ((b == 72)
-                            | ((b == 117)
-                                | ((b == 99)
-                                    | ((b == 100) | ((b == 115) | ((b == 112) | (b == 37)))))))))))
+        | (b == 65)
+        | (b == 110)
+        | (b == 78)
+        | (b == 104)
+        | (b == 72)
+        | (b == 117)
+        | (b == 99)
+        | (b == 100)
+        | (b == 115)
+        | (b == 112)
+        | (b == 37)
 }
 
 // Whether a percent of s stands at its end or takes a byte that none may.

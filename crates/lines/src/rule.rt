@@ -2,10 +2,11 @@
 ghost use mathlib.Core.Path.{_≡_};
 ghost use mathlib.Core.Bool.{false};
 ghost use Prim.Native.Nat.{_≤_};
-ghost use Rattle.lines.specs.Parts.{separatorIndex, isParting, isElementByte, partingLength, elementLength};
+ghost use Rattle.lines.specs.Rule.{isExcept};
+ghost use Rattle.lines.specs.Parts.{separatorIndex, afterSeparator, isParting, isElementByte, partingLength, elementLength};
 ghost use Rattle.lines.specs.Parts.{elementSpan, firstElement, afterElement};
 
-// Where an element starts and ends; both the length's place where there is none.
+// Where an element starts and ends; both are the text's length where there is none.
 pub struct ElementSpan {
     pub start: usize,
     pub end: usize,
@@ -16,24 +17,38 @@ pub fn separator(s: &[u8]) -> usize
     ensures place { λ r. ⌜ r ≡ separatorIndex false (now (s .entry)) ⌝ }
     ensures within { λ r. do ⌜ r ≤ (← ⟦s.len()⟧ .entry) ⌝ }
 {
-    let mut inside = false;
     let mut i = 0;
     while i < s.len() {
         let b = s[i];
-        if !inside & (b == 58) {
+        if b == 58 {
             return i;
         }
-        inside = (inside & (b != 93)) | (b == 91);
         i += 1;
+        if b == 91 {
+            let n = text::index_of(&s[i..], 93);
+            i += n;
+        }
     }
     i
+}
+
+// What follows the separator at i, empty where that is the end.
+pub fn after_separator(s: &[u8], i: usize) -> &[u8]
+    ensures { λ r. ⌜ now r ≡ afterSeparator i (now (s .entry)) ⌝ }
+{
+    if s.len() <= i {
+        let n = s.len();
+        return &s[n..];
+    }
+    let a = i + 1;
+    &s[a..]
 }
 
 // Whether b parts elements.
 fn is_parting(b: u8) -> bool
     ensures { λ r. ⌜ r ≡ isParting b ⌝ }
 {
-    (b == 32) | ((b == 9) | (b == 44))
+    (b == 32) | (b == 9) | (b == 44)
 }
 
 // Whether b belongs to an element.
@@ -103,6 +118,13 @@ pub fn after_element(s: &[u8], at: ElementSpan) -> &[u8]
     requires { ⌜ at ≡ elementSpan (now s) ⌝ }
     ensures { λ r. ⌜ now r ≡ afterElement (now (s .entry)) ⌝ }
 {
-    let e = at.end;
-    &s[e..]
+    let end = at.end;
+    &s[end..]
+}
+
+// Whether w is the word EXCEPT.
+pub fn is_except(w: &[u8]) -> bool
+    ensures { λ r. ⌜ r ≡ isExcept (now (w .entry)) ⌝ }
+{
+    text::equal_fold(b"EXCEPT", w)
 }

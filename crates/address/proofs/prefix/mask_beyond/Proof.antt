@@ -1,7 +1,6 @@
 -- `address::prefix::mask_beyond` meets its contract: all ones shifted by n, and none at the width. Assumes nothing.
 use Prim.Native.Nat.{ℕ, _-_, _^_}
 use mathlib.Core.Path.{ap, sym}
-use native.Mathlib.Omega.{arith}
 use borrow.Author.Needs.{needs}
 use Rattle.address.proofs.PrefixLaws.{ones-shr}
 use Rattle.address.proofs.prefix.mask_beyond.Statement.{statement}

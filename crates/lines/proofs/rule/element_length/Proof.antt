@@ -3,8 +3,9 @@
 use Prim.Native.Nat.{_-_}
 use borrow.Author.Needs.{needs}
 use lib.ListN.{length}
+use Rattle.text.proofs.ScanLaws.{spanLen-end}
 use Rattle.lines.specs.Parts.{isElementByte}
-use Rattle.lines.proofs.RuleLaws.{Passed, passed-none, passed-more, span-stop, span-end}
+use Rattle.lines.proofs.RuleLaws.{Passed, passed-more, passed-stop}
 use Rattle.lines.proofs.rule.element_length.Statement.{statement}
 use Rattle.lines.proofs.rule.element_length.Tie as tie
 
@@ -20,11 +21,11 @@ element-length-spec =
     (tie.spec
     Inv-loop
     μ-loop
-    (λ c. search (passed-none, needs))
+    (λ c. search needs)
     (λ c. search needs)
     (λ c κs. search needs)
     (λ c. search needs)
     (λ c. search needs)
     (λ c. search (passed-more, needs))
-    (λ c. search (span-stop, needs))
-    (λ c. search (span-end, needs)))
+    (λ c. search (passed-stop, needs))
+    (λ c. search (spanLen-end, needs)))

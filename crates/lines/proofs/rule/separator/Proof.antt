@@ -1,17 +1,17 @@
--- `rule::separator` meets its contract. The loop's invariant is `Searched`: the bytes passed hold no separator, and inside says
--- whether a bracket is open. The measure is what is left of the text. Assumes nothing.
+-- `rule::separator` meets its contract. The loop's invariant is `Searched`: the bytes passed hold no separator, and no bracket is open.
+-- The measure is what is left of the text. Assumes nothing.
 use Prim.Native.Nat.{_-_}
 use borrow.Author.Needs.{needs}
 use lib.ListN.{length}
-use Rattle.lines.proofs.RuleLaws.{Searched, searched-none, searched-more, separator-here, separator-end}
+use Rattle.lines.proofs.RuleLaws.{Searched, searched-none, searched-byte, searched-bracket, separator-here, separator-end}
 use Rattle.lines.proofs.rule.separator.Statement.{statement}
 use Rattle.lines.proofs.rule.separator.Tie as tie
 
 abbrev Inv-loop : tie.InvT-loop
-Inv-loop s inside₀ i₀ inside i = Searched s inside i
+Inv-loop s i₀ i = Searched s i
 
 abbrev μ-loop : tie.MeasureT-loop
-μ-loop s inside₀ i₀ inside i = length s - i
+μ-loop s i₀ i = length s - i
 
 pub separator-spec : {M : Type 1} → statement M
 separator-spec =
@@ -24,5 +24,12 @@ separator-spec =
     (λ c. search (separator-here, needs))
     (λ c. search needs)
     (λ c. search needs)
-    (λ c. search (searched-more, needs))
+    (λ c. search needs)
+    (λ c. search needs)
+    (λ c κs. search needs)
+    (λ c. search needs)
+    (λ c. search needs)
+    (λ c. search (searched-bracket, needs))
+    (λ c. search needs)
+    (λ c. search (searched-byte, needs))
     (λ c. search (separator-end, needs)))

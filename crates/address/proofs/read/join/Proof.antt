@@ -1,0 +1,16 @@
+-- `address::read::join` meets its contract: the bits of both sides lie apart, so no word carries. Assumes nothing.
+use borrow.Author.Needs.{needs}
+use Rattle.address.proofs.WordLaws.{join-over, join-high, join-low, join-value}
+use Rattle.address.proofs.read.join.Statement.{statement}
+use Rattle.address.proofs.read.join.Tie as tie
+
+pub join-spec : {M : Type 1} → statement M
+join-spec =
+    tie.close
+    (tie.spec
+    (λ c. search needs)
+    (λ c κs. search needs)
+    (λ c. record { fits = search (join-high, needs) })
+    (λ c. record { fits = search (join-low, needs) })
+    (λ c. search (join-value, needs))
+    (λ c. search (join-over, needs)))

@@ -1,0 +1,20 @@
+-- `address::read::read_address` meets its contract: IPv4 text first, then IPv6 text. Assumes nothing.
+use borrow.Author.Needs.{needs}
+use Rattle.address.proofs.ReadV6Laws.{address-v4, address-none, address-v6}
+use Rattle.address.proofs.read.read_address.Statement.{statement}
+use Rattle.address.proofs.read.read_address.Tie as tie
+
+pub read-address-spec : {M : Type 1} → statement M
+read-address-spec =
+    tie.close
+    (tie.spec
+    (λ c κs. search needs)
+    (λ c. search needs)
+    (λ c κs. search needs)
+    (λ c. search needs)
+    (λ c κs. search needs)
+    (λ c. search needs)
+    (λ c. search needs)
+    (λ c. search (address-none, needs))
+    (λ c. search (address-v6, needs))
+    (λ c. search (address-v4, needs)))

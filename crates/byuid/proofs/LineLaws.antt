@@ -1,0 +1,182 @@
+-- Laws of a line's forms: what is found at its first mark, and what each answer follows from.
+-- Assumes nothing.
+use Prim.Native.Nat.{ℕ, _+_, _-_, _*_, _^_, _<_, _≤_}
+use mathlib.Core.Bool.{Bool, false, _&&_}
+use mathlib.Core.List.{List, []}
+use mathlib.Core.Option.{Option, none, some}
+use mathlib.Core.Path.{_≡_, refl, sym, ap, _∙_}
+use native.Mathlib.Omega.{arith}
+use lib.ListN.{length, take, drop}
+use Rattle.text.specs.Basics.{_>>=_, _orElse_, holds}
+use Rattle.text.specs.Text.{bytes, splitOnce}
+use Rattle.text.specs.Scan.{indexOf}
+use Rattle.text.proofs.ScanLaws.{take-rest, splitOnce-mark, splitOnce-no-mark}
+use Rattle.address.specs.Address.{readV4, readV6}
+use Rattle.address.specs.Code.{asV6}
+use Rattle.address.specs.declared.Addr.{Addr}
+use Rattle.address.specs.declared.Addr.the-variants as A
+use Rattle.address.specs.declared.read.V6Read.{V6Read}
+use Rattle.address.specs.declared.read.V6Read.the-variants as W
+use Rattle.byuid.specs.Byuid.{Range, readRange, readNet, readPort, readCommaForm, readColonForm, lineGrants}
+use Rattle.byuid.specs.Code.{readerOf, bitsOf, inside, insideBoth, heldBy, isHeld, bothOf, betweenOf, endsOf, netFrom, portsOf}
+use Rattle.byuid.specs.declared.line.Kind.the-variants as K
+use Rattle.byuid.specs.declared.line.Held.{Held}
+use Rattle.byuid.specs.declared.line.Held.the-variants as H
+use Rattle.byuid.proofs.NumberLaws.{asV6-none, asV6-some, range, alone-held}
+
+-- what the code lends of a text around a mark at i
+abbrev pub rest : List ℕ → ℕ → List ℕ
+rest s i = take (length s - (i + 1)) (drop (i + 1) s)
+
+-- a number of one word
+one-word : (n : ℕ) → 0 * 2 ^ 64 + n ≡ n
+one-word n = omega arith
+
+-- ## Answers
+
+pub both-is : (x y : Held) (a b : Bool) → x ≡ H.Is a → y ≡ H.Is b → H.Is (a && b) ≡ bothOf x y
+both-is x y a b e f = rw (e, f)
+
+module _ {A : Type 0} (p : A → Bool) (o q : Option A) (h : Held) (is-h : h ≡ heldBy p o) where
+  pub or-nothing : h ≡ H.Nothing → (r : Held) → r ≡ heldBy p q → r ≡ heldBy p (o orElse q)
+  unfolding heldBy
+  or-nothing e r f = by o (sym is-h ∙ e)
+    where
+      by : (o : Option A) → heldBy p o ≡ H.Nothing → r ≡ heldBy p (o orElse q)
+      by none z = f
+      by (some x) z = let z : _≡_ {A = ℕ} 0 1 = cc in absurd (omega arith)
+
+  pub or-is : (b : Bool) → h ≡ H.Is b → h ≡ heldBy p (o orElse q)
+  unfolding heldBy
+  or-is b e = is-h ∙ by o (sym is-h ∙ e)
+    where
+      by : (o : Option A) → heldBy p o ≡ H.Is b → heldBy p o ≡ heldBy p (o orElse q)
+      by none z = let z : _≡_ {A = ℕ} 0 1 = cc in absurd (omega arith)
+      by (some x) z = refl
+
+abbrev ranges : Range → Range → Option (Range × Range)
+ranges x y = some (x, y)
+
+-- two ranges, both read
+both-held : (a p : ℕ) (o q : Option Range) → bothOf (heldBy (inside a) o) (heldBy (inside p) q) ≡ heldBy (insideBoth a p) (o >>= λ x. q >>= λ y. ranges x y)
+unfolding heldBy insideBoth
+both-held a p none q = refl
+both-held a p (some x) none = refl
+both-held a p (some x) (some y) = refl
+
+-- ## Ranges and nets
+
+module _ (f : List ℕ → Option ℕ) (s : List ℕ) (i : ℕ) (is-i : i ≡ indexOf 45 s) (n : ℕ) (r : Held) where
+  pub range-mark : i < length s → r ≡ heldBy (inside n) (endsOf f (take i s) (rest s i)) → r ≡ heldBy (inside n) (readRange f s)
+  unfolding readRange endsOf
+  range-mark h e = e ∙ rw (take-rest s (i + 1), splitOnce-mark 45 s i is-i h)
+
+  pub range-alone : length s ≤ i → (v : V6Read) → v ≡ asV6 (f s) → r ≡ betweenOf v v n → r ≡ heldBy (inside n) (readRange f s)
+  unfolding readRange
+  range-alone h v is-v e = rw (splitOnce-no-mark 45 s i is-i h) (alone-held f s n v r is-v e)
+
+module _ (w : ℕ) (f : List ℕ → Option ℕ) (s : List ℕ) (i : ℕ) (is-i : i ≡ indexOf 47 s) (n : ℕ) where
+  pub net-no-mark : length s ≤ i → H.Nothing ≡ heldBy (inside n) (readNet w f s)
+  unfolding readNet heldBy
+  net-no-mark h = rw (splitOnce-no-mark 47 s i is-i h)
+
+  module _ (h : i < length s) (v : V6Read) (is-v : v ≡ asV6 (f (take i s))) where
+    pub net-nothing : v ≡ W.Nothing → H.Nothing ≡ heldBy (inside n) (readNet w f s)
+    unfolding readNet heldBy
+    net-nothing e = rw (splitOnce-mark 47 s i is-i h, asV6-none (f (take i s)) (sym is-v ∙ e))
+
+    pub net-mark : (a b : ℕ) → v ≡ W.Value a b → (r : Held) → r ≡ heldBy (inside n) (netFrom w (a * 2 ^ 64 + b) (rest s i)) → r ≡ heldBy (inside n) (readNet w f s)
+    unfolding readNet netFrom
+    net-mark a b e r q = q ∙ rw (take-rest s (i + 1), splitOnce-mark 47 s i is-i h, asV6-some (f (take i s)) a b (sym is-v ∙ e))
+
+-- ## Forms
+
+module _ (w : ℕ) (f : List ℕ → Option ℕ) (l : List ℕ) (i : ℕ) (is-i : i ≡ indexOf 44 l) (a p : ℕ) where
+  pub comma-no-mark : length l ≤ i → H.Nothing ≡ heldBy (insideBoth a p) (readCommaForm w f l)
+  unfolding readCommaForm heldBy
+  comma-no-mark h = rw (splitOnce-no-mark 44 l i is-i h)
+
+  pub comma-mark : i < length l → (x y r : Held) → x ≡ heldBy (inside a) (readRange f (take i l) orElse readNet w f (take i l))
+      → y ≡ heldBy (inside (0 * 2 ^ 64 + p)) (readRange (readerOf K.Port) (rest l i)) → r ≡ bothOf x y → r ≡ heldBy (insideBoth a p) (readCommaForm w f l)
+  unfolding readCommaForm readerOf
+  comma-mark h x y r is-x is-y e =
+      e ∙ rw (is-x, is-y, one-word p, take-rest l (i + 1), splitOnce-mark 44 l i is-i h)
+      (both-held a p (readRange f (take i l) orElse readNet w f (take i l)) (readRange readPort (drop (i + 1) l)))
+
+module _ (s : List ℕ) (i : ℕ) (is-i : i ≡ indexOf 44 s) (p : ℕ) where
+  pub ports-no-mark : length s ≤ i → H.Nothing ≡ heldBy (inside p) (portsOf s)
+  unfolding portsOf heldBy
+  ports-no-mark h = rw (splitOnce-no-mark 44 s i is-i h)
+
+  pub ports-mark : i < length s → (r : Held) → r ≡ heldBy (inside (0 * 2 ^ 64 + p)) (endsOf (readerOf K.Port) (take i s) (rest s i)) → r ≡ heldBy (inside p) (portsOf s)
+  unfolding portsOf readerOf
+  ports-mark h r e = e ∙ rw (one-word p, take-rest s (i + 1), splitOnce-mark 44 s i is-i h)
+
+-- a range and the ports after it, as the definition reads them
+ports-after : (o : Option Range) (s : List ℕ) → (o >>= λ x. portsOf s >>= λ y. ranges x y)
+    ≡ (o >>= λ x. splitOnce (bytes ",") s >>= λ q. readPort (q .0) >>= λ low. readPort (q .1) >>= λ high. ranges x (low, high))
+unfolding portsOf endsOf
+ports-after none s = refl
+ports-after (some x) s = by (splitOnce (bytes ",") s)
+  where
+    ends : (o p : Option ℕ) → ((o >>= λ low. p >>= λ high. range low high) >>= λ y. ranges x y) ≡ (o >>= λ low. p >>= λ high. ranges x (low, high))
+    ends none p = refl
+    ends (some low) none = refl
+    ends (some low) (some high) = refl
+
+    by : (m : Option (List ℕ × List ℕ)) → ((m >>= λ q. endsOf readPort (q .0) (q .1)) >>= λ y. ranges x y)
+        ≡ (m >>= λ q. readPort (q .0) >>= λ low. readPort (q .1) >>= λ high. ranges x (low, high))
+    by none = refl
+    by (some q) = ends (readPort (q .0)) (readPort (q .1))
+
+module _ (l : List ℕ) (i : ℕ) (is-i : i ≡ indexOf 58 l) (a p : ℕ) where
+  pub colon-no-mark : length l ≤ i → H.Nothing ≡ heldBy (insideBoth a p) (readColonForm l)
+  unfolding readColonForm heldBy
+  colon-no-mark h = rw (splitOnce-no-mark 58 l i is-i h)
+
+  pub colon-mark : i < length l → (x y r : Held) → x ≡ heldBy (inside (0 * 2 ^ 64 + a)) (readNet (bitsOf K.V4) (readerOf K.V4) (take i l))
+      → y ≡ heldBy (inside p) (portsOf (rest l i)) → r ≡ bothOf x y → r ≡ heldBy (insideBoth a p) (readColonForm l)
+  unfolding readColonForm readerOf bitsOf
+  colon-mark h x y r is-x is-y e =
+      e ∙ rw (is-x, is-y, one-word a, take-rest l (i + 1), splitOnce-mark 58 l i is-i h)
+      (both-held a p (readNet 32 readV4 (take i l)) (portsOf (drop (i + 1) l)) ∙ ap (heldBy (insideBoth a p)) (ports-after (readNet 32 readV4 (take i l)) (drop (i + 1) l)))
+
+-- ## Lines
+
+-- at an IPv4 address
+module _ (l : List ℕ) (a p : ℕ) (h : Held) (is-h : h ≡ heldBy (insideBoth (0 * 2 ^ 64 + a) p) (readCommaForm (bitsOf K.V4) (readerOf K.V4) l)) where
+  comma-v4 : h ≡ heldBy (insideBoth a p) (readCommaForm 32 readV4 l)
+  unfolding readerOf bitsOf
+  comma-v4 = rw (one-word a) at is-h
+
+  pub v4-colon : h ≡ H.Nothing → (r : Held) → r ≡ heldBy (insideBoth a p) (readColonForm l) → r ≡ heldBy (insideBoth a p) (readCommaForm 32 readV4 l orElse readColonForm l)
+  v4-colon = or-nothing (insideBoth a p) (readCommaForm 32 readV4 l) (readColonForm l) h comma-v4
+
+  pub v4-comma : (b : Bool) → h ≡ H.Is b → h ≡ heldBy (insideBoth a p) (readCommaForm 32 readV4 l orElse readColonForm l)
+  v4-comma = or-is (insideBoth a p) (readCommaForm 32 readV4 l) (readColonForm l) h comma-v4
+
+isHeld-heldBy : {A : Type 0} (p : A → Bool) (o : Option A) → isHeld (heldBy p o) ≡ holds p o
+unfolding heldBy
+isHeld-heldBy p none = refl
+isHeld-heldBy p (some x) = refl
+
+module _ (addr : Addr) (p : ℕ) (l : List ℕ) where
+  pub grants-unknown : addr ≡ A.Unknown → false ≡ lineGrants addr p l
+  unfolding lineGrants
+  grants-unknown e = rw e
+
+  module _ (h : Held) (r : Bool) (is-r : r ≡ isHeld h) where
+    pub grants-v4 : (n : ℕ) → addr ≡ A.V4 n → h ≡ heldBy (insideBoth n p) (readCommaForm 32 readV4 l orElse readColonForm l) → r ≡ lineGrants addr p l
+    unfolding lineGrants insideBoth inside
+    grants-v4 n e f = is-r ∙ ap isHeld f ∙ isHeld-heldBy (insideBoth n p) (readCommaForm 32 readV4 l orElse readColonForm l) ∙ rw e
+
+    pub grants-v6 : (a b : ℕ) → addr ≡ A.V6 a b → h ≡ heldBy (insideBoth (a * 2 ^ 64 + b) p) (readCommaForm (bitsOf K.V6) (readerOf K.V6) l) → r ≡ lineGrants addr p l
+    unfolding lineGrants insideBoth inside readerOf bitsOf
+    grants-v6 a b e f = is-r ∙ ap isHeld f ∙ isHeld-heldBy (insideBoth (a * 2 ^ 64 + b) p) (readCommaForm 128 readV6 l) ∙ rw e
+
+-- a line of no bytes
+pub grants-nil : (addr : Addr) (p : ℕ) → lineGrants addr p [] ≡ false
+unfolding lineGrants readCommaForm readColonForm splitOnce
+grants-nil A.Unknown p = refl
+grants-nil (A.V4 n) p = refl
+grants-nil (A.V6 a b) p = refl

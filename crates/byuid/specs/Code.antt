@@ -1,0 +1,88 @@
+-- What the contracts inside the crate cite. Nothing here needs to be believed for the meaning of document 01: the public promise is stated
+-- over Byuid alone.
+--   readerOf k, bitsOf k == what reads a number of a kind, and its bits
+--   wideOf v             == a number of at most 32 bits, as the code answers one of two words
+--   inside a g           == the range g holds a; insideBoth a p g == the two ranges of a line hold a and p
+--   heldBy p o           == whether p holds of o, as the code answers it
+--   betweenOf l h n      == whether n is between two numbers that were read
+--   endsOf f x y         == the range from what x writes to what y writes
+--   netFrom w n t        == the net of n, of w bits, whose length t writes
+--   portsOf t            == the ports `pmin,pmax`
+-- Assumes nothing: these are definitions.
+use Prim.Native.Nat.{ℕ, _+_, _-_, _*_, _/_, _%_, _^_}
+use mathlib.Core.Bool.{Bool, false, _&&_}
+use mathlib.Core.List.{List}
+use mathlib.Core.Option.{Option, none, some}
+use lib.Dec.{eqb}
+use Rattle.text.specs.Basics.{_>>=_, given}
+use Rattle.text.specs.Text.{bytes, splitOnce, inRange}
+use Rattle.text.specs.Number.{readDecimal}
+use Rattle.text.specs.declared.NumberRead.{NumberRead}
+use Rattle.text.specs.declared.NumberRead.the-variants as N
+use Rattle.address.specs.Address.{readV4, readV6}
+use Rattle.address.specs.declared.read.V6Read.{V6Read}
+use Rattle.address.specs.declared.read.V6Read.the-variants as W
+use Rattle.byuid.specs.Byuid.{Range, readPort}
+use Rattle.byuid.specs.declared.line.Kind.{Kind}
+use Rattle.byuid.specs.declared.line.Kind.the-variants as K
+use Rattle.byuid.specs.declared.line.Held.{Held}
+use Rattle.byuid.specs.declared.line.Held.the-variants as H
+
+-- ## Numbers
+
+unfoldable pub readerOf : Kind → List ℕ → Option ℕ
+readerOf K.Port = readPort
+readerOf K.V4 = readV4
+readerOf K.V6 = readV6
+
+unfoldable pub bitsOf : Kind → ℕ
+bitsOf K.Port = 16
+bitsOf K.V4 = 32
+bitsOf K.V6 = 128
+
+abbrev pub wideOf : NumberRead → V6Read
+wideOf N.Nothing = W.Nothing
+wideOf (N.Value n) = W.Value (n / 2 ^ 64) (n % 2 ^ 64)
+
+-- ## Ranges
+
+unfoldable pub inside : ℕ → Range → Bool
+inside a g = inRange (g .0) (g .1) a
+
+unfoldable pub insideBoth : ℕ → ℕ → Range × Range → Bool
+insideBoth a p g = inside a (g .0) && inside p (g .1)
+
+module _ {A : Type 0} where
+  unfoldable pub heldBy : (A → Bool) → Option A → Held
+  heldBy p none = H.Nothing
+  heldBy p (some x) = H.Is (p x)
+
+abbrev pub isHeld : Held → Bool
+isHeld H.Nothing = false
+isHeld (H.Is b) = b
+
+abbrev pub bothOf : Held → Held → Held
+bothOf H.Nothing h = H.Nothing
+bothOf (H.Is x) H.Nothing = H.Nothing
+bothOf (H.Is x) (H.Is y) = H.Is (x && y)
+
+abbrev pub betweenOf : V6Read → V6Read → ℕ → Held
+betweenOf W.Nothing m n = H.Nothing
+betweenOf (W.Value a b) W.Nothing n = H.Nothing
+betweenOf (W.Value a b) (W.Value c d) n = H.Is (inRange (a * 2 ^ 64 + b) (c * 2 ^ 64 + d) n)
+
+unfoldable pub endsOf : (List ℕ → Option ℕ) → List ℕ → List ℕ → Option Range
+endsOf f x y = do
+  low ← f x
+  high ← f y
+  some (low, high)
+
+unfoldable pub netFrom : ℕ → ℕ → List ℕ → Option Range
+netFrom w n t = do
+  m ← readDecimal w t
+  given (eqb (n % 2 ^ (w - m)) 0) (n, n + 2 ^ (w - m) - 1)
+
+unfoldable pub portsOf : List ℕ → Option Range
+portsOf t = do
+  q ← splitOnce (bytes ",") t
+  endsOf readPort (q .0) (q .1)

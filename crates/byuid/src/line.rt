@@ -1,0 +1,233 @@
+// One line of a byuid file. A number of any kind is held as its two words, the high one first.
+//   grants(l, addr, port) == the line l grants the port at the address
+use address::Addr;
+use address::read::V6Read;
+use text::NumberRead;
+ghost use mathlib.Core.Path.{_≡_};
+ghost use Prim.Native.Nat.{_+_, _*_, _^_};
+ghost use lib.Dec.{leb};
+ghost use Rattle.text.specs.Basics.{_orElse_};
+ghost use Rattle.address.specs.Address.{readV4};
+ghost use Rattle.address.specs.Code.{asV6};
+ghost use Rattle.byuid.specs.Byuid.{readRange, readNet, readCommaForm, readColonForm, lineGrants};
+ghost use Rattle.byuid.specs.Code.{readerOf, bitsOf, wideOf, inside, insideBoth, heldBy, isHeld, bothOf, betweenOf, endsOf, netFrom, portsOf};
+
+// What a number of a line stands for.
+enum Kind {
+    Port,
+    V4,
+    V6,
+}
+
+// Whether what was read holds the request, or nothing was read.
+enum Held {
+    Nothing,
+    Is(bool),
+}
+
+// The bits of a number.
+fn bits(kind: Kind) -> u32
+    ensures { λ r. ⌜ r ≡ bitsOf kind ⌝ }
+{
+    match kind {
+        Kind::Port => 16,
+        Kind::V4 => 32,
+        Kind::V6 => 128,
+    }
+}
+
+// A number of at most 32 bits as two words.
+fn widen(v: NumberRead) -> V6Read
+    ensures { λ r. ⌜ r ≡ wideOf v ⌝ }
+{
+    match v {
+        NumberRead::Nothing => V6Read::Nothing,
+        NumberRead::Value(n) => V6Read::Value(0, n as u64),
+    }
+}
+
+// The number that s writes.
+fn read_number(s: &[u8], kind: Kind) -> V6Read
+    ensures { λ r. ⌜ r ≡ asV6 (readerOf kind (now (s .entry))) ⌝ }
+{
+    match kind {
+        Kind::Port => widen(text::read_decimal(s, 65535)),
+        Kind::V4 => widen(address::read::read_v4(s)),
+        Kind::V6 => address::read::read_v6(s),
+    }
+}
+
+// Whether a is at most b.
+fn at_most(a_high: u64, a_low: u64, b_high: u64, b_low: u64) -> bool
+    ensures { λ r. ⌜ r ≡ leb («a_high» * 2 ^ 64 + «a_low») («b_high» * 2 ^ 64 + «b_low») ⌝ }
+{
+    if a_high == b_high {
+        return a_low <= b_low;
+    }
+    a_high < b_high
+}
+
+// Whether a number is between two that were read, both included.
+fn between(min: V6Read, max: V6Read, high: u64, low: u64) -> Held
+    ensures { λ r. ⌜ r ≡ betweenOf min max (high * 2 ^ 64 + low) ⌝ }
+{
+    match min {
+        V6Read::Nothing => Held::Nothing,
+        V6Read::Value(a, b) => match max {
+            V6Read::Nothing => Held::Nothing,
+            V6Read::Value(c, d) => Held::Is(at_most(a, b, high, low) & at_most(high, low, c, d)),
+        },
+    }
+}
+
+// Whether the range from x to y holds a number.
+fn ends_hold(x: &[u8], y: &[u8], kind: Kind, high: u64, low: u64) -> Held
+    ensures { λ r. ⌜ r ≡ heldBy (inside (high * 2 ^ 64 + low)) (endsOf (readerOf kind) (now (x .entry)) (now (y .entry))) ⌝ }
+{
+    let min = read_number(x, kind);
+    let max = read_number(y, kind);
+    between(min, max, high, low)
+}
+
+// Whether the range min[-max] in s holds a number.
+fn range_holds(s: &[u8], kind: Kind, high: u64, low: u64) -> Held
+    ensures { λ r. ⌜ r ≡ heldBy (inside (high * 2 ^ 64 + low)) (readRange (readerOf kind) (now (s .entry))) ⌝ }
+{
+    let i = text::index_of(s, 45);
+    if i < s.len() {
+        return ends_hold(&s[..i], &s[i + 1..], kind, high, low);
+    }
+    let n = read_number(s, kind);
+    between(n, n, high, low)
+}
+
+// Whether the net of an address, with its length in t, holds a number.
+fn len_holds(t: &[u8], kind: Kind, net_high: u64, net_low: u64, high: u64, low: u64) -> Held
+    ensures { λ r. ⌜ r ≡ heldBy (inside (high * 2 ^ 64 + low)) (netFrom (bitsOf kind) («net_high» * 2 ^ 64 + «net_low») (now (t .entry))) ⌝ }
+{
+    let width = bits(kind);
+    let v = text::read_decimal(t, width);
+    match v {
+        NumberRead::Nothing => Held::Nothing,
+        NumberRead::Value(n) => {
+            let len = n + (128 - width);
+            if address::prefix::clear_beyond_v6(net_high, net_low, len) {
+                Held::Is(address::prefix::same_prefix_v6(net_high, net_low, high, low, len))
+            } else {
+                Held::Nothing
+            }
+        }
+    }
+}
+
+// Whether the net addr/len in s holds a number.
+fn net_holds(s: &[u8], kind: Kind, high: u64, low: u64) -> Held
+    ensures { λ r. ⌜ r ≡ heldBy (inside (high * 2 ^ 64 + low)) (readNet (bitsOf kind) (readerOf kind) (now (s .entry))) ⌝ }
+{
+    let i = text::index_of(s, 47);
+    if i < s.len() {
+        let v = read_number(&s[..i], kind);
+        match v {
+            V6Read::Nothing => Held::Nothing,
+            V6Read::Value(a, b) => len_holds(&s[i + 1..], kind, a, b, high, low),
+        }
+    } else {
+        Held::Nothing
+    }
+}
+
+// Whether the addresses before a comma hold one.
+fn addresses_hold(s: &[u8], kind: Kind, high: u64, low: u64) -> Held
+    ensures { λ r. ⌜ r ≡ heldBy (inside (high * 2 ^ 64 + low)) (readRange (readerOf kind) (now (s .entry)) orElse readNet (bitsOf kind) (readerOf kind) (now (s .entry))) ⌝ }
+{
+    let h = range_holds(s, kind, high, low);
+    match h {
+        Held::Nothing => net_holds(s, kind, high, low),
+        Held::Is(_) => h,
+    }
+}
+
+// Whether two parts of a line both hold the request.
+fn both(a: Held, b: Held) -> Held
+    ensures { λ r. ⌜ r ≡ bothOf a b ⌝ }
+{
+    match a {
+        Held::Nothing => Held::Nothing,
+        Held::Is(x) => match b {
+            Held::Nothing => Held::Nothing,
+            Held::Is(y) => Held::Is(x & y),
+        },
+    }
+}
+
+// Whether a line min[-max],pmin[-pmax] or addr[/len],pmin[-pmax] holds the request.
+fn comma_form(l: &[u8], kind: Kind, high: u64, low: u64, port: u16) -> Held
+    ensures { λ r. ⌜ r ≡ heldBy (insideBoth (high * 2 ^ 64 + low) port) (readCommaForm (bitsOf kind) (readerOf kind) (now (l .entry))) ⌝ }
+{
+    let i = text::index_of(l, 44);
+    if i < l.len() {
+        let a = addresses_hold(&l[..i], kind, high, low);
+        let p = range_holds(&l[i + 1..], Kind::Port, 0, port as u64);
+        both(a, p)
+    } else {
+        Held::Nothing
+    }
+}
+
+// Whether the ports pmin,pmax in s hold one.
+fn ports_hold(s: &[u8], port: u16) -> Held
+    ensures { λ r. ⌜ r ≡ heldBy (inside port) (portsOf (now (s .entry))) ⌝ }
+{
+    let i = text::index_of(s, 44);
+    if i < s.len() {
+        ends_hold(&s[..i], &s[i + 1..], Kind::Port, 0, port as u64)
+    } else {
+        Held::Nothing
+    }
+}
+
+// Whether a line addr4/len:pmin,pmax holds the request.
+fn colon_form(l: &[u8], addr: u32, port: u16) -> Held
+    ensures { λ r. ⌜ r ≡ heldBy (insideBoth addr port) (readColonForm (now (l .entry))) ⌝ }
+{
+    let i = text::index_of(l, 58);
+    if i < l.len() {
+        let a = net_holds(&l[..i], Kind::V4, 0, addr as u64);
+        let p = ports_hold(&l[i + 1..], port);
+        both(a, p)
+    } else {
+        Held::Nothing
+    }
+}
+
+// Whether a line holds the request, at an IPv4 address.
+fn held_v4(l: &[u8], addr: u32, port: u16) -> Held
+    ensures { λ r. ⌜ r ≡ heldBy (insideBoth addr port) (readCommaForm 32 readV4 (now (l .entry)) orElse readColonForm (now (l .entry))) ⌝ }
+{
+    let h = comma_form(l, Kind::V4, 0, addr as u64, port);
+    match h {
+        Held::Nothing => colon_form(l, addr, port),
+        Held::Is(_) => h,
+    }
+}
+
+// Whether the request is held.
+fn is_held(h: Held) -> bool
+    ensures { λ r. ⌜ r ≡ isHeld h ⌝ }
+{
+    match h {
+        Held::Nothing => false,
+        Held::Is(b) => b,
+    }
+}
+
+// Whether the line l grants the port at the address.
+pub(crate) fn grants(l: &[u8], addr: Addr, port: u16) -> bool
+    ensures { λ r. ⌜ r ≡ lineGrants addr port (now (l .entry)) ⌝ }
+{
+    match addr {
+        Addr::Unknown => false,
+        Addr::V4(n) => is_held(held_v4(l, n, port)),
+        Addr::V6(a, b) => is_held(comma_form(l, Kind::V6, a, b, port)),
+    }
+}

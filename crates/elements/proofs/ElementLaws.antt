@@ -1,0 +1,485 @@
+-- Laws of the elements of daemon and client lists, as the code reads them.
+-- Assumes nothing.
+use Prim.Native.Nat.{ℕ, suc, _+_, _-_, _<_, _≤_}
+use Prim.Native.String.{String}
+use mathlib.Core.Bool.{Bool, true, false, not, _&&_, _||_}
+use mathlib.Core.Bool as Bool
+use mathlib.Core.List.{List, [], _∷_, map}
+use mathlib.Core.Option.{Option, none, some}
+use mathlib.Core.Path.{_≡_, refl, sym, ap, _∙_}
+use native.Mathlib.Numerals.{add-one}
+use native.Mathlib.Omega.{arith}
+use borrow.Author.Tests.{le-leb, lt-leb}
+use lib.Dec.{eqb, leb}
+use lib.ListN.{length, take, drop, getD}
+use Rattle.text.specs.Basics.{if_then_else_, _>>=_, _orElse_, given, holds, isSome, any, all}
+use Rattle.text.specs.Text.{bytes, firstAmong, inRange, lower, equal, equalFold, isWord}
+use Rattle.text.specs.Scan.{indexOf}
+use Rattle.text.proofs.ScanLaws.{take-rest, splitOnce-mark, splitOnce-no-mark, eq-of-equal}
+use Rattle.elements.specs.declared.User.{User}
+use Rattle.elements.specs.declared.User.the-variants as U
+use Rattle.elements.specs.declared.Found.{Found}
+use Rattle.elements.specs.declared.Found.the-variants.{No, Ask}
+use Rattle.elements.specs.declared.pattern.Wildcard.{Wildcard}
+use Rattle.elements.specs.declared.pattern.Wildcard.the-variants as W
+use Rattle.elements.specs.declared.element.ElementFault.the-variants as E
+use Rattle.elements.specs.Request.{Endpoint, Request, requestOf, nameCase, userCase, wellFormed}
+use Rattle.elements.specs.Pattern.{Pattern, isNameByte, hostPattern}
+use Rattle.elements.specs.Element.{Element, halves, reservedStart, isPlainName, daemonName, userHalf, foundIf, daemonParts, clientParts, daemonElement, clientElement, lookAt}
+use Rattle.elements.specs.Code.{elementFault, userFits, wildcardOf, wildcardPattern, matchesPattern, hostMatches, atSign, nameFits, nameEquals, userTest, userFound, askIf, nobody, daemonRequest, clientRequest}
+use Rattle.elements.proofs.TestLaws.{firstAmong-head, indexOf-length}
+use Rattle.elements.proofs.PatternLaws.{wildcard-of}
+
+-- ## Halves
+
+pub atSign-nil : (e : List ℕ) → length e ≡ 0 → (0 ≡ atSign e) × (0 ≤ length e)
+unfolding atSign
+atSign-nil [] h = (refl, omega arith)
+atSign-nil (x ∷ t) h = absurd (omega arith)
+
+pub atSign-cons : (e : List ℕ) → (length e ≡ 0 → ⊥) → (i : ℕ) → i ≡ indexOf 64 (take (length e - 1) (drop 1 e)) → (i + 1 ≡ atSign e) × (i + 1 ≤ length e)
+unfolding atSign
+atSign-cons [] h i q = absurd (h refl)
+atSign-cons (x ∷ t) h i q =
+    let k : i ≡ indexOf 64 t = q ∙ ap (indexOf 64) (take-rest (x ∷ t) 1) in
+    (ap (λ (n : ℕ). n + 1) k, omega (arith, indexOf-length 64 t))
+
+module _ (e : List ℕ) (at : ℕ) (is-at : at ≡ atSign e) where
+  pub halves-none : at ≡ length e → halves e ≡ none
+  unfolding atSign halves
+  halves-none h = by e (sym is-at ∙ h)
+    where
+      by : (e : List ℕ) → atSign e ≡ length e → halves e ≡ none
+      by [] h = refl
+      by (x ∷ t) h = rw (splitOnce-no-mark 64 t (indexOf 64 t) refl (omega arith))
+
+  pub halves-some : (at ≡ length e → ⊥) → halves e ≡ some (take at e, drop (at + 1) e)
+  unfolding atSign halves
+  halves-some h = rw is-at (by e (λ q. h (is-at ∙ q)))
+    where
+      by : (e : List ℕ) → (atSign e ≡ length e → ⊥) → halves e ≡ some (take (atSign e) e, drop (atSign e + 1) e)
+      by [] n = absurd (n refl)
+      by (x ∷ t) n = rw (splitOnce-mark 64 t (indexOf 64 t) refl (omega (arith, indexOf-length 64 t)), add-one (indexOf 64 t), add-one (suc (indexOf 64 t)))
+
+-- ## Reserved marks
+
+pub marks-nil : (s : List ℕ) → length s ≡ 0 → false ≡ firstAmong "@/" s
+marks-nil [] h = refl
+marks-nil (x ∷ s) h = absurd (omega arith)
+
+pub marks-head : (s : List ℕ) → (length s ≡ 0 → ⊥) → (eqb (getD s 0 0) 64 || eqb (getD s 0 0) 47) ≡ firstAmong "@/" s
+unfolding any
+marks-head s h = sym (firstAmong-head "@/" s h ∙ rw (Bool.or-false (eqb (getD s 0 0) 47)))
+
+module _ (e : List ℕ) (x : Bool) (is-x : x ≡ firstAmong "@/" e) where
+  pub reserved-first : x ≡ true → true ≡ reservedStart e
+  unfolding reservedStart
+  reserved-first q = rw (← is-x, q)
+
+  module _ (nx : x ≡ false) (at : ℕ) (is-at : at ≡ atSign e) where
+    pub reserved-whole : at ≡ length e → false ≡ reservedStart e
+    unfolding reservedStart
+    reserved-whole h = rw (← is-x, nx, halves-none e at is-at h)
+
+    pub reserved-half : (at ≡ length e → ⊥) → (r : Bool) → r ≡ firstAmong "@/" (take (length e - (at + 1)) (drop (at + 1) e)) → r ≡ reservedStart e
+    unfolding reservedStart
+    reserved-half h r q = rw (← is-x, nx, halves-some e at is-at h) (q ∙ ap (firstAmong "@/") (take-rest e (at + 1)))
+
+-- ## Names
+
+module _ (t : List ℕ) where
+  fits-is : nameFits t ≡ (all isNameByte t && inRange 1 64 (length t))
+  unfolding nameFits
+  fits-is = refl
+
+  pub fits-empty : length t ≡ 0 → false ≡ nameFits t
+  fits-empty h = rw (fits-is, lt-leb 1 (length t) (omega arith), Bool.and-false (all isNameByte t))
+
+  pub fits-long : 64 < length t → false ≡ nameFits t
+  fits-long h = rw (fits-is, lt-leb (length t) 64 h, Bool.and-false (leb 1 (length t)), Bool.and-false (all isNameByte t))
+
+  pub fits-name : (length t ≡ 0 → ⊥) → length t ≤ 64 → (r : Bool) → r ≡ all isNameByte t → r ≡ nameFits t
+  fits-name n h r q =
+      let k : 1 ≤ length t = omega arith in
+      q ∙ sym (rw (fits-is, le-leb 1 (length t) k, le-leb (length t) 64 h, Bool.and-true (all isNameByte t)))
+
+  pub equals-same : (n : List ℕ) (x : Bool) → x ≡ equalFold t n → x ≡ true → (r : Bool) → r ≡ nameFits t → r ≡ nameEquals t n
+  equals-same n x q y r k = rw (← q, y) k
+
+  pub equals-differ : (n : List ℕ) (x : Bool) → x ≡ equalFold t n → x ≡ false → false ≡ nameEquals t n
+  equals-differ n x q y = rw (← q, y)
+
+-- a word is no other
+other-word : (v w : String) (t : List ℕ) → isWord v t ≡ true → equal (map lower (bytes w)) (map lower (bytes v)) ≡ false → isWord w t ≡ false
+unfolding equalFold
+other-word v w t e n = rw (← (eq-of-equal (map lower (bytes v)) (map lower t) e)) n
+
+-- what the words say of a text, one after the other
+pub by-word : (t : List ℕ) (P : Wildcard → Type 0)
+    → (isWord "ALL" t ≡ true → P W.All)
+    → (isWord "ALL" t ≡ false → isWord "LOCAL" t ≡ true → P W.Local)
+    → (isWord "ALL" t ≡ false → isWord "KNOWN" t ≡ true → P W.Known)
+    → (isWord "ALL" t ≡ false → isWord "KNOWN" t ≡ false → isWord "UNKNOWN" t ≡ true → P W.Unknown)
+    → (isWord "ALL" t ≡ false → isWord "KNOWN" t ≡ false → isWord "UNKNOWN" t ≡ false → P W.Paranoid)
+    → (isWord "ALL" t ≡ false → isWord "KNOWN" t ≡ false → isWord "UNKNOWN" t ≡ false → P W.Nothing)
+    → P (wildcardOf t)
+unfolding wildcardOf
+by-word t P all local known unknown paranoid nothing = by (isWord "ALL" t) (isWord "LOCAL" t) (isWord "KNOWN" t) (isWord "UNKNOWN" t) (isWord "PARANOID" t) refl refl refl refl
+  where
+    by : (a l k u p : Bool) → isWord "ALL" t ≡ a → isWord "LOCAL" t ≡ l → isWord "KNOWN" t ≡ k → isWord "UNKNOWN" t ≡ u
+        → P (if a then W.All else if l then W.Local else if k then W.Known else if u then W.Unknown else if p then W.Paranoid else W.Nothing)
+    by true l k u p ea el ek eu = all ea
+    by false true k u p ea el ek eu = local ea el
+    by false false true u p ea el ek eu = known ea ek
+    by false false false true p ea el ek eu = unknown ea ek eu
+    by false false false false true ea el ek eu = paranoid ea ek eu
+    by false false false false false ea el ek eu = nothing ea ek eu
+
+-- a daemon's name and a user half, by the wildcard that they are
+abbrev pub daemonAt : Wildcard → List ℕ → Option (List ℕ → Bool)
+daemonAt W.Nothing t = given (nameFits t) (equalFold t)
+daemonAt W.All t = some (λ d. true)
+daemonAt W.Local t = none
+daemonAt W.Known t = none
+daemonAt W.Unknown t = none
+daemonAt W.Paranoid t = none
+
+abbrev pub userAt : Wildcard → List ℕ → Option (Request → Bool)
+userAt W.Nothing t = given (nameFits t) (λ r. userCase r false false (equalFold t (r .userName)))
+userAt W.All t = some (λ r. true)
+userAt W.Local t = none
+userAt W.Known t = some (λ r. userCase r false false true)
+userAt W.Unknown t = some (λ r. userCase r false true false)
+userAt W.Paranoid t = none
+
+plain-at : (t : List ℕ) → isPlainName t ≡ (nameFits t && not (isSome (wildcardPattern (wildcardOf t))))
+unfolding isPlainName nameFits
+plain-at t = rw (wildcard-of t)
+
+daemon-at : (t : List ℕ) → daemonName t ≡ daemonAt (wildcardOf t) t
+unfolding daemonName
+daemon-at t = rw (plain-at t) (by-word t (λ w. (given (isWord "ALL" t) (λ d. true) orElse given (nameFits t && not (isSome (wildcardPattern w))) (equalFold t)) ≡ daemonAt w t)
+    (λ a. rw a)
+    (λ a l. rw (a, none-fits))
+    (λ a k. rw (a, none-fits))
+    (λ a k u. rw (a, none-fits))
+    (λ a k u. rw (a, none-fits))
+    (λ a k u. rw (a, Bool.and-true (nameFits t))))
+  where
+    none-fits : (nameFits t && false) ≡ false
+    none-fits = Bool.and-false (nameFits t)
+
+user-at : (t : List ℕ) → userHalf t ≡ userAt (wildcardOf t) t
+unfolding userHalf equal lower
+user-at t = rw (plain-at t) (by-word t (λ w. halfAs w ≡ userAt w t)
+    (λ a. rw a)
+    (λ a l. rw (a, other-word "LOCAL" "KNOWN" t l refl, other-word "LOCAL" "UNKNOWN" t l refl, none-fits))
+    (λ a k. rw (a, k))
+    (λ a k u. rw (a, k, u))
+    (λ a k u. rw (a, k, u, none-fits))
+    (λ a k u. rw (a, k, u, Bool.and-true (nameFits t))))
+  where
+    none-fits : (nameFits t && false) ≡ false
+    none-fits = Bool.and-false (nameFits t)
+
+    halfAs : Wildcard → Option (Request → Bool)
+    halfAs w =
+        given (isWord "ALL" t) (λ r. true)
+        orElse given (isWord "KNOWN" t) (λ r. userCase r false false true)
+        orElse given (isWord "UNKNOWN" t) (λ r. userCase r false true false)
+        orElse given (nameFits t && not (isSome (wildcardPattern w))) (λ r. userCase r false false (equalFold t (r .userName)))
+
+isSome-given : {A : Type 0} (b : Bool) (a : A) → isSome (given b a) ≡ b
+isSome-given true a = refl
+isSome-given false a = refl
+
+holds-given : {A : Type 0} (p : A → Bool) (b : Bool) (a : A) → holds p (given b a) ≡ (p a && b)
+holds-given p true a = sym (Bool.and-true (p a))
+holds-given p false a = sym (Bool.and-false (p a))
+
+-- as the code finds them, w the wildcard that t is
+module _ (t : List ℕ) (w v : Wildcard) (is-w : w ≡ wildcardOf t) (is-v : w ≡ v) where
+  pub daemon-is : daemonName t ≡ daemonAt v t
+  daemon-is = daemon-at t ∙ rw (← is-w, is-v)
+
+  pub user-is : userHalf t ≡ userAt v t
+  user-is = user-at t ∙ rw (← is-w, is-v)
+
+  pub daemon-sound : (r : Bool) → r ≡ isSome (daemonAt v t) → r ≡ isSome (daemonName t)
+  daemon-sound r q = rw daemon-is q
+
+  pub daemon-matches : (d : List ℕ) (r : Bool) → r ≡ holds (λ f. f d) (daemonAt v t) → r ≡ holds (λ f. f d) (daemonName t)
+  daemon-matches d r q = rw daemon-is q
+
+  pub user-sound : (r : Bool) → r ≡ isSome (userAt v t) → r ≡ isSome (userHalf t)
+  user-sound r q = rw user-is q
+
+  pub user-matches : (u : User) (name : List ℕ) (r : Bool) → r ≡ holds (λ f. f (clientRequest nobody u name)) (userAt v t) → r ≡ userTest t u name
+  unfolding userTest
+  user-matches u name r q = rw user-is q
+
+-- a name that is no wildcard
+module _ (t : List ℕ) where
+  pub daemon-named : isSome (daemonAt W.Nothing t) ≡ nameFits t
+  daemon-named = isSome-given (nameFits t) (equalFold t)
+
+  pub user-named : isSome (userAt W.Nothing t) ≡ nameFits t
+  user-named = isSome-given (nameFits t) (λ (r : Request). userCase r false false (equalFold t (r .userName)))
+
+  pub daemon-equals : (d : List ℕ) → holds (λ f. f d) (daemonAt W.Nothing t) ≡ nameEquals t d
+  daemon-equals d = holds-given (λ (f : List ℕ → Bool). f d) (nameFits t) (equalFold t)
+
+  pub user-equals : (name : List ℕ) → holds (λ f. f (clientRequest nobody U.Known name)) (userAt W.Nothing t) ≡ nameEquals t name
+  user-equals name = holds-given (λ (f : Request → Bool). f (clientRequest nobody U.Known name)) (nameFits t) (λ r. userCase r false false (equalFold t (r .userName)))
+
+  pub user-unnamed : holds (λ f. f (clientRequest nobody U.Unknown [])) (userAt W.Nothing t) ≡ false
+  user-unnamed = holds-given (λ (f : Request → Bool). f (clientRequest nobody U.Unknown [])) (nameFits t) (λ r. userCase r false false (equalFold t (r .userName)))
+
+-- ## What a user half finds
+
+-- of a request, where the host half matches
+abbrev finds : Option (Request → Bool) → Request → Found
+finds none r = No
+finds (some f) r = userCase r Ask (foundIf (f r)) (foundIf (f r))
+
+-- no user half looks at more than the user
+user-same : (v : Wildcard) (t : List ℕ) (r : Request) → finds (userAt v t) r ≡ finds (userAt v t) (clientRequest nobody (r .user) (r .userName))
+user-same W.Nothing t r = by (nameFits t)
+  where
+    by : (b : Bool) → finds (given b (λ r. userCase r false false (equalFold t (r .userName)))) r
+        ≡ finds (given b (λ r. userCase r false false (equalFold t (r .userName)))) (clientRequest nobody (r .user) (r .userName))
+    by true = refl
+    by false = refl
+user-same W.All t r = refl
+user-same W.Local t r = refl
+user-same W.Known t r = refl
+user-same W.Unknown t r = refl
+user-same W.Paranoid t r = refl
+
+-- the name of an unknown user is not looked at
+unknown-same : (v : Wildcard) (t name : List ℕ) → finds (userAt v t) (clientRequest nobody U.Unknown name) ≡ finds (userAt v t) (clientRequest nobody U.Unknown [])
+unknown-same W.Nothing t name = by (nameFits t)
+  where
+    by : (b : Bool) → finds (given b (λ r. userCase r false false (equalFold t (r .userName)))) (clientRequest nobody U.Unknown name)
+        ≡ finds (given b (λ r. userCase r false false (equalFold t (r .userName)))) (clientRequest nobody U.Unknown [])
+    by true = refl
+    by false = refl
+unknown-same W.All t name = refl
+unknown-same W.Local t name = refl
+unknown-same W.Known t name = refl
+unknown-same W.Unknown t name = refl
+unknown-same W.Paranoid t name = refl
+
+finds-same : (t : List ℕ) (r : Request) → finds (userHalf t) r ≡ finds (userHalf t) (clientRequest nobody (r .user) (r .userName))
+finds-same t r = rw (user-at t) (user-same (wildcardOf t) t r)
+
+found-is : (t : List ℕ) (u : User) (name : List ℕ) → userFound t u name ≡ finds (userHalf t) (clientRequest nobody u name)
+unfolding userFound userTest
+found-is t U.NotFetched name = by (userHalf t)
+  where
+    by : (o : Option (Request → Bool)) → askIf (isSome o) ≡ finds o (clientRequest nobody U.NotFetched name)
+    by none = refl
+    by (some f) = refl
+found-is t U.Unknown name = by (userHalf t) ∙ sym (rw (user-at t) (unknown-same (wildcardOf t) t name))
+  where
+    by : (o : Option (Request → Bool)) → foundIf (holds (λ f. f (clientRequest nobody U.Unknown [])) o) ≡ finds o (clientRequest nobody U.Unknown [])
+    by none = refl
+    by (some f) = refl
+found-is t U.Known name = by (userHalf t)
+  where
+    by : (o : Option (Request → Bool)) → foundIf (holds (λ f. f (clientRequest nobody U.Known name)) o) ≡ finds o (clientRequest nobody U.Known name)
+    by none = refl
+    by (some f) = refl
+
+module _ (t : List ℕ) (u : User) (name : List ℕ) (r : Found) (x : Bool) where
+  pub found-ask : u ≡ U.NotFetched → x ≡ isSome (userHalf t) → r ≡ askIf x → r ≡ userFound t u name
+  unfolding userFound
+  found-ask e q k = rw (e, ← q) k
+
+  pub found-unknown : u ≡ U.Unknown → x ≡ userTest t U.Unknown [] → r ≡ foundIf x → r ≡ userFound t u name
+  unfolding userFound
+  found-unknown e q k = rw (e, ← q) k
+
+  pub found-known : u ≡ U.Known → x ≡ userTest t U.Known name → r ≡ foundIf x → r ≡ userFound t u name
+  unfolding userFound
+  found-known e q k = rw (e, ← q) k
+
+-- ## Elements of either list, whole or parted
+
+one-sound : {A B : Type 0} (o : Option A) (f : A → B) → isSome (o >>= λ a. some (f a)) ≡ isSome o
+one-sound none f = refl
+one-sound (some a) f = refl
+
+two-sound : {A B C : Type 0} (o : Option A) (p : Option B) (f : A → B → C) → isSome (o >>= λ a. p >>= λ b. some (f a b)) ≡ (isSome o && isSome p)
+two-sound none p f = refl
+two-sound (some a) none f = refl
+two-sound (some a) (some b) f = refl
+
+-- what stands after the `@`, as the code has it
+abbrev after : List ℕ → ℕ → List ℕ
+after e at = take (length e - (at + 1)) (drop (at + 1) e)
+
+module _ (e : List ℕ) (at : ℕ) (is-at : at ≡ atSign e) where
+  module _ (h : at ≡ length e) where
+    pub daemon-whole : (r : Bool) → r ≡ isSome (daemonName e) → r ≡ isSome (daemonElement e)
+    unfolding daemonElement daemonParts
+    daemon-whole r q = rw (halves-none e at is-at h) (q ∙ sym (one-sound (daemonName e) (λ f (k : Request). foundIf (f (k .daemon)))))
+
+    pub client-whole : (r : Bool) → r ≡ isSome (hostPattern e) → r ≡ isSome (clientElement e)
+    unfolding clientElement clientParts
+    client-whole r q = rw (halves-none e at is-at h) (q ∙ sym (one-sound (hostPattern e) (λ g (k : Request). foundIf (g (k .client)))))
+
+  module _ (h : at ≡ length e → ⊥) (x : Bool) where
+    parted : halves e ≡ some (take at e, after e at)
+    parted = halves-some e at is-at h ∙ ap (λ (s : List ℕ). some (take at e, s)) (sym (take-rest e (at + 1)))
+
+    daemon-both : isSome (daemonElement e) ≡ (isSome (daemonName (take at e)) && isSome (hostPattern (after e at)))
+    unfolding daemonElement daemonParts
+    daemon-both = rw parted (two-sound (daemonName (take at e)) (hostPattern (after e at)) (λ f g (k : Request). foundIf (f (k .daemon) && g (k .server))))
+
+    client-both : isSome (clientElement e) ≡ (isSome (userHalf (take at e)) && isSome (hostPattern (after e at)))
+    unfolding clientElement clientParts
+    client-both = rw parted (two-sound (userHalf (take at e)) (hostPattern (after e at)) (λ f g (k : Request). if g (k .client) then userCase k Ask (foundIf (f k)) (foundIf (f k)) else No))
+
+    module _ (is-x : x ≡ isSome (daemonName (take at e))) where
+      pub daemon-halves : x ≡ true → (r : Bool) → r ≡ isSome (hostPattern (after e at)) → r ≡ isSome (daemonElement e)
+      daemon-halves y r q = rw (daemon-both, ← is-x, y) q
+
+      pub daemon-nameless : x ≡ false → false ≡ isSome (daemonElement e)
+      daemon-nameless y = rw (daemon-both, ← is-x, y)
+
+    module _ (is-x : x ≡ isSome (userHalf (take at e))) where
+      pub client-halves : x ≡ true → (r : Bool) → r ≡ isSome (hostPattern (after e at)) → r ≡ isSome (clientElement e)
+      client-halves y r q = rw (client-both, ← is-x, y) q
+
+      pub client-userless : x ≡ false → false ≡ isSome (clientElement e)
+      client-userless y = rw (client-both, ← is-x, y)
+
+-- ## What is wrong with an element
+
+module _ (kind : List ℕ → Element) (e : List ℕ) (x : Bool) (is-x : x ≡ reservedStart e) where
+  pub fault-reserved : x ≡ true → E.Reserved ≡ elementFault kind e
+  unfolding elementFault
+  fault-reserved y = rw (← is-x, y)
+
+  module _ (nx : x ≡ false) (s : Bool) (is-s : s ≡ isSome (kind e)) where
+    pub fault-sound : s ≡ true → E.Sound ≡ elementFault kind e
+    unfolding elementFault
+    fault-sound y = rw (← is-x, nx, ← is-s, y)
+
+    pub fault-unknown : s ≡ false → E.Unknown ≡ elementFault kind e
+    unfolding elementFault
+    fault-unknown y = rw (← is-x, nx, ← is-s, y)
+
+-- ## What an element finds
+
+module _ (e : List ℕ) (at : ℕ) (is-at : at ≡ atSign e) (d : List ℕ) (s : Endpoint) where
+  pub daemon-found-whole : at ≡ length e → (x : Bool) → x ≡ holds (λ f. f d) (daemonName e) → (r : Found) → r ≡ foundIf x → r ≡ lookAt (daemonRequest d s) (daemonElement e)
+  unfolding daemonElement daemonParts
+  daemon-found-whole h x q r k = rw (halves-none e at is-at h) (k ∙ ap foundIf q ∙ by (daemonName e))
+    where
+      by : (o : Option (List ℕ → Bool)) → foundIf (holds (λ f. f d) o) ≡ lookAt (daemonRequest d s) (o >>= λ f. some (λ r. foundIf (f (r .daemon))))
+      by none = refl
+      by (some f) = refl
+
+  module _ (h : at ≡ length e → ⊥) (x : Bool) (is-x : x ≡ holds (λ f. f d) (daemonName (take at e))) where
+    daemon-found-both : lookAt (daemonRequest d s) (daemonElement e) ≡ foundIf (x && hostMatches (after e at) s)
+    unfolding daemonElement daemonParts hostMatches
+    daemon-found-both = rw (parted e at is-at h x, is-x) (by (daemonName (take at e)) (hostPattern (after e at)))
+      where
+        by : (o : Option (List ℕ → Bool)) (p : Pattern) → lookAt (daemonRequest d s) (o >>= λ f. p >>= λ g. some (λ r. foundIf (f (r .daemon) && g (r .server))))
+            ≡ foundIf (holds (λ f. f d) o && matchesPattern p s)
+        by none p = refl
+        by (some f) none = ap foundIf (sym (Bool.and-false (f d)))
+        by (some f) (some g) = refl
+
+    pub daemon-found-halves : x ≡ true → (y : Bool) → y ≡ hostMatches (after e at) s → (r : Found) → r ≡ foundIf y → r ≡ lookAt (daemonRequest d s) (daemonElement e)
+    daemon-found-halves t y q r k = rw (daemon-found-both, t) (k ∙ ap foundIf q)
+
+    pub daemon-found-no : x ≡ false → No ≡ lookAt (daemonRequest d s) (daemonElement e)
+    daemon-found-no t = rw (daemon-found-both, t)
+
+module _ (e : List ℕ) (at : ℕ) (is-at : at ≡ atSign e) (c : Endpoint) (u : User) (name : List ℕ) where
+  pub client-found-whole : at ≡ length e → (x : Bool) → x ≡ hostMatches e c → (r : Found) → r ≡ foundIf x → r ≡ lookAt (clientRequest c u name) (clientElement e)
+  unfolding clientElement clientParts hostMatches
+  client-found-whole h x q r k = rw (halves-none e at is-at h) (k ∙ ap foundIf q ∙ by (hostPattern e))
+    where
+      by : (p : Pattern) → foundIf (matchesPattern p c) ≡ lookAt (clientRequest c u name) (p >>= λ g. some (λ r. foundIf (g (r .client))))
+      by none = refl
+      by (some g) = refl
+
+  module _ (h : at ≡ length e → ⊥) (x : Bool) (is-x : x ≡ hostMatches (after e at) c) where
+    client-found-both : lookAt (clientRequest c u name) (clientElement e) ≡ (if x then userFound (take at e) u name else No)
+    unfolding clientElement clientParts hostMatches
+    client-found-both =
+        rw (parted e at is-at h x, is-x, found-is (take at e) u name, ← (finds-same (take at e) (clientRequest c u name))) (by (userHalf (take at e)) (hostPattern (after e at)))
+      where
+        by : (o : Option (Request → Bool)) (p : Pattern)
+            → lookAt (clientRequest c u name) (o >>= λ f. p >>= λ g. some (λ r. if g (r .client) then userCase r Ask (foundIf (f r)) (foundIf (f r)) else No))
+            ≡ (if matchesPattern p c then finds o (clientRequest c u name) else No)
+        by none none = refl
+        by none (some g) = neither (g c)
+          where
+            neither : (b : Bool) → No ≡ (if b then No else No)
+            neither true = refl
+            neither false = refl
+        by (some f) none = refl
+        by (some f) (some g) = refl
+
+    pub client-found-halves : x ≡ true → (r : Found) → r ≡ userFound (take at e) u name → r ≡ lookAt (clientRequest c u name) (clientElement e)
+    client-found-halves t r q = rw (client-found-both, t) q
+
+    pub client-found-no : x ≡ false → No ≡ lookAt (clientRequest c u name) (clientElement e)
+    client-found-no t = rw (client-found-both, t)
+
+-- ## What elements look at
+
+-- a daemon element looks at the daemon and the server alone
+pub daemonElement-request : (q : Request) (e : List ℕ) → lookAt q (daemonElement e) ≡ lookAt (daemonRequest (q .daemon) (q .server)) (daemonElement e)
+unfolding daemonElement daemonParts
+daemonElement-request q e = by (halves e)
+  where
+    whole : (o : Option (List ℕ → Bool)) → lookAt q (o >>= λ f. some (λ r. foundIf (f (r .daemon)))) ≡ lookAt (daemonRequest (q .daemon) (q .server)) (o >>= λ f. some (λ r. foundIf (f (r .daemon))))
+    whole none = refl
+    whole (some f) = refl
+
+    both : (o : Option (List ℕ → Bool)) (p : Pattern) → lookAt q (o >>= λ f. p >>= λ g. some (λ r. foundIf (f (r .daemon) && g (r .server))))
+        ≡ lookAt (daemonRequest (q .daemon) (q .server)) (o >>= λ f. p >>= λ g. some (λ r. foundIf (f (r .daemon) && g (r .server))))
+    both none p = refl
+    both (some f) none = refl
+    both (some f) (some g) = refl
+
+    by : (h : Option (List ℕ × List ℕ)) → lookAt q (daemonParts e h) ≡ lookAt (daemonRequest (q .daemon) (q .server)) (daemonParts e h)
+    by none = whole (daemonName e)
+    by (some p) = both (daemonName (p .0)) (hostPattern (p .1))
+
+-- a client element looks at the client and the user alone
+pub clientElement-request : (q : Request) (e : List ℕ) → lookAt q (clientElement e) ≡ lookAt (clientRequest (q .client) (q .user) (q .userName)) (clientElement e)
+unfolding clientElement clientParts
+clientElement-request q e = by (halves e)
+  where
+    r : Request
+    r = clientRequest (q .client) (q .user) (q .userName)
+
+    whole : (p : Pattern) → lookAt q (p >>= λ g. some (λ r. foundIf (g (r .client)))) ≡ lookAt r (p >>= λ g. some (λ r. foundIf (g (r .client))))
+    whole none = refl
+    whole (some g) = refl
+
+    both : (o : Option (Request → Bool)) (p : Pattern) → finds o q ≡ finds o r
+        → lookAt q (o >>= λ f. p >>= λ g. some (λ r. if g (r .client) then userCase r Ask (foundIf (f r)) (foundIf (f r)) else No))
+        ≡ lookAt r (o >>= λ f. p >>= λ g. some (λ r. if g (r .client) then userCase r Ask (foundIf (f r)) (foundIf (f r)) else No))
+    both none p k = refl
+    both (some f) none k = refl
+    both (some f) (some g) k = ap (λ (z : Found). if g (q .client) then z else No) k
+
+    by : (h : Option (List ℕ × List ℕ)) → lookAt q (clientParts e h) ≡ lookAt r (clientParts e h)
+    by none = whole (hostPattern e)
+    by (some p) = both (userHalf (p .0)) (hostPattern (p .1)) (finds-same (p .0) q ∙ sym (finds-same (p .0) r))
+
+-- ## Sizes
+
+pub fits-all : (d : List ℕ) (c s : Endpoint) (u : User) (name : List ℕ) (a b k l : Bool) → a ≡ inRange 1 64 (length d)
+    → b ≡ nameCase c true true (inRange 1 255 (length (c .name))) → k ≡ nameCase s true true (inRange 1 255 (length (s .name))) → l ≡ userFits u name
+    → (a && b && k && l) ≡ wellFormed (requestOf d c s u name)
+unfolding wellFormed
+fits-all d c s u name a b k l p q r t = rw (p, q, r, t)

@@ -1,0 +1,5 @@
+pub mod TestLaws
+pub mod PatternLaws
+pub mod NetLaws
+pub mod CoverLaws
+pub mod ElementLaws

@@ -1,0 +1,17 @@
+-- `elements::element::daemon_fault` meets its contract. The tests are those of the definition. Assumes nothing.
+use borrow.Author.Needs.{needs}
+use Rattle.elements.specs.Element.{daemonElement}
+use Rattle.elements.proofs.ElementLaws.{fault-reserved, fault-sound, fault-unknown}
+use Rattle.elements.proofs.element.daemon_fault.Statement.{statement}
+use Rattle.elements.proofs.element.daemon_fault.Tie as tie
+
+pub daemon-fault-spec : {M : Type 1} → statement M
+daemon-fault-spec =
+    tie.close
+    (tie.spec
+    (λ c κs. search needs)
+    (λ c κs. search needs)
+    (λ c. search (fault-reserved daemonElement, needs))
+    (λ c κs. search needs)
+    (λ c. search (fault-sound daemonElement, needs))
+    (λ c. search (fault-unknown daemonElement, needs)))

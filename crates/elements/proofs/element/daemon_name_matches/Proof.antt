@@ -1,0 +1,25 @@
+-- `elements::element::daemon_name_matches` meets its contract. By the wildcard that was read. Assumes nothing.
+use mathlib.Core.Path.{refl, sym, _∙_}
+use borrow.Author.Needs.{needs}
+use Rattle.elements.proofs.ElementLaws.{daemon-matches, daemon-equals}
+use Rattle.elements.proofs.element.daemon_name_matches.Statement.{statement}
+use Rattle.elements.proofs.element.daemon_name_matches.Tie as tie
+
+pub daemon-name-matches-spec : {M : Type 1} → statement M
+daemon-name-matches-spec =
+    tie.close
+    (tie.spec
+    (λ c κs. search needs)
+    (λ c. search needs)
+    (λ c κs. search needs)
+    (λ c. search needs)
+    (λ c. search needs)
+    (λ c. search needs)
+    (λ c. search needs)
+    (λ c. search needs)
+    (λ c. daemon-matches _ _ _ (c .before .before .before .read-wildcard .ensures) (c .before .enum-told .given .1) _ _ (c .name-equals .ensures ∙ sym (daemon-equals _ _)))
+    (λ c. daemon-matches _ _ _ (c .before .before .read-wildcard .ensures) (c .enum-told2 .given .1) _ _ refl)
+    (λ c. daemon-matches _ _ _ (c .before .before .read-wildcard .ensures) (c .enum-told3 .given .1) _ _ refl)
+    (λ c. daemon-matches _ _ _ (c .before .before .read-wildcard .ensures) (c .enum-told4 .given .1) _ _ refl)
+    (λ c. daemon-matches _ _ _ (c .before .before .read-wildcard .ensures) (c .enum-told5 .given .1) _ _ refl)
+    (λ c. daemon-matches _ _ _ (c .before .before .read-wildcard .ensures) (c .enum-told6 .given .1) _ _ refl))

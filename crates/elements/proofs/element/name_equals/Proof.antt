@@ -1,0 +1,14 @@
+-- `elements::element::name_equals` meets its contract. What is equal is tried first, and the name checked only then. Assumes nothing.
+use borrow.Author.Needs.{needs}
+use Rattle.elements.proofs.ElementLaws.{equals-same, equals-differ}
+use Rattle.elements.proofs.element.name_equals.Statement.{statement}
+use Rattle.elements.proofs.element.name_equals.Tie as tie
+
+pub name-equals-spec : {M : Type 1} → statement M
+name-equals-spec =
+    tie.close
+    (tie.spec
+    (λ c κs. search needs)
+    (λ c κs. search needs)
+    (λ c. search (equals-same, needs))
+    (λ c. search (equals-differ, needs)))

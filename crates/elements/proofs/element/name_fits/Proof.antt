@@ -1,0 +1,14 @@
+-- `elements::element::name_fits` meets its contract. The tests of the length and of the bytes are those of the definition. Assumes nothing.
+use borrow.Author.Needs.{needs}
+use Rattle.elements.proofs.ElementLaws.{fits-empty, fits-long, fits-name}
+use Rattle.elements.proofs.element.name_fits.Statement.{statement}
+use Rattle.elements.proofs.element.name_fits.Tie as tie
+
+pub name-fits-spec : {M : Type 1} → statement M
+name-fits-spec =
+    tie.close
+    (tie.spec
+    (λ c. search (fits-empty, needs))
+    (λ c. search (fits-long, needs))
+    (λ c κs. search needs)
+    (λ c. search (fits-name, needs)))

@@ -1,0 +1,15 @@
+-- `elements::element::well_formed` meets its contract. The four tests are those of the definition. Assumes nothing.
+use borrow.Author.Needs.{needs}
+use Rattle.elements.proofs.ElementLaws.{fits-all}
+use Rattle.elements.proofs.element.well_formed.Statement.{statement}
+use Rattle.elements.proofs.element.well_formed.Tie as tie
+
+pub well-formed-spec : {M : Type 1} → statement M
+well-formed-spec =
+    tie.close
+    (tie.spec
+    (λ c κs. search needs)
+    (λ c κs. search needs)
+    (λ c κs. search needs)
+    (λ c κs. search needs)
+    (λ c. search (fits-all, needs)))

@@ -1,0 +1,15 @@
+-- `elements::net::net_covers` meets its contract. The callee's answer about the net that was read. Assumes nothing.
+use borrow.Author.Needs.{needs}
+use Rattle.elements.proofs.CoverLaws.{cover-net}
+use Rattle.elements.proofs.net.net_covers.Statement.{statement}
+use Rattle.elements.proofs.net.net_covers.Tie as tie
+
+pub net-covers-spec : {M : Type 1} → statement M
+net-covers-spec =
+    tie.close
+    (tie.spec
+    (λ c. search needs)
+    (λ c. search needs)
+    (λ c κs. search needs)
+    (λ c. search needs)
+    (λ c. cover-net _ _ _ _ (c .before .before .net .given .1) _ (c .in-net .ensures)))

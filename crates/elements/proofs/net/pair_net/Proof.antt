@@ -1,0 +1,17 @@
+-- `elements::net::pair_net` meets its contract. By what was read of both. Assumes nothing.
+use borrow.Author.Needs.{needs}
+use Rattle.elements.proofs.NetLaws.{pair-net}
+use Rattle.elements.proofs.net.pair_net.Statement.{statement}
+use Rattle.elements.proofs.net.pair_net.Tie as tie
+
+pub pair-net-spec : {M : Type 1} → statement M
+pair-net-spec =
+    tie.close
+    (tie.spec
+    (λ c. search needs)
+    (λ c. search needs)
+    (λ c. search needs)
+    (λ c. search needs)
+    (λ c. search needs)
+    (λ c. search needs)
+    (λ c. pair-net _ _ _ _ (c .before .before .before .before .net .given .1) (c .before .mask .given .1)))

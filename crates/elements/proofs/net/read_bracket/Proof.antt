@@ -1,0 +1,28 @@
+-- `elements::net::read_bracket` meets its contract. The text after the first byte is parted at its first closing bracket. Assumes nothing.
+use mathlib.Core.Path.{sym}
+use native.Mathlib.Omega.{arith}
+use borrow.Author.Needs.{needs}
+use lib.Seq.{length-take-le}
+use Rattle.elements.proofs.NetLaws.{bracket-nil, bracket-open, bracket-pair}
+use Rattle.elements.proofs.net.read_bracket.Statement.{statement}
+use Rattle.elements.proofs.net.read_bracket.Tie as tie
+
+pub read-bracket-spec : {M : Type 1} → statement M
+read-bracket-spec =
+    tie.close
+    (tie.spec
+    (λ c. search (bracket-nil, needs))
+    (λ c. search needs)
+    (λ c. search needs)
+    (λ c. search needs)
+    (λ c κs. search needs)
+    (λ c. search (bracket-open, needs))
+    (λ c. search needs)
+    (λ c. sym (length-take-le _ _ (omega arith)))
+    (λ c κs. search needs)
+    (λ c. search needs)
+    (λ c. search needs)
+    (λ c. search needs)
+    (λ c κs. search needs)
+    (λ c κs. search needs)
+    (λ c. search (bracket-pair, needs)))

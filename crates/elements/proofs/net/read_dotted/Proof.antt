@@ -1,0 +1,17 @@
+-- `elements::net::read_dotted` meets its contract. By the last byte. Assumes nothing.
+use borrow.Author.Needs.{needs}
+use Rattle.elements.proofs.NetLaws.{dotted-nil, dotted-fields, dotted-whole}
+use Rattle.elements.proofs.net.read_dotted.Statement.{statement}
+use Rattle.elements.proofs.net.read_dotted.Tie as tie
+
+pub read-dotted-spec : {M : Type 1} → statement M
+read-dotted-spec =
+    tie.close
+    (tie.spec
+    (λ c. search (dotted-nil, needs))
+    (λ c. search needs)
+    (λ c. search needs)
+    (λ c κs. search needs)
+    (λ c κs. search needs)
+    (λ c. search (dotted-fields, needs))
+    (λ c. search (dotted-whole, needs)))

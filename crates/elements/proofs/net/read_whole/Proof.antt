@@ -1,0 +1,16 @@
+-- `elements::net::read_whole` meets its contract. An address is read first, and net/mask only where it is none. Assumes nothing.
+use borrow.Author.Needs.{needs}
+use Rattle.elements.proofs.NetLaws.{whole-mask, whole-address}
+use Rattle.elements.proofs.net.read_whole.Statement.{statement}
+use Rattle.elements.proofs.net.read_whole.Tie as tie
+
+pub read-whole-spec : {M : Type 1} → statement M
+read-whole-spec =
+    tie.close
+    (tie.spec
+    (λ c κs. search needs)
+    (λ c. search needs)
+    (λ c κs. search needs)
+    (λ c. search needs)
+    (λ c. search (whole-mask, needs))
+    (λ c. whole-address _ _ (c .before .before .before .read-v4 .ensures) _ (c .before .v .given .1)))

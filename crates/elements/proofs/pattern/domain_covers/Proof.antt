@@ -1,0 +1,14 @@
+-- `elements::pattern::domain_covers` meets its contract. What covers is tried first, and the pattern checked only then. Assumes nothing.
+use borrow.Author.Needs.{needs}
+use Rattle.elements.proofs.PatternLaws.{domain-ends, domain-differs}
+use Rattle.elements.proofs.pattern.domain_covers.Statement.{statement}
+use Rattle.elements.proofs.pattern.domain_covers.Tie as tie
+
+pub domain-covers-spec : {M : Type 1} → statement M
+domain-covers-spec =
+    tie.close
+    (tie.spec
+    (λ c κs. search needs)
+    (λ c κs. search needs)
+    (λ c. search (domain-ends, needs))
+    (λ c. search (domain-differs, needs)))

@@ -1,0 +1,14 @@
+-- `elements::pattern::plain_covers` meets its contract. What covers is tried first, and the pattern checked only then. Assumes nothing.
+use borrow.Author.Needs.{needs}
+use Rattle.elements.proofs.PatternLaws.{plain-same, plain-differs}
+use Rattle.elements.proofs.pattern.plain_covers.Statement.{statement}
+use Rattle.elements.proofs.pattern.plain_covers.Tie as tie
+
+pub plain-covers-spec : {M : Type 1} → statement M
+plain-covers-spec =
+    tie.close
+    (tie.spec
+    (λ c κs. search needs)
+    (λ c κs. search needs)
+    (λ c. search (plain-same, needs))
+    (λ c. search (plain-differs, needs)))
