@@ -70,3 +70,41 @@ fn portacl_word(d: portacl::Decision) {
         portacl::Decision::Denied => text(b"denied\n"),
     }
 }
+
+// A verdict, with its file and line, and the raw command out of the deciding file.
+pub fn verdict<'a>(r: rules::Ruling, allow: &'a [u8], deny: &'a [u8]) {
+    match r {
+        rules::Ruling::Refused(refused) => refusal(refused),
+        rules::Ruling::Answered(answer) => answered(answer, allow, deny),
+    }
+}
+
+fn answered<'a>(a: rules::Answer, allow: &'a [u8], deny: &'a [u8]) {
+    let verdict = a.verdict;
+    verdict_word(verdict);
+    let file = a.file;
+    match file {
+        rules::File::Neither => text(b", no file"),
+        rules::File::Allow => place(b", allow line ", a.line),
+        rules::File::Deny => place(b", deny line ", a.line),
+    }
+    let command = rules::command_part(allow, deny, a);
+    if 0 < command.len() {
+        text(b", command:");
+        text(command);
+    }
+    text(b"\n");
+}
+
+fn verdict_word(v: rules::Verdict) {
+    match v {
+        rules::Verdict::Granted => text(b"granted"),
+        rules::Verdict::Denied => text(b"denied"),
+        rules::Verdict::Ask => text(b"ask"),
+    }
+}
+
+fn place(file: &[u8], line: usize) {
+    text(file);
+    number(line as u64);
+}
