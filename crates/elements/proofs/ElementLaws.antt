@@ -320,11 +320,11 @@ module _ (e : List ℕ) (at : ℕ) (is-at : at ≡ atSign e) where
   module _ (h : at ≡ length e) where
     pub daemonElement-whole : (r : Bool) → r ≡ isSome (daemonName e) → r ≡ isSome (daemonElement e)
     unfolding daemonElement daemonParts
-    daemonElement-whole r q = rw (halves-none e at is-at h) (q ∙ sym (one-sound (daemonName e) (λ f (k : Request). foundIf (f (k .daemon)))))
+    daemonElement-whole r q = rw (halves-none e at is-at h) (q ∙ sym (one-sound (daemonName e) _))
 
     pub clientElement-whole : (r : Bool) → r ≡ isSome (hostPattern e) → r ≡ isSome (clientElement e)
     unfolding clientElement clientParts
-    clientElement-whole r q = rw (halves-none e at is-at h) (q ∙ sym (one-sound (hostPattern e) (λ g (k : Request). foundIf (g (k .client)))))
+    clientElement-whole r q = rw (halves-none e at is-at h) (q ∙ sym (one-sound (hostPattern e) _))
 
   module _ (h : at ≡ length e → ⊥) (x : Bool) where
     parted : halves e ≡ some (take at e, after e at)
@@ -332,11 +332,11 @@ module _ (e : List ℕ) (at : ℕ) (is-at : at ≡ atSign e) where
 
     daemonElement-both : isSome (daemonElement e) ≡ (isSome (daemonName (take at e)) && isSome (hostPattern (after e at)))
     unfolding daemonElement daemonParts
-    daemonElement-both = rw parted (two-sound (daemonName (take at e)) (hostPattern (after e at)) (λ f g (k : Request). foundIf (f (k .daemon) && g (k .server))))
+    daemonElement-both = rw parted (two-sound (daemonName (take at e)) (hostPattern (after e at)) _)
 
     clientElement-both : isSome (clientElement e) ≡ (isSome (userHalf (take at e)) && isSome (hostPattern (after e at)))
     unfolding clientElement clientParts
-    clientElement-both = rw parted (two-sound (userHalf (take at e)) (hostPattern (after e at)) (λ f g (k : Request). if g (k .client) then userCase k Ask (foundIf (f k)) (foundIf (f k)) else No))
+    clientElement-both = rw parted (two-sound (userHalf (take at e)) (hostPattern (after e at)) _)
 
     module _ (is-x : x ≡ isSome (daemonName (take at e))) where
       pub daemonElement-halves : x ≡ true → (r : Bool) → r ≡ isSome (hostPattern (after e at)) → r ≡ isSome (daemonElement e)
