@@ -97,10 +97,10 @@ def element(rng, client):
     if client:
         if kind < 0.25:
             return rng.choice(HALVES) + b"@" + rng.choice(HOSTS)
-        return rng.choice(HOSTS)
+        return rng.choice(HOSTS) if kind < 0.8 else rng.choice([b"ALL", b"KNOWN", b"UNKNOWN", b"LOCAL", b"[::]/0", b"0.0.0.0/0.0.0.0"])
     if kind < 0.1:
         return rng.choice(HALVES) + b"@" + rng.choice(HOSTS)
-    return rng.choice(PLAIN_DAEMONS)
+    return rng.choice(PLAIN_DAEMONS) if kind < 0.6 else b"ALL"
 
 
 def elements(rng, client):
@@ -127,8 +127,8 @@ def hosts_line(rng):
 
 
 def hosts_text(rng, sound):
-    lines = []
-    while len(lines) < rng.choice([0, 1, 2, 3, 6]):
+    lines, most = [], rng.choice([0, 1, 2, 3, 6])
+    while len(lines) < most:
         line = hosts_line(rng)
         if rng.random() < 0.15:
             at = rng.randrange(len(line) + 1)
@@ -163,11 +163,11 @@ def request(rng):
 
 def byuid_text(rng):
     def address():
-        return rng.choice([b"10.0.0.0", b"10.0.0.1", b"0.0.0.0", b"255.255.255.255", b"::", b"::1", b"3ffe:505:2:1::9", b"3ffe:505:2:1::",
+        return rng.choice([b"10.0.0.0", b"10.0.0.0", b"10.0.0.1", b"0.0.0.0", b"0.0.0.0", b"::", b"::", b"255.255.255.255", b"::", b"::1", b"3ffe:505:2:1::9", b"3ffe:505:2:1::",
                            b"010.0.0.1", b"10.0", b"::ffff:10.0.0.1", ref.write_address(("4", rng.getrandbits(32))), ref.write_address(("6", rng.getrandbits(128)))])
 
     def port():
-        return rng.choice([b"80", b"0", b"1", b"1023", b"65535", b"65536", b"080", b"", b"512", b"%d" % rng.randrange(1200)])
+        return rng.choice([b"80", b"80", b"80", b"0", b"1", b"1023", b"65535", b"65536", b"080", b"", b"512", b"%d" % rng.randrange(1200)])
 
     def line():
         kind = rng.randrange(8)
@@ -180,7 +180,7 @@ def byuid_text(rng):
             return head + b":" + port() + b"," + port()
         return head + b"," + port() + (b"-" + port() if rng.random() < 0.5 else b"")
 
-    text = b"\n".join(rng.choice([line(), line(), line(), b"# x", b"", line() + b"\r", b" " + line()]) for _ in range(rng.randrange(5)))
+    text = b"\n".join(rng.choice([line(), line(), line(), b"# x", b"", line() + b"\r", b" " + line()]) for _ in range(rng.randrange(7)))
     if rng.random() < 0.01:
         text += b"x" * rng.choice([8192 - len(text), 8193 - len(text)])
     return text
@@ -217,8 +217,8 @@ def main():
         if rng.random() < 0.003:
             allow = (allow + b"\n" * 16385)[:rng.choice([16384, 16385])]
         compare("verdict", verdict(lib, allow, deny, r), ref.verdict(allow, deny, r), allow, deny, r)
-        address = host(rng)[1]
-        case = (byuid_text(rng), rng.choice([0, 1, 80, 80, 512, 1023, 1024, 65535]), address, rng.choice([0, 1, 432]))
+        address = rng.choice([host(rng)[1], ("4", 0x0a000000 + rng.randrange(3)), ("6", rng.randrange(3))])
+        case = (byuid_text(rng), rng.choice([0, 1, 80, 80, 80, 80, 80, 512, 1023, 1024]), address, rng.choice([0, 1, 432, 432, 432]))
         compare("byuid", byuid(lib, *case), ref.byuid(*case), *case)
         settings = dict(enabled=rng.choice([0, 1, 1, 1, 2]), port_high=rng.choice([0, 79, 80, 1023, 1023, 65535, 2 ** 32 - 1]),
                         suser_exempt=rng.choice([0, 1, 7]), autoport_exempt=rng.choice([0, 1, 7]))

@@ -1,17 +1,19 @@
 -- Document 01, "EXCEPT", "Search" and "Asking": the walk and the verdict.
 --   search allow deny r == the answer on a request by two sound texts
 --   decide allow deny r == the call: every check, then the search
+--   rulingOf o          == the outcome o as the call answers it
+--   commandBytes allow deny a == the bytes of the raw command of the answer a
 -- Assumes nothing: these are definitions.
 use Prim.Native.Nat.{ℕ, _+_, _-_}
 use mathlib.Core.Bool.{Bool, not, _||_}
 use mathlib.Core.List.{List, [], _∷_}
 use mathlib.Core.Option.{Option, none, some, Option·getD}
-use lib.ListN.{length}
+use lib.ListN.{length, take, drop}
 use Rattle.text.specs.Basics.{if_then_else_, _>>=_, _orElse_, given, isEmpty, first}
 use Rattle.text.specs.Text.{bytes}
 use Rattle.section.specs.declared.Fault.the-variants as F
 use Rattle.section.specs.declared.Part.{Part}
-use Rattle.section.specs.Refusal.{Outcome, placeless, refusing}
+use Rattle.section.specs.Refusal.{Outcome, refused, answered, placeless, refusing}
 use Rattle.section.specs.Section as S
 use Rattle.section.specs.Section.{part, overLimit}
 use Rattle.lines.specs.Line.{Line, lines, isComment, isBlank}
@@ -26,6 +28,8 @@ use Rattle.rules.specs.declared.Verdict.the-variants.{Granted, Denied, A
 use Rattle.rules.specs.declared.File.{File}
 use Rattle.rules.specs.declared.File.the-variants.{Neither, Allow, Deny}
 use Rattle.rules.specs.declared.Answer.{Answer}
+use Rattle.rules.specs.declared.Ruling.{Ruling}
+use Rattle.rules.specs.declared.Ruling.the-variants as Ruling
 use Rattle.rules.specs.Check.{hostsFault}
 
 -- the paper's words, and the section of a file
@@ -95,3 +99,14 @@ decide allow deny r = refusing
     orElse hostsFault S.allow allow orElse hostsFault S.deny deny
     orElse given (not (wellFormed r)) (placeless F.BadRequest))
     (search allow deny r)
+
+abbrev pub rulingOf : Outcome Answer → Ruling
+rulingOf (refused f) = Ruling.Refused f
+rulingOf (answered a) = Ruling.Answered a
+
+-- "The verdict hands back the raw command as a part of the allow file or of the deny file"
+abbrev pub bytesAt : List ℕ → Part → List ℕ
+bytesAt t p = take (p .len) (drop (p .place) t)
+
+abbrev pub commandBytes : List ℕ → List ℕ → Answer → List ℕ
+commandBytes allow deny a = elim (a .file) [ Neither ↦ [] | Allow ↦ bytesAt allow (a .command) | Deny ↦ bytesAt deny (a .command) ]

@@ -1,4 +1,21 @@
 // The checks of the allow and deny files, and the verdict on a request.
+//   decide(allow, deny, ..)  == the verdict, or the refusal of a text or of the request
+//   command_part(allow, deny, answer) == the bytes of the answer's raw command
+pub mod check;
+pub mod hosts_file;
+pub mod walk;
+
+ghost use mathlib.Core.Path.{_≡_};
+ghost use lib.ListN.{take, drop};
+ghost use Rattle.elements.specs.Request.{requestOf, endpoint};
+ghost use Rattle.rules.specs.Search.{decide as decideBy, rulingOf, commandBytes};
+ghost use Rattle.rules.specs.FileCode.{isUnmatched, onward, passBoth, refusingRequest, rulingBy};
+use elements::Host;
+use elements::User;
+use hosts_file::Pass;
+use section::Fault;
+use section::Part;
+use section::Refusal;
 
 // The words of the verdict.
 pub enum Verdict {
@@ -19,11 +36,197 @@ pub struct Answer {
     pub verdict: Verdict,
     pub file: File,
     pub line: usize,
-    pub command: section::Part,
+    pub command: Part,
 }
 
 // What checking a rule finds.
 pub enum Checked {
     Sound,
-    Faulty(section::Fault),
+    Faulty(Fault),
+}
+
+// What a decision answers: a refusal, or the verdict.
+pub enum Ruling {
+    Refused(Refusal),
+    Answered(Answer),
+}
+
+fn is_unmatched(pass: Pass) -> bool
+    ensures { λ r. ⌜ r ≡ isUnmatched pass ⌝ }
+{
+    match pass {
+        Pass::Faulty(_) => false,
+        Pass::Unmatched => true,
+        Pass::Matched(_) => false,
+    }
+}
+
+// The pass over some lines, then over what follows them.
+fn go_on(found: Pass, rest: Pass) -> Pass
+    ensures { λ r. ⌜ r ≡ onward found rest ⌝ }
+{
+    match found {
+        Pass::Faulty(f) => Pass::Faulty(f),
+        Pass::Unmatched => rest,
+        Pass::Matched(a) => match rest {
+            Pass::Faulty(f) => Pass::Faulty(f),
+            Pass::Unmatched => Pass::Matched(a),
+            Pass::Matched(_) => Pass::Matched(a),
+        },
+    }
+}
+
+// The pass over both files: the allow file first, and the deny file's rules only if none of the allow file's matches.
+fn pass_both(
+    allow: &[u8],
+    deny: &[u8],
+    daemon: &[u8],
+    client: Host,
+    client_name: &[u8],
+    server: Host,
+    server_name: &[u8],
+    user: User,
+    user_name: &[u8],
+) -> Pass
+    ensures { λ r.
+        ⌜ r
+        ≡ passBoth
+        (requestOf (now (daemon .entry)) (endpoint client (now («client_name» .entry))) (endpoint server (now («server_name» .entry))) user (now («user_name» .entry)))
+        (now (allow .entry)) (now (deny .entry)) ⌝ }
+{
+    let first = hosts_file::pass_file(
+        allow,
+        section::Allow::ORDER,
+        Verdict::Granted,
+        File::Allow,
+        true,
+        daemon,
+        client,
+        client_name,
+        server,
+        server_name,
+        user,
+        user_name,
+    );
+    let rest = hosts_file::pass_file(
+        deny,
+        section::Deny::ORDER,
+        Verdict::Denied,
+        File::Deny,
+        is_unmatched(first),
+        daemon,
+        client,
+        client_name,
+        server,
+        server_name,
+        user,
+        user_name,
+    );
+    go_on(first, rest)
+}
+
+// The answer, on a request that is sound or not.
+fn answered(answer: Answer, sound: bool) -> Ruling
+    ensures { λ r. ⌜ r ≡ refusingRequest sound answer ⌝ }
+{
+    if sound {
+        Ruling::Answered(answer)
+    } else {
+        Ruling::Refused(section::placeless(Fault::BadRequest))
+    }
+}
+
+// The ruling by a pass over both files, on a request that is sound or not.
+fn ruling_by(pass: Pass, sound: bool) -> Ruling
+    ensures { λ r. ⌜ r ≡ rulingBy pass sound ⌝ }
+{
+    match pass {
+        Pass::Faulty(f) => Ruling::Refused(f),
+        Pass::Unmatched => answered(
+            Answer {
+                verdict: Verdict::Granted,
+                file: File::Neither,
+                line: 0,
+                command: Part { place: 0, len: 0 },
+            },
+            sound,
+        ),
+        Pass::Matched(a) => answered(a, sound),
+    }
+}
+
+// The verdict on a request by the allow and deny files, or the refusal of a file or of the request.
+pub fn decide(
+    allow: &[u8],
+    deny: &[u8],
+    daemon: &[u8],
+    client: Host,
+    client_name: &[u8],
+    server: Host,
+    server_name: &[u8],
+    user: User,
+    user_name: &[u8],
+) -> Ruling
+    ensures { λ r.
+        ⌜ r
+        ≡ rulingOf
+        (decideBy (now (allow .entry)) (now (deny .entry))
+        (requestOf (now (daemon .entry)) (endpoint client (now («client_name» .entry))) (endpoint server (now («server_name» .entry))) user (now («user_name» .entry)))) ⌝ }
+{
+    if section::Allow::over(allow.len()) {
+        return Ruling::Refused(section::Allow::refusal(Fault::OverLimit, 0));
+    }
+    if section::Deny::over(deny.len()) {
+        return Ruling::Refused(section::Deny::refusal(Fault::OverLimit, 0));
+    }
+    let pass = pass_both(
+        allow,
+        deny,
+        daemon,
+        client,
+        client_name,
+        server,
+        server_name,
+        user,
+        user_name,
+    );
+    ruling_by(
+        pass,
+        elements::element::well_formed(
+            daemon,
+            client,
+            client_name,
+            server,
+            server_name,
+            user,
+            user_name,
+        ),
+    )
+}
+
+// The part of s from at on of n bytes, as far as s goes.
+fn part_of(s: &[u8], at: usize, n: usize) -> &[u8]
+    ensures { λ r. ⌜ now r ≡ take n (drop at (now (s .entry))) ⌝ }
+{
+    if s.len() <= at {
+        return &s[..0];
+    }
+    let rest = &s[at..];
+    if rest.len() <= n {
+        return rest;
+    }
+    &rest[..n]
+}
+
+// The raw command of an answer, out of whichever file decided; empty where there is none.
+pub fn command_part<'a>(allow: &'a [u8], deny: &'a [u8], answer: Answer) -> &'a [u8]
+    ensures { λ r. ⌜ now r ≡ commandBytes (now (allow .entry)) (now (deny .entry)) answer ⌝ }
+{
+    let file = answer.file;
+    let command = answer.command;
+    match file {
+        File::Neither => &allow[..0],
+        File::Allow => part_of(allow, command.place, command.len),
+        File::Deny => part_of(deny, command.place, command.len),
+    }
 }

@@ -1,0 +1,29 @@
+-- `rules::hosts_file::line_told` meets its contract: by the shape of the line. A rule passed the tests of 5 and 6, so that its join holds no newline and fits.
+-- Assumes nothing.
+use borrow.Author.Needs.{needs}
+use Rattle.rules.proofs.FileLaws.{ruled-clean, ruled-short, line-faulty, line-passed, line-ruled, plain-line}
+use Rattle.rules.proofs.hosts_file.line_told.Statement.{statement}
+use Rattle.rules.proofs.hosts_file.line_told.Tie as tie
+
+rule-told-requires : tie.Need-rule-told-requires
+rule-told-requires c κs = search (plain-line, needs)
+
+joined-told-requires : tie.Need-joined-told-requires
+joined-told-requires c κs = (search (ruled-clean, needs), search (ruled-short, needs))
+
+returns : tie.Need-returns
+returns c = search (line-faulty, needs)
+
+returns-2 : tie.Need-returns-2
+returns-2 c = search (line-passed, needs)
+
+returns-3 : tie.Need-returns-3
+returns-3 c = search (line-ruled, needs)
+
+returns-4 : tie.Need-returns-4
+returns-4 c = search (line-ruled, needs)
+
+pub line-told-spec : {M : Type 1} → statement M
+line-told-spec =
+    tie.close
+    (tie.spec (λ c κs. search needs) (λ c. search needs) (λ c. search needs) (λ c. search needs) rule-told-requires joined-told-requires returns returns-2 returns-3 returns-4)

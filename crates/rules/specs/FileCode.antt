@@ -1,0 +1,140 @@
+-- What the contracts of the pass over a text cite. Nothing here needs to be believed for the meaning of document 01: the public promise
+-- is stated over Search alone.
+--   hostsFaultAt s t == the refusal of the text t of the section whose order is s
+--   passOf o a       == a refusal, else an answer, as the code answers them
+--   passLine .. l, passText .. t == the same of a line and of a text; the answer is looked for only if search holds
+--   onward p q       == the pass p over some lines, then q over what follows
+--   passBoth r allow deny == the pass over both texts
+--   rulingBy p sound == the ruling by that pass, on a request that is sound or not
+--   lineShape l      == whether the line l is faulty by 4 to 6, passed over, or a rule
+--   ruleTold .. t, lineTold .. l == the lowest fault of a rule and of a line, else what it finds
+--   commandPart at s o == the raw command of the rule o, which was read from the line s at a place
+--   ScannedLine s l  == the bytes s are those of a line that was scanned as l
+--   stepOf .. t i n s == what the step over the line of t at i, of number n and scanned as s, answers
+-- Assumes nothing: these are definitions.
+use Prim.Native.Nat.{ℕ, _+_, _-_, _*_}
+use mathlib.Core.Bool.{Bool, true, false, not, _&&_, _||_}
+use mathlib.Core.List.{List, [], _∷_}
+use mathlib.Core.Option.{Option, none, some}
+use mathlib.Core.Path.{_≡_}
+use lib.ListN.{length, take, drop}
+use Rattle.text.specs.Basics.{if_then_else_, _orElse_, first}
+use Rattle.section.specs.declared.Fault.{Fault}
+use Rattle.section.specs.declared.Fault.the-variants as F
+use Rattle.section.specs.declared.Part.{Part}
+use Rattle.section.specs.declared.Refusal.{Refusal}
+use Rattle.section.specs.Refusal.{lowest, atPlace, placeless}
+use Rattle.section.specs.Section as S
+use Rattle.section.specs.Section.{part}
+use Rattle.lines.specs.declared.line.LineSpan.{LineSpan}
+use Rattle.lines.specs.Line.{Line, line, join, lines, isComment, isBlank, hasBadByte, isTooLong}
+use Rattle.lines.specs.Rule.{Rule, parseRule}
+use Rattle.elements.specs.declared.Found.{Found}
+use Rattle.elements.specs.declared.Found.the-variants.{No}
+use Rattle.elements.specs.Request.{Request}
+use Rattle.rules.specs.declared.Verdict.{Verdict}
+use Rattle.rules.specs.declared.Verdict.the-variants.{Granted, Denied}
+use Rattle.rules.specs.declared.File.{File}
+use Rattle.rules.specs.declared.File.the-variants.{Neither, Allow, Deny}
+use Rattle.rules.specs.declared.Answer.{Answer}
+use Rattle.rules.specs.declared.Ruling.{Ruling}
+use Rattle.rules.specs.declared.Ruling.the-variants as R
+use Rattle.rules.specs.declared.hosts_file.Pass.{Pass}
+use Rattle.rules.specs.declared.hosts_file.Pass.the-variants as P
+use Rattle.rules.specs.declared.hosts_file.Shape.{Shape}
+use Rattle.rules.specs.declared.hosts_file.Shape.the-variants as Sh
+use Rattle.rules.specs.declared.hosts_file.Told.{Told}
+use Rattle.rules.specs.declared.hosts_file.Told.the-variants as T
+use Rattle.rules.specs.declared.hosts_file.Step.{Step}
+use Rattle.rules.specs.Check.{ruleFault, lineFault, hostsFault}
+use Rattle.rules.specs.Search.{answer, rawCommand, lineAnswer}
+use Rattle.rules.specs.Code.{NoNewline, lineFound}
+
+-- ## A text
+
+abbrev pub faultAt : ℕ → Line → Option Refusal
+faultAt s l = atPlace s (l .number) (lineFault l)
+
+unfoldable pub hostsFaultAt : ℕ → List ℕ → Option Refusal
+hostsFaultAt s t = first (faultAt s) (lines t)
+
+abbrev pub passOf : Option Refusal → Option Answer → Pass
+passOf none none = P.Unmatched
+passOf none (some a) = P.Matched a
+passOf (some f) a = P.Faulty f
+
+unfoldable pub passLine : ℕ → Verdict → File → Bool → Request → Line → Pass
+passLine s v f search r l = passOf (faultAt s l) (if search then lineAnswer v f r l else none)
+
+unfoldable pub passText : ℕ → Verdict → File → Bool → Request → List ℕ → Pass
+passText s v f search r t = passOf (hostsFaultAt s t) (if search then first (lineAnswer v f r) (lines t) else none)
+
+abbrev pub isUnmatched : Pass → Bool
+isUnmatched (P.Faulty g) = false
+isUnmatched P.Unmatched = true
+isUnmatched (P.Matched a) = false
+
+-- a fault goes before every answer, and the first of each stays
+abbrev pub onward : Pass → Pass → Pass
+onward (P.Faulty f) q = P.Faulty f
+onward P.Unmatched q = q
+onward (P.Matched a) (P.Faulty g) = P.Faulty g
+onward (P.Matched a) P.Unmatched = P.Matched a
+onward (P.Matched a) (P.Matched c) = P.Matched a
+
+unfoldable pub passBoth : Request → List ℕ → List ℕ → Pass
+passBoth r allow deny = passOf
+    (hostsFault S.allow allow orElse hostsFault S.deny deny)
+    (first (lineAnswer Granted Allow r) (lines allow) orElse first (lineAnswer Denied Deny r) (lines deny))
+
+abbrev pub refusingRequest : Bool → Answer → Ruling
+refusingRequest true a = R.Answered a
+refusingRequest false a = R.Refused (placeless F.BadRequest)
+
+abbrev pub rulingBy : Pass → Bool → Ruling
+rulingBy (P.Faulty g) sound = R.Refused g
+rulingBy P.Unmatched sound = refusingRequest sound (answer Granted Neither 0 (part 0 0))
+rulingBy (P.Matched a) sound = refusingRequest sound a
+
+-- ## A line
+
+-- 4 to 6
+abbrev pub shapeFault : Line → Option Fault
+shapeFault l = lowest
+    ((F.Unended, not (l .ended))
+    ∷ (F.BadByte, not (isComment l) && hasBadByte (join (l .raw)))
+    ∷ (F.LongLine, isTooLong (join (l .raw))) ∷ [])
+
+abbrev pub shapeOf : Option Fault → Bool → Shape
+shapeOf (some f) passed = Sh.Faulty f
+shapeOf none true = Sh.Passed
+shapeOf none false = Sh.Ruled
+
+unfoldable pub lineShape : Line → Shape
+lineShape l = shapeOf (shapeFault l) (isComment l || isBlank l)
+
+abbrev pub toldOf : Option Fault → Found → Told
+toldOf (some f) x = T.Faulty f
+toldOf none x = T.Finds x
+
+unfoldable pub ruleTold : Bool → Request → List ℕ → Told
+ruleTold search r t = toldOf (ruleFault (parseRule t)) (if search then lineFound r t else No)
+
+unfoldable pub lineTold : Bool → Request → Line → Told
+lineTold search r l = toldOf (lineFault l) (if isComment l || isBlank l then No else if search then lineFound r (l .raw) else No)
+
+unfoldable pub commandPart : ℕ → List ℕ → Option Rule → Part
+commandPart at s none = part (at + length s) 0
+commandPart at s (some u) = rawCommand (line 0 at s true) u
+
+pub record ScannedLine (s : List ℕ) (l : LineSpan) : Type 0 where
+  pub lengths : length (join s) + 2 * l .joins ≡ length s
+  pub bytes : hasBadByte (join s) ≡ not (l .clean)
+  pub plain : l .joins ≡ 0 → NoNewline s
+
+abbrev pub stepOf : ℕ → Verdict → File → Bool → Request → List ℕ → ℕ → ℕ → LineSpan → Step
+stepOf s v f search r t i n l = record {
+  next = l .end + 1;
+  number = n + l .joins + 1;
+  pass = passLine s v f search r (line n i (take (l .end - i) (drop i t)) (l .ended));
+}
