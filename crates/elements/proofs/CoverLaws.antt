@@ -146,12 +146,12 @@ module _ (fs : List ℕ) (below : all (λ d. ltb d 256) fs ≡ true) (a : ℕ) (
       rw (e, m, and-leading 32 k (q - 1) h refl a small)
       (eqb-iff n (a / q) (n * q) (a / q * q) (ap (λ (x : ℕ). x * q)) (λ r. sym (shl-shr n (32 - k)) ∙ ap (λ (x : ℕ). x / q) r ∙ shl-shr (a / q) (32 - k)))
 
-  leading-covers : (k : ℕ) → length fs ≡ k → 1 ≤ k → k ≤ 3 → startsWith fs (toDigits 256 4 a) ≡ eqb (n * 2 ^ (32 - 8 * k)) (bitAnd a (2 ^ 32 - 2 ^ (32 - 8 * k)))
-  leading-covers zero len h l = absurd (omega arith)
-  leading-covers (suc zero) len h l = starts 1 3 len (omega arith) ∙ shifted 8 16777216 (omega arith) refl
-  leading-covers (suc (suc zero)) len h l = starts 2 2 len (omega arith) ∙ shifted 16 65536 (omega arith) refl
-  leading-covers (suc (suc (suc zero))) len h l = starts 3 1 len (omega arith) ∙ shifted 24 256 (omega arith) refl
-  leading-covers (suc (suc (suc (suc k)))) len h l = absurd (omega arith)
+  leadingNet-covers : (k : ℕ) → length fs ≡ k → 1 ≤ k → k ≤ 3 → startsWith fs (toDigits 256 4 a) ≡ eqb (n * 2 ^ (32 - 8 * k)) (bitAnd a (2 ^ 32 - 2 ^ (32 - 8 * k)))
+  leadingNet-covers zero len h l = absurd (omega arith)
+  leadingNet-covers (suc zero) len h l = starts 1 3 len (omega arith) ∙ shifted 8 16777216 (omega arith) refl
+  leadingNet-covers (suc (suc zero)) len h l = starts 2 2 len (omega arith) ∙ shifted 16 65536 (omega arith) refl
+  leadingNet-covers (suc (suc (suc zero))) len h l = starts 3 1 len (omega arith) ∙ shifted 24 256 (omega arith) refl
+  leadingNet-covers (suc (suc (suc (suc k)))) len h l = absurd (omega arith)
 
 -- ## What a dotted pattern covers
 
@@ -172,9 +172,9 @@ record Alike (p : (ℕ → Bool) → Bool) (q : ℕ × ℕ → Bool) : Type 0 wh
 
 -- holds of the test that is read, and of the net
 module _ (p : (ℕ → Bool) → Bool) (q : ℕ × ℕ → Bool) (like : Alike p q) (e : List ℕ) where
-  fields-alike : lastAmong "." e ≡ true → holds p (leadingFields e) ≡ holds q (fieldsNet 0 0 e)
+  fieldsNet-alike : lastAmong "." e ≡ true → holds p (leadingFields e) ≡ holds q (fieldsNet 0 0 e)
   unfolding leadingFields fieldsNet dottedFields
-  fields-alike h = rw h (by (each (readDecimal 255) (split "." (take (length e - 1) e))) refl)
+  fieldsNet-alike h = rw h (by (each (readDecimal 255) (split "." (take (length e - 1) e))) refl)
     where
       by : (o : Option (List ℕ)) → each (readDecimal 255) (split "." (take (length e - 1) e)) ≡ o
           → holds p (o >>= λ fs. given (leb (length fs) 3) (λ a. startsWith fs (toDigits 256 4 a)))
@@ -187,9 +187,9 @@ module _ (p : (ℕ → Bool) → Bool) (q : ℕ × ℕ → Bool) (like : Alike p
           within true l = like .leading fs (each-below (split "." (take (length e - 1) e)) fs r) (dottedFields-pos e fs (rw h r)) (leb-true (length fs) 3 l)
           within false l = refl
 
-  mask-alike : holds p (netMask e) ≡ holds q (maskNet e)
+  maskNet-alike : holds p (netMask e) ≡ holds q (maskNet e)
   unfolding netMask maskNet
-  mask-alike = by (splitOnce (bytes "/") e)
+  maskNet-alike = by (splitOnce (bytes "/") e)
     where
       both : (o r : Option ℕ) → holds p (o >>= λ n. r >>= λ m. some (λ a. eqb n (bitAnd a m))) ≡ holds q (o >>= λ n. r >>= λ m. some (n, m))
       both none r = refl
@@ -201,20 +201,20 @@ module _ (p : (ℕ → Bool) → Bool) (q : ℕ × ℕ → Bool) (like : Alike p
       by none = refl
       by (some t) = both (readV4 (t .0)) (readV4 (t .1))
 
-  dotted-alike : holds p (dottedTest e) ≡ holds q (dottedNet e)
+  dottedNet-alike : holds p (dottedTest e) ≡ holds q (dottedNet e)
   unfolding dottedTest dottedNet wholeNet
-  dotted-alike = by (lastAmong "." e) refl
+  dottedNet-alike = by (lastAmong "." e) refl
     where
       last : (o : Option (ℕ → Bool)) → holds p (o orElse none) ≡ holds p o
       last none = refl
       last (some f) = refl
 
       either : (o : Option ℕ) → holds p ((o >>= λ n. some (eqb n)) orElse none orElse netMask e) ≡ holds q ((o >>= λ n. some (n, 4294967295)) orElse maskNet e)
-      either none = mask-alike
+      either none = maskNet-alike
       either (some n) = like .address n
 
       by : (b : Bool) → lastAmong "." e ≡ b → holds p (dottedTest e) ≡ holds q (dottedNet e)
-      by true h = rw (readV4-dot e h, netMask-dot e h, h) (last (leadingFields e) ∙ fields-alike h)
+      by true h = rw (readV4-dot e h, netMask-dot e h, h) (last (leadingFields e) ∙ fieldsNet-alike h)
       by false h = rw (leadingFields-none e h, h) (either (readV4 e))
 
 -- of an address of 32 bits, as the code finds it
@@ -223,11 +223,11 @@ module _ (e : List ℕ) (a : ℕ) (small : a < 4294967296) where
   at-address = record {
     address = λ n. ap (eqb n) (sym (and-mask a 32 ∙ mod-eq-of-lt small));
     masked = λ n m. refl;
-    leading = λ fs below h l. leading-covers fs below a small (length fs) refl h l;
+    leading = λ fs below h l. leadingNet-covers fs below a small (length fs) refl h l;
   }
 
-  pub net-covers : (r : NetRead) → r ≡ asNet (dottedNet e) → (x : Bool) → x ≡ netCovers r a → x ≡ holds (λ f. f a) (dottedTest e)
-  net-covers r is-r x k = k ∙ ap (λ (n : NetRead). netCovers n a) is-r ∙ by (dottedNet e) ∙ sym (dotted-alike (λ f. f a) (λ q. eqb (q .0) (bitAnd a (q .1))) at-address e)
+  pub dottedTest-net : (r : NetRead) → r ≡ asNet (dottedNet e) → (x : Bool) → x ≡ netCovers r a → x ≡ holds (λ f. f a) (dottedTest e)
+  dottedTest-net r is-r x k = k ∙ ap (λ (n : NetRead). netCovers n a) is-r ∙ by (dottedNet e) ∙ sym (dottedNet-alike (λ f. f a) (λ q. eqb (q .0) (bitAnd a (q .1))) at-address e)
     where
       by : (o : Option (ℕ × ℕ)) → netCovers (asNet o) a ≡ holds (λ q. eqb (q .0) (bitAnd a (q .1))) o
       by none = refl
@@ -246,25 +246,25 @@ abbrev prefixTest : ℕ → ℕ → Endpoint → Bool
 prefixTest n m h = addrCase (h .host .addr) false (λ a. false) (samePrefix 128 m n)
 
 module _ (e : List ℕ) where
-  pub dotted-matches : (h : Endpoint) → matchesPattern (dottedPattern e) h ≡ dottedCovers e (h .host)
+  pub dottedPattern-matches : (h : Endpoint) → matchesPattern (dottedPattern e) h ≡ dottedCovers e (h .host)
   unfolding dottedPattern dottedTest
-  dotted-matches h = by (dottedTest e)
+  dottedPattern-matches h = by (dottedTest e)
     where
       by : (o : Option (ℕ → Bool)) → matchesPattern (o >>= λ f. some (λ h. addrCase (h .host .addr) false f (λ a. false))) h ≡ addrCase (h .host .addr) false (λ a. holds (λ f. f a) o) (λ a. false)
       by none = none-covers (h .host .addr)
       by (some f) = refl
 
-  pub dotted-sound : isSome (dottedPattern e) ≡ isSome (dottedNet e)
+  pub dottedPattern-sound : isSome (dottedPattern e) ≡ isSome (dottedNet e)
   unfolding dottedPattern dottedTest
-  dotted-sound = by (dottedTest e) ∙ dotted-alike (λ f. true) (λ q. true) (record { address = λ n. refl; masked = λ n m. refl; leading = λ fs below h l. refl }) e
+  dottedPattern-sound = by (dottedTest e) ∙ dottedNet-alike (λ f. true) (λ q. true) (record { address = λ n. refl; masked = λ n m. refl; leading = λ fs below h l. refl }) e
     where
       by : (o : Option (ℕ → Bool)) → isSome {A = Endpoint → Bool} (o >>= λ f. some (λ h. addrCase (h .host .addr) false f (λ a. false))) ≡ isSome o
       by none = refl
       by (some f) = refl
 
-  bracket-is : bracketPattern e ≡ (bracketPrefix e >>= λ q. some (prefixTest (q .0) (q .1)))
+  bracketPattern-is : bracketPattern e ≡ (bracketPrefix e >>= λ q. some (prefixTest (q .0) (q .1)))
   unfolding bracketPattern bracketPrefix prefixLength
-  bracket-is = by (splitOnce (bytes "]") (drop 1 e)) refl
+  bracketPattern-is = by (splitOnce (bytes "]") (drop 1 e)) refl
     where
       assoc : (o r : Option ℕ) → _≡_ {A = Pattern} (o >>= λ n. r >>= λ m. some (prefixTest n m))
           (_>>=_ {A = ℕ × ℕ} (o >>= λ n. r >>= λ m. some (n, m)) (λ q. some (prefixTest (q .0) (q .1))))
@@ -282,17 +282,17 @@ module _ (e : List ℕ) where
       by none q = rw q
       by (some p) q = parts (p .0) (p .1) q
 
-  pub bracket-matches : (h : Endpoint) → matchesPattern (bracketPattern e) h ≡ bracketCovers e (h .host)
+  pub bracketPattern-matches : (h : Endpoint) → matchesPattern (bracketPattern e) h ≡ bracketCovers e (h .host)
   unfolding prefixCovers
-  bracket-matches h = rw bracket-is (by (bracketPrefix e))
+  bracketPattern-matches h = rw bracketPattern-is (by (bracketPrefix e))
     where
       by : (o : Option (ℕ × ℕ)) → matchesPattern (o >>= λ q. some (prefixTest (q .0) (q .1))) h
           ≡ addrCase (h .host .addr) false (λ a. false) (λ a. holds (λ q. samePrefix 128 (q .1) (q .0) a) o)
       by none = none-covers (h .host .addr)
       by (some q) = refl
 
-  pub bracket-sound : isSome (bracketPattern e) ≡ isSome (bracketPrefix e)
-  bracket-sound = rw bracket-is (by (bracketPrefix e))
+  pub bracketPattern-sound : isSome (bracketPattern e) ≡ isSome (bracketPrefix e)
+  bracketPattern-sound = rw bracketPattern-is (by (bracketPrefix e))
     where
       by : (o : Option (ℕ × ℕ)) → isSome {A = Endpoint → Bool} (o >>= λ q. some (prefixTest (q .0) (q .1))) ≡ isSome o
       by none = refl
@@ -308,11 +308,11 @@ asPrefix-sound none r q = (λ e. refl, λ h l m e. let z : _≡_ {A = ℕ} 0 1 =
 asPrefix-sound (some p) r q = (λ e. let z : _≡_ {A = ℕ} 0 1 = cc in absurd (omega arith), λ h l m e. refl)
 
 module _ (e : List ℕ) (r : NetRead) (is-r : r ≡ asNet (dottedNet e)) where
-  pub dotted-nothing : r ≡ R.Nothing → false ≡ isSome (dottedPattern e)
-  dotted-nothing q = asNet-sound (dottedNet e) r is-r .0 q ∙ sym (dotted-sound e)
+  pub dottedPattern-nothing : r ≡ R.Nothing → false ≡ isSome (dottedPattern e)
+  dottedPattern-nothing q = asNet-sound (dottedNet e) r is-r .0 q ∙ sym (dottedPattern-sound e)
 
-  pub dotted-net : (n m : ℕ) → r ≡ R.Net n m → true ≡ isSome (dottedPattern e)
-  dotted-net n m q = asNet-sound (dottedNet e) r is-r .1 n m q ∙ sym (dotted-sound e)
+  pub dottedPattern-net : (n m : ℕ) → r ≡ R.Net n m → true ≡ isSome (dottedPattern e)
+  dottedPattern-net n m q = asNet-sound (dottedNet e) r is-r .1 n m q ∙ sym (dottedPattern-sound e)
 
 prefixLength-le : (t : List ℕ) (m : ℕ) → prefixLength t ≡ some m → m ≤ 128
 unfolding prefixLength
@@ -337,31 +337,31 @@ bracketPrefix-le e p q = by (splitOnce (bytes "]") (drop 1 e)) q
     by (some t) q = read (t .1) (readV6 (t .0)) (prefixLength (t .1)) refl q
 
 module _ (e : List ℕ) (r : PrefixRead) (is-r : r ≡ asPrefix (bracketPrefix e)) where
-  pub bracket-nothing : r ≡ P.Nothing → false ≡ isSome (bracketPattern e)
-  bracket-nothing q = asPrefix-sound (bracketPrefix e) r is-r .0 q ∙ sym (bracket-sound e)
+  pub bracketPattern-nothing : r ≡ P.Nothing → false ≡ isSome (bracketPattern e)
+  bracketPattern-nothing q = asPrefix-sound (bracketPrefix e) r is-r .0 q ∙ sym (bracketPattern-sound e)
 
-  pub bracket-prefix : (h l m : ℕ) → r ≡ P.Prefix h l m → true ≡ isSome (bracketPattern e)
-  bracket-prefix h l m q = asPrefix-sound (bracketPrefix e) r is-r .1 h l m q ∙ sym (bracket-sound e)
+  pub bracketPattern-prefix : (h l m : ℕ) → r ≡ P.Prefix h l m → true ≡ isSome (bracketPattern e)
+  bracketPattern-prefix h l m q = asPrefix-sound (bracketPrefix e) r is-r .1 h l m q ∙ sym (bracketPattern-sound e)
 
-  pub covers-nothing : r ≡ P.Nothing → (a : ℕ) → false ≡ prefixCovers e a
+  pub prefixCovers-nothing : r ≡ P.Nothing → (a : ℕ) → false ≡ prefixCovers e a
   unfolding prefixCovers
-  covers-nothing q a = by (bracketPrefix e) is-r
+  prefixCovers-nothing q a = by (bracketPrefix e) is-r
     where
       by : (o : Option (ℕ × ℕ)) → r ≡ asPrefix o → false ≡ holds (λ p. samePrefix 128 (p .1) (p .0) a) o
       by none k = refl
       by (some p) k = let z : _≡_ {A = ℕ} 0 1 = cc in absurd (omega arith)
 
   module _ (h l m : ℕ) (q : r ≡ P.Prefix h l m) where
-    pub length-fits : m ≤ 128
-    length-fits = by (bracketPrefix e) refl is-r
+    pub bracketPrefix-fits : m ≤ 128
+    bracketPrefix-fits = by (bracketPrefix e) refl is-r
       where
         by : (o : Option (ℕ × ℕ)) → bracketPrefix e ≡ o → r ≡ asPrefix o → m ≤ 128
         by none j k = let z : _≡_ {A = ℕ} 0 1 = cc in absurd (omega arith)
         by (some p) j k = let z : p .1 ≡ m = cc in omega (arith, bracketPrefix-le e p j)
 
-    pub covers-prefix : (a : ℕ) (x : Bool) → x ≡ samePrefix 128 m (h * 2 ^ 64 + l) a → x ≡ prefixCovers e a
+    pub prefixCovers-prefix : (a : ℕ) (x : Bool) → x ≡ samePrefix 128 m (h * 2 ^ 64 + l) a → x ≡ prefixCovers e a
     unfolding prefixCovers
-    covers-prefix a x k = k ∙ by (bracketPrefix e) is-r
+    prefixCovers-prefix a x k = k ∙ by (bracketPrefix e) is-r
       where
         by : (o : Option (ℕ × ℕ)) → r ≡ asPrefix o → samePrefix 128 m (h * 2 ^ 64 + l) a ≡ holds (λ p. samePrefix 128 (p .1) (p .0) a) o
         by none k = let z : _≡_ {A = ℕ} 0 1 = cc in absurd (omega arith)
@@ -371,5 +371,5 @@ module _ (e : List ℕ) (r : PrefixRead) (is-r : r ≡ asPrefix (bracketPrefix e
             let v : p .0 % 2 ^ 64 ≡ l = cc in
             rw (← n, ← u, ← v, div-add-mod' (p .0) (2 ^ 64))
 
-pub cover-net : (r : NetRead) (n m a : ℕ) → r ≡ R.Net n m → (x : Bool) → x ≡ eqb n (bitAnd a m) → x ≡ netCovers r a
-cover-net r n m a q x k = rw q k
+pub netCovers-net : (r : NetRead) (n m a : ℕ) → r ≡ R.Net n m → (x : Bool) → x ≡ eqb n (bitAnd a m) → x ≡ netCovers r a
+netCovers-net r n m a q x k = rw q k

@@ -1,4 +1,5 @@
--- Laws of the elements of daemon and client lists, as the code reads them.
+-- Laws of the elements of daemon and client lists, as the code reads them; and what elements look at:
+-- `daemonElement-request`, `clientElement-request`.
 -- Assumes nothing.
 use Prim.Native.Nat.{ℕ, suc, _+_, _-_, _<_, _≤_}
 use Prim.Native.String.{String}
@@ -28,7 +29,7 @@ use Rattle.elements.specs.Pattern.{Pattern, isNameByte, hostPattern}
 use Rattle.elements.specs.Element.{Element, halves, reservedStart, isPlainName, daemonName, userHalf, foundIf, daemonParts, clientParts, daemonElement, clientElement, lookAt}
 use Rattle.elements.specs.Code.{elementFault, userFits, wildcardOf, wildcardPattern, matchesPattern, hostMatches, atSign, nameFits, nameEquals, userTest, userFound, askIf, nobody, daemonRequest, clientRequest}
 use Rattle.elements.proofs.TestLaws.{firstAmong-head, indexOf-length}
-use Rattle.elements.proofs.PatternLaws.{wildcard-of}
+use Rattle.elements.proofs.PatternLaws.{wildcard-of, isSome-given}
 
 -- ## Halves
 
@@ -63,59 +64,59 @@ module _ (e : List ℕ) (at : ℕ) (is-at : at ≡ atSign e) where
 
 -- ## Reserved marks
 
-pub marks-nil : (s : List ℕ) → length s ≡ 0 → false ≡ firstAmong "@/" s
-marks-nil [] h = refl
-marks-nil (x ∷ s) h = absurd (omega arith)
+pub reservedMarks-nil : (s : List ℕ) → length s ≡ 0 → false ≡ firstAmong "@/" s
+reservedMarks-nil [] h = refl
+reservedMarks-nil (x ∷ s) h = absurd (omega arith)
 
-pub marks-head : (s : List ℕ) → (length s ≡ 0 → ⊥) → (eqb (getD s 0 0) 64 || eqb (getD s 0 0) 47) ≡ firstAmong "@/" s
+pub reservedMarks-head : (s : List ℕ) → (length s ≡ 0 → ⊥) → (eqb (getD s 0 0) 64 || eqb (getD s 0 0) 47) ≡ firstAmong "@/" s
 unfolding any
-marks-head s h = sym (firstAmong-head "@/" s h ∙ rw (Bool.or-false (eqb (getD s 0 0) 47)))
+reservedMarks-head s h = sym (firstAmong-head "@/" s h ∙ rw (Bool.or-false (eqb (getD s 0 0) 47)))
 
 module _ (e : List ℕ) (x : Bool) (is-x : x ≡ firstAmong "@/" e) where
-  pub reserved-first : x ≡ true → true ≡ reservedStart e
+  pub reservedStart-first : x ≡ true → true ≡ reservedStart e
   unfolding reservedStart
-  reserved-first q = rw (← is-x, q)
+  reservedStart-first q = rw (← is-x, q)
 
   module _ (nx : x ≡ false) (at : ℕ) (is-at : at ≡ atSign e) where
-    pub reserved-whole : at ≡ length e → false ≡ reservedStart e
+    pub reservedStart-whole : at ≡ length e → false ≡ reservedStart e
     unfolding reservedStart
-    reserved-whole h = rw (← is-x, nx, halves-none e at is-at h)
+    reservedStart-whole h = rw (← is-x, nx, halves-none e at is-at h)
 
-    pub reserved-half : (at ≡ length e → ⊥) → (r : Bool) → r ≡ firstAmong "@/" (take (length e - (at + 1)) (drop (at + 1) e)) → r ≡ reservedStart e
+    pub reservedStart-half : (at ≡ length e → ⊥) → (r : Bool) → r ≡ firstAmong "@/" (take (length e - (at + 1)) (drop (at + 1) e)) → r ≡ reservedStart e
     unfolding reservedStart
-    reserved-half h r q = rw (← is-x, nx, halves-some e at is-at h) (q ∙ ap (firstAmong "@/") (take-rest e (at + 1)))
+    reservedStart-half h r q = rw (← is-x, nx, halves-some e at is-at h) (q ∙ ap (firstAmong "@/") (take-rest e (at + 1)))
 
 -- ## Names
 
 module _ (t : List ℕ) where
-  fits-is : nameFits t ≡ (all isNameByte t && inRange 1 64 (length t))
+  nameFits-is : nameFits t ≡ (all isNameByte t && inRange 1 64 (length t))
   unfolding nameFits
-  fits-is = refl
+  nameFits-is = refl
 
-  pub fits-empty : length t ≡ 0 → false ≡ nameFits t
-  fits-empty h = rw (fits-is, lt-leb 1 (length t) (omega arith), Bool.and-false (all isNameByte t))
+  pub nameFits-empty : length t ≡ 0 → false ≡ nameFits t
+  nameFits-empty h = rw (nameFits-is, lt-leb 1 (length t) (omega arith), Bool.and-false (all isNameByte t))
 
-  pub fits-long : 64 < length t → false ≡ nameFits t
-  fits-long h = rw (fits-is, lt-leb (length t) 64 h, Bool.and-false (leb 1 (length t)), Bool.and-false (all isNameByte t))
+  pub nameFits-long : 64 < length t → false ≡ nameFits t
+  nameFits-long h = rw (nameFits-is, lt-leb (length t) 64 h, Bool.and-false (leb 1 (length t)), Bool.and-false (all isNameByte t))
 
-  pub fits-name : (length t ≡ 0 → ⊥) → length t ≤ 64 → (r : Bool) → r ≡ all isNameByte t → r ≡ nameFits t
-  fits-name n h r q =
+  pub nameFits-name : (length t ≡ 0 → ⊥) → length t ≤ 64 → (r : Bool) → r ≡ all isNameByte t → r ≡ nameFits t
+  nameFits-name n h r q =
       let k : 1 ≤ length t = omega arith in
-      q ∙ sym (rw (fits-is, le-leb 1 (length t) k, le-leb (length t) 64 h, Bool.and-true (all isNameByte t)))
+      q ∙ sym (rw (nameFits-is, le-leb 1 (length t) k, le-leb (length t) 64 h, Bool.and-true (all isNameByte t)))
 
-  pub equals-same : (n : List ℕ) (x : Bool) → x ≡ equalFold t n → x ≡ true → (r : Bool) → r ≡ nameFits t → r ≡ nameEquals t n
-  equals-same n x q y r k = rw (← q, y) k
+  pub nameEquals-same : (n : List ℕ) (x : Bool) → x ≡ equalFold t n → x ≡ true → (r : Bool) → r ≡ nameFits t → r ≡ nameEquals t n
+  nameEquals-same n x q y r k = rw (← q, y) k
 
-  pub equals-differ : (n : List ℕ) (x : Bool) → x ≡ equalFold t n → x ≡ false → false ≡ nameEquals t n
-  equals-differ n x q y = rw (← q, y)
+  pub nameEquals-differ : (n : List ℕ) (x : Bool) → x ≡ equalFold t n → x ≡ false → false ≡ nameEquals t n
+  nameEquals-differ n x q y = rw (← q, y)
 
 -- a word is no other
-other-word : (v w : String) (t : List ℕ) → isWord v t ≡ true → equal (map lower (bytes w)) (map lower (bytes v)) ≡ false → isWord w t ≡ false
+isWord-other : (v w : String) (t : List ℕ) → isWord v t ≡ true → equal (map lower (bytes w)) (map lower (bytes v)) ≡ false → isWord w t ≡ false
 unfolding equalFold
-other-word v w t e n = rw (← (eq-of-equal (map lower (bytes v)) (map lower t) e)) n
+isWord-other v w t e n = rw (← (eq-of-equal (map lower (bytes v)) (map lower t) e)) n
 
 -- what the words say of a text, one after the other
-pub by-word : (t : List ℕ) (P : Wildcard → Type 0)
+pub wildcardOf-cases : (t : List ℕ) (P : Wildcard → Type 0)
     → (isWord "ALL" t ≡ true → P W.All)
     → (isWord "ALL" t ≡ false → isWord "LOCAL" t ≡ true → P W.Local)
     → (isWord "ALL" t ≡ false → isWord "KNOWN" t ≡ true → P W.Known)
@@ -124,7 +125,7 @@ pub by-word : (t : List ℕ) (P : Wildcard → Type 0)
     → (isWord "ALL" t ≡ false → isWord "KNOWN" t ≡ false → isWord "UNKNOWN" t ≡ false → P W.Nothing)
     → P (wildcardOf t)
 unfolding wildcardOf
-by-word t P all local known unknown paranoid nothing = by (isWord "ALL" t) (isWord "LOCAL" t) (isWord "KNOWN" t) (isWord "UNKNOWN" t) (isWord "PARANOID" t) refl refl refl refl
+wildcardOf-cases t P all local known unknown paranoid nothing = by (isWord "ALL" t) (isWord "LOCAL" t) (isWord "KNOWN" t) (isWord "UNKNOWN" t) (isWord "PARANOID" t) refl refl refl refl
   where
     by : (a l k u p : Bool) → isWord "ALL" t ≡ a → isWord "LOCAL" t ≡ l → isWord "KNOWN" t ≡ k → isWord "UNKNOWN" t ≡ u
         → P (if a then W.All else if l then W.Local else if k then W.Known else if u then W.Unknown else if p then W.Paranoid else W.Nothing)
@@ -152,13 +153,13 @@ userAt W.Known t = some (λ r. userCase r false false true)
 userAt W.Unknown t = some (λ r. userCase r false true false)
 userAt W.Paranoid t = none
 
-plain-at : (t : List ℕ) → isPlainName t ≡ (nameFits t && not (isSome (wildcardPattern (wildcardOf t))))
+isPlainName-at : (t : List ℕ) → isPlainName t ≡ (nameFits t && not (isSome (wildcardPattern (wildcardOf t))))
 unfolding isPlainName nameFits
-plain-at t = rw (wildcard-of t)
+isPlainName-at t = rw (wildcard-of t)
 
-daemon-at : (t : List ℕ) → daemonName t ≡ daemonAt (wildcardOf t) t
+daemonName-at : (t : List ℕ) → daemonName t ≡ daemonAt (wildcardOf t) t
 unfolding daemonName
-daemon-at t = rw (plain-at t) (by-word t (λ w. (given (isWord "ALL" t) (λ d. true) orElse given (nameFits t && not (isSome (wildcardPattern w))) (equalFold t)) ≡ daemonAt w t)
+daemonName-at t = rw (isPlainName-at t) (wildcardOf-cases t (λ w. (given (isWord "ALL" t) (λ d. true) orElse given (nameFits t && not (isSome (wildcardPattern w))) (equalFold t)) ≡ daemonAt w t)
     (λ a. rw a)
     (λ a l. rw (a, none-fits))
     (λ a k. rw (a, none-fits))
@@ -169,11 +170,11 @@ daemon-at t = rw (plain-at t) (by-word t (λ w. (given (isWord "ALL" t) (λ d. t
     none-fits : (nameFits t && false) ≡ false
     none-fits = Bool.and-false (nameFits t)
 
-user-at : (t : List ℕ) → userHalf t ≡ userAt (wildcardOf t) t
+userHalf-at : (t : List ℕ) → userHalf t ≡ userAt (wildcardOf t) t
 unfolding userHalf equal lower
-user-at t = rw (plain-at t) (by-word t (λ w. halfAs w ≡ userAt w t)
+userHalf-at t = rw (isPlainName-at t) (wildcardOf-cases t (λ w. halfAs w ≡ userAt w t)
     (λ a. rw a)
-    (λ a l. rw (a, other-word "LOCAL" "KNOWN" t l refl, other-word "LOCAL" "UNKNOWN" t l refl, none-fits))
+    (λ a l. rw (a, isWord-other "LOCAL" "KNOWN" t l refl, isWord-other "LOCAL" "UNKNOWN" t l refl, none-fits))
     (λ a k. rw (a, k))
     (λ a k u. rw (a, k, u))
     (λ a k u. rw (a, k, u, none-fits))
@@ -189,51 +190,47 @@ user-at t = rw (plain-at t) (by-word t (λ w. halfAs w ≡ userAt w t)
         orElse given (isWord "UNKNOWN" t) (λ r. userCase r false true false)
         orElse given (nameFits t && not (isSome (wildcardPattern w))) (λ r. userCase r false false (equalFold t (r .userName)))
 
-isSome-given : {A : Type 0} (b : Bool) (a : A) → isSome (given b a) ≡ b
-isSome-given true a = refl
-isSome-given false a = refl
-
 holds-given : {A : Type 0} (p : A → Bool) (b : Bool) (a : A) → holds p (given b a) ≡ (p a && b)
 holds-given p true a = sym (Bool.and-true (p a))
 holds-given p false a = sym (Bool.and-false (p a))
 
 -- as the code finds them, w the wildcard that t is
 module _ (t : List ℕ) (w v : Wildcard) (is-w : w ≡ wildcardOf t) (is-v : w ≡ v) where
-  pub daemon-is : daemonName t ≡ daemonAt v t
-  daemon-is = daemon-at t ∙ rw (← is-w, is-v)
+  pub daemonName-is : daemonName t ≡ daemonAt v t
+  daemonName-is = daemonName-at t ∙ rw (← is-w, is-v)
 
-  pub user-is : userHalf t ≡ userAt v t
-  user-is = user-at t ∙ rw (← is-w, is-v)
+  pub userHalf-is : userHalf t ≡ userAt v t
+  userHalf-is = userHalf-at t ∙ rw (← is-w, is-v)
 
-  pub daemon-sound : (r : Bool) → r ≡ isSome (daemonAt v t) → r ≡ isSome (daemonName t)
-  daemon-sound r q = rw daemon-is q
+  pub daemonName-sound : (r : Bool) → r ≡ isSome (daemonAt v t) → r ≡ isSome (daemonName t)
+  daemonName-sound r q = rw daemonName-is q
 
-  pub daemon-matches : (d : List ℕ) (r : Bool) → r ≡ holds (λ f. f d) (daemonAt v t) → r ≡ holds (λ f. f d) (daemonName t)
-  daemon-matches d r q = rw daemon-is q
+  pub daemonName-matches : (d : List ℕ) (r : Bool) → r ≡ holds (λ f. f d) (daemonAt v t) → r ≡ holds (λ f. f d) (daemonName t)
+  daemonName-matches d r q = rw daemonName-is q
 
-  pub user-sound : (r : Bool) → r ≡ isSome (userAt v t) → r ≡ isSome (userHalf t)
-  user-sound r q = rw user-is q
+  pub userHalf-sound : (r : Bool) → r ≡ isSome (userAt v t) → r ≡ isSome (userHalf t)
+  userHalf-sound r q = rw userHalf-is q
 
-  pub user-matches : (u : User) (name : List ℕ) (r : Bool) → r ≡ holds (λ f. f (clientRequest nobody u name)) (userAt v t) → r ≡ userTest t u name
+  pub userTest-at : (u : User) (name : List ℕ) (r : Bool) → r ≡ holds (λ f. f (clientRequest nobody u name)) (userAt v t) → r ≡ userTest t u name
   unfolding userTest
-  user-matches u name r q = rw user-is q
+  userTest-at u name r q = rw userHalf-is q
 
 -- a name that is no wildcard
 module _ (t : List ℕ) where
-  pub daemon-named : isSome (daemonAt W.Nothing t) ≡ nameFits t
-  daemon-named = isSome-given (nameFits t) (equalFold t)
+  pub isSome-daemonAt : isSome (daemonAt W.Nothing t) ≡ nameFits t
+  isSome-daemonAt = isSome-given (nameFits t) (equalFold t)
 
-  pub user-named : isSome (userAt W.Nothing t) ≡ nameFits t
-  user-named = isSome-given (nameFits t) (λ (r : Request). userCase r false false (equalFold t (r .userName)))
+  pub isSome-userAt : isSome (userAt W.Nothing t) ≡ nameFits t
+  isSome-userAt = isSome-given (nameFits t) (λ (r : Request). userCase r false false (equalFold t (r .userName)))
 
-  pub daemon-equals : (d : List ℕ) → holds (λ f. f d) (daemonAt W.Nothing t) ≡ nameEquals t d
-  daemon-equals d = holds-given (λ (f : List ℕ → Bool). f d) (nameFits t) (equalFold t)
+  pub daemonAt-equals : (d : List ℕ) → holds (λ f. f d) (daemonAt W.Nothing t) ≡ nameEquals t d
+  daemonAt-equals d = holds-given (λ (f : List ℕ → Bool). f d) (nameFits t) (equalFold t)
 
-  pub user-equals : (name : List ℕ) → holds (λ f. f (clientRequest nobody U.Known name)) (userAt W.Nothing t) ≡ nameEquals t name
-  user-equals name = holds-given (λ (f : Request → Bool). f (clientRequest nobody U.Known name)) (nameFits t) (λ r. userCase r false false (equalFold t (r .userName)))
+  pub userAt-equals : (name : List ℕ) → holds (λ f. f (clientRequest nobody U.Known name)) (userAt W.Nothing t) ≡ nameEquals t name
+  userAt-equals name = holds-given (λ (f : Request → Bool). f (clientRequest nobody U.Known name)) (nameFits t) (λ r. userCase r false false (equalFold t (r .userName)))
 
-  pub user-unnamed : holds (λ f. f (clientRequest nobody U.Unknown [])) (userAt W.Nothing t) ≡ false
-  user-unnamed = holds-given (λ (f : Request → Bool). f (clientRequest nobody U.Unknown [])) (nameFits t) (λ r. userCase r false false (equalFold t (r .userName)))
+  pub userAt-unknown : holds (λ f. f (clientRequest nobody U.Unknown [])) (userAt W.Nothing t) ≡ false
+  userAt-unknown = holds-given (λ (f : Request → Bool). f (clientRequest nobody U.Unknown [])) (nameFits t) (λ r. userCase r false false (equalFold t (r .userName)))
 
 -- ## What a user half finds
 
@@ -271,38 +268,38 @@ unknown-same W.Unknown t name = refl
 unknown-same W.Paranoid t name = refl
 
 finds-same : (t : List ℕ) (r : Request) → finds (userHalf t) r ≡ finds (userHalf t) (clientRequest nobody (r .user) (r .userName))
-finds-same t r = rw (user-at t) (user-same (wildcardOf t) t r)
+finds-same t r = rw (userHalf-at t) (user-same (wildcardOf t) t r)
 
-found-is : (t : List ℕ) (u : User) (name : List ℕ) → userFound t u name ≡ finds (userHalf t) (clientRequest nobody u name)
+userFound-is : (t : List ℕ) (u : User) (name : List ℕ) → userFound t u name ≡ finds (userHalf t) (clientRequest nobody u name)
 unfolding userFound userTest
-found-is t U.NotFetched name = by (userHalf t)
+userFound-is t U.NotFetched name = by (userHalf t)
   where
     by : (o : Option (Request → Bool)) → askIf (isSome o) ≡ finds o (clientRequest nobody U.NotFetched name)
     by none = refl
     by (some f) = refl
-found-is t U.Unknown name = by (userHalf t) ∙ sym (rw (user-at t) (unknown-same (wildcardOf t) t name))
+userFound-is t U.Unknown name = by (userHalf t) ∙ sym (rw (userHalf-at t) (unknown-same (wildcardOf t) t name))
   where
     by : (o : Option (Request → Bool)) → foundIf (holds (λ f. f (clientRequest nobody U.Unknown [])) o) ≡ finds o (clientRequest nobody U.Unknown [])
     by none = refl
     by (some f) = refl
-found-is t U.Known name = by (userHalf t)
+userFound-is t U.Known name = by (userHalf t)
   where
     by : (o : Option (Request → Bool)) → foundIf (holds (λ f. f (clientRequest nobody U.Known name)) o) ≡ finds o (clientRequest nobody U.Known name)
     by none = refl
     by (some f) = refl
 
 module _ (t : List ℕ) (u : User) (name : List ℕ) (r : Found) (x : Bool) where
-  pub found-ask : u ≡ U.NotFetched → x ≡ isSome (userHalf t) → r ≡ askIf x → r ≡ userFound t u name
+  pub userFound-ask : u ≡ U.NotFetched → x ≡ isSome (userHalf t) → r ≡ askIf x → r ≡ userFound t u name
   unfolding userFound
-  found-ask e q k = rw (e, ← q) k
+  userFound-ask e q k = rw (e, ← q) k
 
-  pub found-unknown : u ≡ U.Unknown → x ≡ userTest t U.Unknown [] → r ≡ foundIf x → r ≡ userFound t u name
+  pub userFound-unknown : u ≡ U.Unknown → x ≡ userTest t U.Unknown [] → r ≡ foundIf x → r ≡ userFound t u name
   unfolding userFound
-  found-unknown e q k = rw (e, ← q) k
+  userFound-unknown e q k = rw (e, ← q) k
 
-  pub found-known : u ≡ U.Known → x ≡ userTest t U.Known name → r ≡ foundIf x → r ≡ userFound t u name
+  pub userFound-known : u ≡ U.Known → x ≡ userTest t U.Known name → r ≡ foundIf x → r ≡ userFound t u name
   unfolding userFound
-  found-known e q k = rw (e, ← q) k
+  userFound-known e q k = rw (e, ← q) k
 
 -- ## Elements of either list, whole or parted
 
@@ -321,55 +318,55 @@ after e at = take (length e - (at + 1)) (drop (at + 1) e)
 
 module _ (e : List ℕ) (at : ℕ) (is-at : at ≡ atSign e) where
   module _ (h : at ≡ length e) where
-    pub daemon-whole : (r : Bool) → r ≡ isSome (daemonName e) → r ≡ isSome (daemonElement e)
+    pub daemonElement-whole : (r : Bool) → r ≡ isSome (daemonName e) → r ≡ isSome (daemonElement e)
     unfolding daemonElement daemonParts
-    daemon-whole r q = rw (halves-none e at is-at h) (q ∙ sym (one-sound (daemonName e) (λ f (k : Request). foundIf (f (k .daemon)))))
+    daemonElement-whole r q = rw (halves-none e at is-at h) (q ∙ sym (one-sound (daemonName e) _))
 
-    pub client-whole : (r : Bool) → r ≡ isSome (hostPattern e) → r ≡ isSome (clientElement e)
+    pub clientElement-whole : (r : Bool) → r ≡ isSome (hostPattern e) → r ≡ isSome (clientElement e)
     unfolding clientElement clientParts
-    client-whole r q = rw (halves-none e at is-at h) (q ∙ sym (one-sound (hostPattern e) (λ g (k : Request). foundIf (g (k .client)))))
+    clientElement-whole r q = rw (halves-none e at is-at h) (q ∙ sym (one-sound (hostPattern e) _))
 
   module _ (h : at ≡ length e → ⊥) (x : Bool) where
     parted : halves e ≡ some (take at e, after e at)
     parted = halves-some e at is-at h ∙ ap (λ (s : List ℕ). some (take at e, s)) (sym (take-rest e (at + 1)))
 
-    daemon-both : isSome (daemonElement e) ≡ (isSome (daemonName (take at e)) && isSome (hostPattern (after e at)))
+    daemonElement-both : isSome (daemonElement e) ≡ (isSome (daemonName (take at e)) && isSome (hostPattern (after e at)))
     unfolding daemonElement daemonParts
-    daemon-both = rw parted (two-sound (daemonName (take at e)) (hostPattern (after e at)) (λ f g (k : Request). foundIf (f (k .daemon) && g (k .server))))
+    daemonElement-both = rw parted (two-sound (daemonName (take at e)) (hostPattern (after e at)) _)
 
-    client-both : isSome (clientElement e) ≡ (isSome (userHalf (take at e)) && isSome (hostPattern (after e at)))
+    clientElement-both : isSome (clientElement e) ≡ (isSome (userHalf (take at e)) && isSome (hostPattern (after e at)))
     unfolding clientElement clientParts
-    client-both = rw parted (two-sound (userHalf (take at e)) (hostPattern (after e at)) (λ f g (k : Request). if g (k .client) then userCase k Ask (foundIf (f k)) (foundIf (f k)) else No))
+    clientElement-both = rw parted (two-sound (userHalf (take at e)) (hostPattern (after e at)) _)
 
     module _ (is-x : x ≡ isSome (daemonName (take at e))) where
-      pub daemon-halves : x ≡ true → (r : Bool) → r ≡ isSome (hostPattern (after e at)) → r ≡ isSome (daemonElement e)
-      daemon-halves y r q = rw (daemon-both, ← is-x, y) q
+      pub daemonElement-halves : x ≡ true → (r : Bool) → r ≡ isSome (hostPattern (after e at)) → r ≡ isSome (daemonElement e)
+      daemonElement-halves y r q = rw (daemonElement-both, ← is-x, y) q
 
-      pub daemon-nameless : x ≡ false → false ≡ isSome (daemonElement e)
-      daemon-nameless y = rw (daemon-both, ← is-x, y)
+      pub daemonElement-nameless : x ≡ false → false ≡ isSome (daemonElement e)
+      daemonElement-nameless y = rw (daemonElement-both, ← is-x, y)
 
     module _ (is-x : x ≡ isSome (userHalf (take at e))) where
-      pub client-halves : x ≡ true → (r : Bool) → r ≡ isSome (hostPattern (after e at)) → r ≡ isSome (clientElement e)
-      client-halves y r q = rw (client-both, ← is-x, y) q
+      pub clientElement-halves : x ≡ true → (r : Bool) → r ≡ isSome (hostPattern (after e at)) → r ≡ isSome (clientElement e)
+      clientElement-halves y r q = rw (clientElement-both, ← is-x, y) q
 
-      pub client-userless : x ≡ false → false ≡ isSome (clientElement e)
-      client-userless y = rw (client-both, ← is-x, y)
+      pub clientElement-userless : x ≡ false → false ≡ isSome (clientElement e)
+      clientElement-userless y = rw (clientElement-both, ← is-x, y)
 
 -- ## What is wrong with an element
 
 module _ (kind : List ℕ → Element) (e : List ℕ) (x : Bool) (is-x : x ≡ reservedStart e) where
-  pub fault-reserved : x ≡ true → E.Reserved ≡ elementFault kind e
+  pub elementFault-reserved : x ≡ true → E.Reserved ≡ elementFault kind e
   unfolding elementFault
-  fault-reserved y = rw (← is-x, y)
+  elementFault-reserved y = rw (← is-x, y)
 
   module _ (nx : x ≡ false) (s : Bool) (is-s : s ≡ isSome (kind e)) where
-    pub fault-sound : s ≡ true → E.Sound ≡ elementFault kind e
+    pub elementFault-sound : s ≡ true → E.Sound ≡ elementFault kind e
     unfolding elementFault
-    fault-sound y = rw (← is-x, nx, ← is-s, y)
+    elementFault-sound y = rw (← is-x, nx, ← is-s, y)
 
-    pub fault-unknown : s ≡ false → E.Unknown ≡ elementFault kind e
+    pub elementFault-unknown : s ≡ false → E.Unknown ≡ elementFault kind e
     unfolding elementFault
-    fault-unknown y = rw (← is-x, nx, ← is-s, y)
+    elementFault-unknown y = rw (← is-x, nx, ← is-s, y)
 
 -- ## What an element finds
 
@@ -412,7 +409,7 @@ module _ (e : List ℕ) (at : ℕ) (is-at : at ≡ atSign e) (c : Endpoint) (u :
     client-found-both : lookAt (clientRequest c u name) (clientElement e) ≡ (if x then userFound (take at e) u name else No)
     unfolding clientElement clientParts hostMatches
     client-found-both =
-        rw (parted e at is-at h x, is-x, found-is (take at e) u name, ← (finds-same (take at e) (clientRequest c u name))) (by (userHalf (take at e)) (hostPattern (after e at)))
+        rw (parted e at is-at h x, is-x, userFound-is (take at e) u name, ← (finds-same (take at e) (clientRequest c u name))) (by (userHalf (take at e)) (hostPattern (after e at)))
       where
         by : (o : Option (Request → Bool)) (p : Pattern)
             → lookAt (clientRequest c u name) (o >>= λ f. p >>= λ g. some (λ r. if g (r .client) then userCase r Ask (foundIf (f r)) (foundIf (f r)) else No))
@@ -478,8 +475,8 @@ clientElement-request q e = by (halves e)
 
 -- ## Sizes
 
-pub fits-all : (d : List ℕ) (c s : Endpoint) (u : User) (name : List ℕ) (a b k l : Bool) → a ≡ inRange 1 64 (length d)
+pub wellFormed-fits : (d : List ℕ) (c s : Endpoint) (u : User) (name : List ℕ) (a b k l : Bool) → a ≡ inRange 1 64 (length d)
     → b ≡ nameCase c true true (inRange 1 255 (length (c .name))) → k ≡ nameCase s true true (inRange 1 255 (length (s .name))) → l ≡ userFits u name
     → (a && b && k && l) ≡ wellFormed (requestOf d c s u name)
 unfolding wellFormed
-fits-all d c s u name a b k l p q r t = rw (p, q, r, t)
+wellFormed-fits d c s u name a b k l p q r t = rw (p, q, r, t)

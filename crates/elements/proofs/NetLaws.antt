@@ -38,37 +38,37 @@ use Rattle.elements.proofs.TestLaws.{drop-take, indexOf-take, indexOf-l
 -- ## One field
 
 module _ (t : List ℕ) (i : ℕ) (is-i : i ≡ indexOf 46 t) where
-  pub field-endless : i ≡ length t → L.Nothing ≡ fieldOf t
+  pub fieldOf-endless : i ≡ length t → L.Nothing ≡ fieldOf t
   unfolding fieldOf
-  field-endless h = rw (← is-i, eq-eqb i (length t) h)
+  fieldOf-endless h = rw (← is-i, eq-eqb i (length t) h)
 
   module _ (h : i ≡ length t → ⊥) (v : NumberRead) (is-v : v ≡ asNumber (readDecimal 255 (take i t))) where
-    pub field-unread : v ≡ T.Nothing → L.Nothing ≡ fieldOf t
+    pub fieldOf-unread : v ≡ T.Nothing → L.Nothing ≡ fieldOf t
     unfolding fieldOf
-    field-unread e = rw (← is-i, ne-eqb i (length t) h, asNumber-none (readDecimal 255 (take i t)) (sym is-v ∙ e))
+    fieldOf-unread e = rw (← is-i, ne-eqb i (length t) h, asNumber-none (readDecimal 255 (take i t)) (sym is-v ∙ e))
 
-    pub field-read : (n : ℕ) → v ≡ T.Value n → L.Value n (i + 1) ≡ fieldOf t
+    pub fieldOf-read : (n : ℕ) → v ≡ T.Value n → L.Value n (i + 1) ≡ fieldOf t
     unfolding fieldOf
-    field-read n e = rw (← is-i, ne-eqb i (length t) h, asNumber-some (readDecimal 255 (take i t)) n (sym is-v ∙ e))
+    fieldOf-read n e = rw (← is-i, ne-eqb i (length t) h, asNumber-some (readDecimal 255 (take i t)) n (sym is-v ∙ e))
 
 -- the fields of a text whose first dot stands at i
 module _ (t : List ℕ) (i : ℕ) (is-i : i ≡ indexOf 46 t) where
   -- no dot: the text does not end in one
-  fields-endless : length t ≤ i → dottedFields t ≡ none
+  dottedFields-endless : length t ≤ i → dottedFields t ≡ none
   unfolding dottedFields
-  fields-endless h = rw (no-dot-at-end t (rw (← is-i) h))
+  dottedFields-endless h = rw (no-dot-at-end t (rw (← is-i) h))
 
   module _ (h : i < length t) where
-    fields-last : i + 1 ≡ length t → dottedFields t ≡ (readDecimal 255 (take i t) >>= λ v. some (v ∷ []))
+    dottedFields-last : i + 1 ≡ length t → dottedFields t ≡ (readDecimal 255 (take i t) >>= λ v. some (v ∷ []))
     unfolding dottedFields each
-    fields-last e =
+    dottedFields-last e =
         let q : length t - 1 ≡ i = omega arith in
         let d : i ≡ indexOf 46 (take i t) = sym (indexOf-take 46 i t ∙ omega arith) in
         rw (dot-at-end t (rw (← is-i) e), q, split-no-mark "." 46 refl (take i t) i d (omega (arith, length-take i t)))
 
-    fields-more : (i + 1 ≡ length t → ⊥) → dottedFields t ≡ (readDecimal 255 (take i t) >>= λ v. dottedFields (drop (i + 1) t) >>= λ fs. some (v ∷ fs))
+    dottedFields-more : (i + 1 ≡ length t → ⊥) → dottedFields t ≡ (readDecimal 255 (take i t) >>= λ v. dottedFields (drop (i + 1) t) >>= λ fs. some (v ∷ fs))
     unfolding dottedFields each
-    fields-more n =
+    dottedFields-more n =
         let u : List ℕ = take (length t - 1) t in
         let d : i ≡ indexOf 46 u = sym (indexOf-take 46 (length t - 1) t ∙ omega arith) in
         let l : length u ≡ length t - 1 = length-take (length t - 1) t ∙ omega arith in
@@ -94,29 +94,29 @@ module _ (t : List ℕ) where
   inside : eqb dot (length t) ≡ false → dot < length t
   inside p = omega (arith, indexOf-length 46 t, eqb-false dot (length t) p)
 
-  no-field : fieldOf t ≡ L.Nothing → dottedFields t ≡ none
-  no-field = by-field (λ f. f ≡ L.Nothing → dottedFields t ≡ none) by
+  dottedFields-none : fieldOf t ≡ L.Nothing → dottedFields t ≡ none
+  dottedFields-none = by-field (λ f. f ≡ L.Nothing → dottedFields t ≡ none) by
     where
       by : (b : Bool) (o : Option ℕ) → eqb dot (length t) ≡ b → readDecimal 255 (take dot t) ≡ o → (if b then L.Nothing else fieldWith dot o) ≡ L.Nothing → dottedFields t ≡ none
-      by true o p q e = fields-endless t dot refl (omega (arith, eqb-true dot (length t) p))
+      by true o p q e = dottedFields-endless t dot refl (omega (arith, eqb-true dot (length t) p))
       by false (some v) p q e = let z : _≡_ {A = ℕ} 0 1 = cc in absurd (omega arith)
       by false none p q e = ends (eqb (dot + 1) (length t)) refl
         where
           ends : (l : Bool) → eqb (dot + 1) (length t) ≡ l → dottedFields t ≡ none
-          ends true l = fields-last t dot refl (inside p) (eqb-true (dot + 1) (length t) l) ∙ rw q
-          ends false l = fields-more t dot refl (inside p) (eqb-false (dot + 1) (length t) l) ∙ rw q
+          ends true l = dottedFields-last t dot refl (inside p) (eqb-true (dot + 1) (length t) l) ∙ rw q
+          ends false l = dottedFields-more t dot refl (inside p) (eqb-false (dot + 1) (length t) l) ∙ rw q
 
   -- the field v ends before j
-  record Found (v j : ℕ) : Type 0 where
+  record FirstField (v j : ℕ) : Type 0 where
     small : v ≤ 255
     within : j ≤ length t
     last : j ≡ length t → dottedFields t ≡ some (v ∷ [])
     more : (j ≡ length t → ⊥) → dottedFields t ≡ (dottedFields (drop j t) >>= λ fs. some (v ∷ fs))
 
-  found : (v j : ℕ) → fieldOf t ≡ L.Value v j → Found v j
-  found v j = by-field (λ f. f ≡ L.Value v j → Found v j) by
+  firstField : (v j : ℕ) → fieldOf t ≡ L.Value v j → FirstField v j
+  firstField v j = by-field (λ f. f ≡ L.Value v j → FirstField v j) by
     where
-      by : (b : Bool) (o : Option ℕ) → eqb dot (length t) ≡ b → readDecimal 255 (take dot t) ≡ o → (if b then L.Nothing else fieldWith dot o) ≡ L.Value v j → Found v j
+      by : (b : Bool) (o : Option ℕ) → eqb dot (length t) ≡ b → readDecimal 255 (take dot t) ≡ o → (if b then L.Nothing else fieldWith dot o) ≡ L.Value v j → FirstField v j
       by true o p q e = let z : _≡_ {A = ℕ} 0 1 = cc in absurd (omega arith)
       by false none p q e = let z : _≡_ {A = ℕ} 0 1 = cc in absurd (omega arith)
       by false (some u) p q e =
@@ -126,8 +126,8 @@ module _ (t : List ℕ) where
           record {
             small = readDecimal-le 255 v (take dot t) r;
             within = omega (arith, inside p);
-            last = λ l. fields-last t dot refl (inside p) (at ∙ l) ∙ rw r;
-            more = λ n. fields-more t dot refl (inside p) (λ l. n (sym at ∙ l)) ∙ rw (r, at);
+            last = λ l. dottedFields-last t dot refl (inside p) (at ∙ l) ∙ rw r;
+            more = λ n. dottedFields-more t dot refl (inside p) (λ l. n (sym at ∙ l)) ∙ rw (r, at);
           }
 
 -- ## Fields, one after the other
@@ -181,7 +181,7 @@ pub fields-start : (e : List ℕ) → Fields e 0 0 0
 fields-start e = record { within = omega arith; few = omega arith; small = omega arith; rest = refl }
 
 -- a field more, up to at + j
-pub record Field-more (e : List ℕ) (at n count v j : ℕ) : Type 0 where
+pub record NextField (e : List ℕ) (at n count v j : ℕ) : Type 0 where
   pub place : at + j ≤ length e
   pub value : n * 256 + v < 16777216
   pub last : at + j ≡ length e → fieldsNet 0 0 e ≡ some (leadingNet (count + 1) (n * 256 + v))
@@ -203,12 +203,12 @@ module _ (e : List ℕ) (at n count : ℕ) (inv : Fields e at n count) where
 
     pub fields-nothing : f ≡ L.Nothing → R.Nothing ≡ asNet (fieldsNet 0 0 e)
     unfolding fieldsNet
-    fields-nothing q = rw (inv .rest, no-field (drop at e) (field-at ∙ q))
+    fields-nothing q = rw (inv .rest, dottedFields-none (drop at e) (field-at ∙ q))
 
-    pub field-more : count < 3 → (v j : ℕ) → f ≡ L.Value v j → Field-more e at n count v j
+    pub fields-next : count < 3 → (v j : ℕ) → f ≡ L.Value v j → NextField e at n count v j
     unfolding fieldsNet fromDigits
-    field-more h v j q =
-        let g : Found (drop at e) v j = found (drop at e) v j (field-at ∙ q) in
+    fields-next h v j q =
+        let g : FirstField (drop at e) v j = firstField (drop at e) v j (field-at ∙ q) in
         let w : j ≤ length e - at = rw (length-drop at e) at (g .within) in
         let p : n * 256 + v < 256 ^ (count + 1) = rw (add-one count, pow-suc 256 count) (omega (arith, inv .small, g .small)) in
         record {
@@ -228,18 +228,18 @@ module _ (e : List ℕ) (at n count : ℕ) (inv : Fields e at n count) where
         three h = omega arith
 
 -- the net of leading fields, shifted into place
-pub leading-shifted : (n k : ℕ) → 1 ≤ k → k ≤ 3 → n < 256 ^ k
+pub leadingNet-shifted : (n k : ℕ) → 1 ≤ k → k ≤ 3 → n < 256 ^ k
     → R.Net (n * 2 ^ (32 - 8 * k) % 4294967296) (4294967295 / 2 ^ (32 - 8 * k) * 2 ^ (32 - 8 * k) % 4294967296) ≡ asNet (some (leadingNet k n))
-leading-shifted n zero h l p = absurd (omega arith)
-leading-shifted n (suc zero) h l p = rw (mod-eq-of-lt {n = n * 16777216} {m = 4294967296} (omega arith))
-leading-shifted n (suc (suc zero)) h l p = rw (mod-eq-of-lt {n = n * 65536} {m = 4294967296} (omega arith))
-leading-shifted n (suc (suc (suc zero))) h l p = rw (mod-eq-of-lt {n = n * 256} {m = 4294967296} (omega arith))
-leading-shifted n (suc (suc (suc (suc k)))) h l p = absurd (omega arith)
+leadingNet-shifted n zero h l p = absurd (omega arith)
+leadingNet-shifted n (suc zero) h l p = rw (mod-eq-of-lt {n = n * 16777216} {m = 4294967296} (omega arith))
+leadingNet-shifted n (suc (suc zero)) h l p = rw (mod-eq-of-lt {n = n * 65536} {m = 4294967296} (omega arith))
+leadingNet-shifted n (suc (suc (suc zero))) h l p = rw (mod-eq-of-lt {n = n * 256} {m = 4294967296} (omega arith))
+leadingNet-shifted n (suc (suc (suc (suc k)))) h l p = absurd (omega arith)
 
 -- ## net/mask, and an address alone
 
-pub pair-net : (x y : NumberRead) (n m : ℕ) → x ≡ T.Value n → y ≡ T.Value m → R.Net n m ≡ pairNet x y
-pair-net x y n m p q = rw (p, q)
+pub pairNet-values : (x y : NumberRead) (n m : ℕ) → x ≡ T.Value n → y ≡ T.Value m → R.Net n m ≡ pairNet x y
+pairNet-values x y n m p q = rw (p, q)
 
 pairNet-read : (o p : Option ℕ) → pairNet (asNumber o) (asNumber p) ≡ asNet (o >>= λ n. p >>= λ m. some (n, m))
 pairNet-read none p = refl
@@ -247,25 +247,25 @@ pairNet-read (some n) none = refl
 pairNet-read (some n) (some m) = refl
 
 module _ (e : List ℕ) (i : ℕ) (is-i : i ≡ indexOf 47 e) where
-  pub mask-none : i ≡ length e → R.Nothing ≡ asNet (maskNet e)
+  pub maskNet-none : i ≡ length e → R.Nothing ≡ asNet (maskNet e)
   unfolding maskNet
-  mask-none h = rw (splitOnce-no-mark 47 e i is-i (omega arith))
+  maskNet-none h = rw (splitOnce-no-mark 47 e i is-i (omega arith))
 
-  pub mask-pair : i ≤ length e → (i ≡ length e → ⊥) → (x y : NumberRead) → x ≡ asNumber (readV4 (take i e)) → y ≡ asNumber (readV4 (take (length e - (i + 1)) (drop (i + 1) e)))
+  pub maskNet-pair : i ≤ length e → (i ≡ length e → ⊥) → (x y : NumberRead) → x ≡ asNumber (readV4 (take i e)) → y ≡ asNumber (readV4 (take (length e - (i + 1)) (drop (i + 1) e)))
       → (r : NetRead) → r ≡ pairNet x y → r ≡ asNet (maskNet e)
   unfolding maskNet
-  mask-pair h k x y is-x is-y r q =
+  maskNet-pair h k x y is-x is-y r q =
       q ∙ ap₂ pairNet is-x (is-y ∙ ap (λ (s : List ℕ). asNumber (readV4 s)) (take-rest e (i + 1)))
       ∙ rw (splitOnce-mark 47 e i is-i (omega arith)) (pairNet-read (readV4 (take i e)) (readV4 (drop (i + 1) e)))
 
 module _ (e : List ℕ) (v : NumberRead) (is-v : v ≡ asNumber (readV4 e)) where
-  pub whole-mask : v ≡ T.Nothing → (r : NetRead) → r ≡ asNet (maskNet e) → r ≡ asNet (wholeNet e)
+  pub wholeNet-mask : v ≡ T.Nothing → (r : NetRead) → r ≡ asNet (maskNet e) → r ≡ asNet (wholeNet e)
   unfolding wholeNet
-  whole-mask q r h = rw (asNumber-none (readV4 e) (sym is-v ∙ q)) h
+  wholeNet-mask q r h = rw (asNumber-none (readV4 e) (sym is-v ∙ q)) h
 
-  pub whole-address : (n : ℕ) → v ≡ T.Value n → R.Net n 4294967295 ≡ asNet (wholeNet e)
+  pub wholeNet-address : (n : ℕ) → v ≡ T.Value n → R.Net n 4294967295 ≡ asNet (wholeNet e)
   unfolding wholeNet
-  whole-address n q = rw (asNumber-some (readV4 e) n (sym is-v ∙ q))
+  wholeNet-address n q = rw (asNumber-some (readV4 e) n (sym is-v ∙ q))
 
 -- ## A dotted pattern
 
@@ -274,61 +274,61 @@ unfolding dottedNet wholeNet maskNet splitOnce readV4 split each readDecimal fro
 nothing = refl
 
 module _ (e : List ℕ) where
-  pub dotted-nil : length e ≡ 0 → R.Nothing ≡ asNet (dottedNet e)
-  dotted-nil h = by e h
+  pub dottedNet-nil : length e ≡ 0 → R.Nothing ≡ asNet (dottedNet e)
+  dottedNet-nil h = by e h
     where
       by : (e : List ℕ) → length e ≡ 0 → R.Nothing ≡ asNet (dottedNet e)
       by [] h = nothing
       by (x ∷ e) h = absurd (omega arith)
 
   module _ (k : length e ≡ 0 → ⊥) where
-    pub dotted-fields : getD e (length e - 1) 0 ≡ 46 → (r : NetRead) → r ≡ asNet (fieldsNet 0 0 e) → r ≡ asNet (dottedNet e)
+    pub dottedNet-fields : getD e (length e - 1) 0 ≡ 46 → (r : NetRead) → r ≡ asNet (fieldsNet 0 0 e) → r ≡ asNet (dottedNet e)
     unfolding dottedNet
-    dotted-fields q r h = rw (ends-in-dot e k, eq-eqb (getD e (length e - 1) 0) 46 q) h
+    dottedNet-fields q r h = rw (ends-in-dot e k, eq-eqb (getD e (length e - 1) 0) 46 q) h
 
-    pub dotted-whole : (getD e (length e - 1) 0 ≡ 46 → ⊥) → (r : NetRead) → r ≡ asNet (wholeNet e) → r ≡ asNet (dottedNet e)
+    pub dottedNet-whole : (getD e (length e - 1) 0 ≡ 46 → ⊥) → (r : NetRead) → r ≡ asNet (wholeNet e) → r ≡ asNet (dottedNet e)
     unfolding dottedNet
-    dotted-whole q r h = rw (ends-in-dot e k, ne-eqb (getD e (length e - 1) 0) 46 q) h
+    dottedNet-whole q r h = rw (ends-in-dot e k, ne-eqb (getD e (length e - 1) 0) 46 q) h
 
 -- ## A bracketed pattern
 
-pub length-none : (s : List ℕ) → length s ≡ 0 → T.Value 128 ≡ asNumber (prefixLength s)
+pub prefixLength-none : (s : List ℕ) → length s ≡ 0 → T.Value 128 ≡ asNumber (prefixLength s)
 unfolding prefixLength
-length-none [] h = refl
-length-none (x ∷ s) h = absurd (omega arith)
+prefixLength-none [] h = refl
+prefixLength-none (x ∷ s) h = absurd (omega arith)
 
-pub length-bad : (s : List ℕ) → (length s ≡ 0 → ⊥) → (getD s 0 0 ≡ 47 → ⊥) → T.Nothing ≡ asNumber (prefixLength s)
+pub prefixLength-bad : (s : List ℕ) → (length s ≡ 0 → ⊥) → (getD s 0 0 ≡ 47 → ⊥) → T.Nothing ≡ asNumber (prefixLength s)
 unfolding prefixLength any
-length-bad [] h n = absurd (h refl)
-length-bad (x ∷ s) h n = rw (ne-eqb x 47 n)
+prefixLength-bad [] h n = absurd (h refl)
+prefixLength-bad (x ∷ s) h n = rw (ne-eqb x 47 n)
 
-pub length-read : (s : List ℕ) → (length s ≡ 0 → ⊥) → getD s 0 0 ≡ 47 → (r : NumberRead) → r ≡ asNumber (readDecimal 128 (take (length s - 1) (drop 1 s))) → r ≡ asNumber (prefixLength s)
+pub prefixLength-read : (s : List ℕ) → (length s ≡ 0 → ⊥) → getD s 0 0 ≡ 47 → (r : NumberRead) → r ≡ asNumber (readDecimal 128 (take (length s - 1) (drop 1 s))) → r ≡ asNumber (prefixLength s)
 unfolding prefixLength any
-length-read [] h n r q = absurd (h refl)
-length-read (x ∷ s) h n r q = q ∙ ap (λ (l : List ℕ). asNumber (readDecimal 128 l)) (take-rest (x ∷ s) 1) ∙ rw (eq-eqb x 47 n)
+prefixLength-read [] h n r q = absurd (h refl)
+prefixLength-read (x ∷ s) h n r q = q ∙ ap (λ (l : List ℕ). asNumber (readDecimal 128 l)) (take-rest (x ∷ s) 1) ∙ rw (eq-eqb x 47 n)
 
-pub pair-prefix : (x : V6Read) (y : NumberRead) (h l m : ℕ) → x ≡ V6.Value h l → y ≡ T.Value m → P.Prefix h l m ≡ prefixWith x y
-pair-prefix x y h l m p q = rw (p, q)
+pub prefixWith-values : (x : V6Read) (y : NumberRead) (h l m : ℕ) → x ≡ V6.Value h l → y ≡ T.Value m → P.Prefix h l m ≡ prefixWith x y
+prefixWith-values x y h l m p q = rw (p, q)
 
 prefixWith-read : (o p : Option ℕ) → prefixWith (asV6 o) (asNumber p) ≡ asPrefix (o >>= λ n. p >>= λ m. some (n, m))
 prefixWith-read none p = refl
 prefixWith-read (some n) none = refl
 prefixWith-read (some n) (some m) = refl
 
-pub bracket-nil : (e : List ℕ) → length e ≡ 0 → P.Nothing ≡ asPrefix (bracketPrefix e)
+pub bracketPrefix-nil : (e : List ℕ) → length e ≡ 0 → P.Nothing ≡ asPrefix (bracketPrefix e)
 unfolding bracketPrefix splitOnce
-bracket-nil [] h = refl
-bracket-nil (x ∷ e) h = absurd (omega arith)
+bracketPrefix-nil [] h = refl
+bracketPrefix-nil (x ∷ e) h = absurd (omega arith)
 
 -- the text after the opening bracket, as the code has it
 module _ (e s : List ℕ) (is-s : s ≡ take (length e - 1) (drop 1 e)) (i : ℕ) (is-i : i ≡ indexOf 93 s) where
-  pub bracket-open : i ≡ length s → P.Nothing ≡ asPrefix (bracketPrefix e)
+  pub bracketPrefix-open : i ≡ length s → P.Nothing ≡ asPrefix (bracketPrefix e)
   unfolding bracketPrefix
-  bracket-open h = rw (← (take-rest e 1), ← is-s, splitOnce-no-mark 93 s i is-i (omega arith))
+  bracketPrefix-open h = rw (← (take-rest e 1), ← is-s, splitOnce-no-mark 93 s i is-i (omega arith))
 
-  pub bracket-pair : i ≤ length s → (i ≡ length s → ⊥) → (x : V6Read) (y : NumberRead) → x ≡ asV6 (readV6 (take i s))
+  pub bracketPrefix-pair : i ≤ length s → (i ≡ length s → ⊥) → (x : V6Read) (y : NumberRead) → x ≡ asV6 (readV6 (take i s))
       → y ≡ asNumber (prefixLength (take (length s - (i + 1)) (drop (i + 1) s))) → (r : PrefixRead) → r ≡ prefixWith x y → r ≡ asPrefix (bracketPrefix e)
   unfolding bracketPrefix
-  bracket-pair h k x y is-x is-y r q =
+  bracketPrefix-pair h k x y is-x is-y r q =
       q ∙ ap₂ prefixWith is-x (is-y ∙ ap (λ (u : List ℕ). asNumber (prefixLength u)) (take-rest s (i + 1)))
       ∙ rw (← (take-rest e 1), ← is-s, splitOnce-mark 93 s i is-i (omega arith)) (prefixWith-read (readV6 (take i s)) (prefixLength (drop (i + 1) s)))

@@ -116,54 +116,54 @@ module _ (e : List ℕ) where
 
 -- ## Domains and names
 
-isSome-given : {A : Type 0} (b : Bool) (a : A) → isSome (given b a) ≡ b
+pub isSome-given : {A : Type 0} (b : Bool) (a : A) → isSome (given b a) ≡ b
 isSome-given true a = refl
 isSome-given false a = refl
 
-domain-is : (e : List ℕ) → isSome (domainPattern e) ≡ (all isNameByte e && inRange 2 255 (length e))
+isSome-domainPattern : (e : List ℕ) → isSome (domainPattern e) ≡ (all isNameByte e && inRange 2 255 (length e))
 unfolding domainPattern
-domain-is e = isSome-given (all isNameByte e && inRange 2 255 (length e)) _
+isSome-domainPattern e = isSome-given (all isNameByte e && inRange 2 255 (length e)) _
 
-plain-is : (e : List ℕ) → isSome (namePattern e) ≡ (all isNameByte e && inRange 1 255 (length e) && not (lastAmong "." e))
+isSome-namePattern : (e : List ℕ) → isSome (namePattern e) ≡ (all isNameByte e && inRange 1 255 (length e) && not (lastAmong "." e))
 unfolding namePattern
-plain-is e = isSome-given (all isNameByte e && inRange 1 255 (length e) && not (lastAmong "." e)) _
+isSome-namePattern e = isSome-given (all isNameByte e && inRange 1 255 (length e) && not (lastAmong "." e)) _
 
 module _ (e : List ℕ) where
-  pub domain-short : length e < 2 → false ≡ isSome (domainPattern e)
-  domain-short h = rw (domain-is e, lt-leb 2 (length e) h, Bool.and-false (all isNameByte e))
+  pub domainPattern-short : length e < 2 → false ≡ isSome (domainPattern e)
+  domainPattern-short h = rw (isSome-domainPattern e, lt-leb 2 (length e) h, Bool.and-false (all isNameByte e))
 
-  pub domain-long : 255 < length e → false ≡ isSome (domainPattern e)
-  domain-long h = rw (domain-is e, lt-leb (length e) 255 h, Bool.and-false (leb 2 (length e)), Bool.and-false (all isNameByte e))
+  pub domainPattern-long : 255 < length e → false ≡ isSome (domainPattern e)
+  domainPattern-long h = rw (isSome-domainPattern e, lt-leb (length e) 255 h, Bool.and-false (leb 2 (length e)), Bool.and-false (all isNameByte e))
 
-  pub domain-fits : 2 ≤ length e → length e ≤ 255 → (r : Bool) → r ≡ all isNameByte e → r ≡ isSome (domainPattern e)
-  domain-fits h k r q = q ∙ sym (rw (domain-is e, le-leb 2 (length e) h, le-leb (length e) 255 k, Bool.and-true (all isNameByte e)))
+  pub domainPattern-fits : 2 ≤ length e → length e ≤ 255 → (r : Bool) → r ≡ all isNameByte e → r ≡ isSome (domainPattern e)
+  domainPattern-fits h k r q = q ∙ sym (rw (isSome-domainPattern e, le-leb 2 (length e) h, le-leb (length e) 255 k, Bool.and-true (all isNameByte e)))
 
-  pub domain-ends : (n : List ℕ) (x : Bool) → x ≡ (ltb (length e) (length n) && equalFold e (drop (length n - length e) n)) → x ≡ true
+  pub domainCovers-ends : (n : List ℕ) (x : Bool) → x ≡ (ltb (length e) (length n) && equalFold e (drop (length n - length e) n)) → x ≡ true
       → (r : Bool) → r ≡ isSome (domainPattern e) → r ≡ domainCovers e n
   unfolding domainCovers
-  domain-ends n x q y r k = rw (← q, y) k
+  domainCovers-ends n x q y r k = rw (← q, y) k
 
-  pub domain-differs : (n : List ℕ) (x : Bool) → x ≡ (ltb (length e) (length n) && equalFold e (drop (length n - length e) n)) → x ≡ false → false ≡ domainCovers e n
+  pub domainCovers-differs : (n : List ℕ) (x : Bool) → x ≡ (ltb (length e) (length n) && equalFold e (drop (length n - length e) n)) → x ≡ false → false ≡ domainCovers e n
   unfolding domainCovers
-  domain-differs n x q y = rw (← q, y)
+  domainCovers-differs n x q y = rw (← q, y)
 
-  pub plain-empty : length e ≡ 0 → false ≡ isSome (namePattern e)
-  plain-empty h = rw (plain-is e, lt-leb 1 (length e) (omega arith), Bool.and-false (all isNameByte e))
+  pub namePattern-empty : length e ≡ 0 → false ≡ isSome (namePattern e)
+  namePattern-empty h = rw (isSome-namePattern e, lt-leb 1 (length e) (omega arith), Bool.and-false (all isNameByte e))
 
-  pub plain-long : 255 < length e → false ≡ isSome (namePattern e)
-  plain-long h = rw (plain-is e, lt-leb (length e) 255 h, Bool.and-false (leb 1 (length e)), Bool.and-false (all isNameByte e))
+  pub namePattern-long : 255 < length e → false ≡ isSome (namePattern e)
+  namePattern-long h = rw (isSome-namePattern e, lt-leb (length e) 255 h, Bool.and-false (leb 1 (length e)), Bool.and-false (all isNameByte e))
 
   module _ (k : length e ≡ 0 → ⊥) where
-    pub plain-dot : getD e (length e - 1) 0 ≡ 46 → false ≡ isSome (namePattern e)
+    pub namePattern-dot : getD e (length e - 1) 0 ≡ 46 → false ≡ isSome (namePattern e)
     unfolding any
-    plain-dot q = rw (plain-is e, lastAmong-last "." e (length e - 1) k refl, q, Bool.and-false (all isNameByte e && inRange 1 255 (length e)))
+    namePattern-dot q = rw (isSome-namePattern e, lastAmong-last "." e (length e - 1) k refl, q, Bool.and-false (all isNameByte e && inRange 1 255 (length e)))
 
-    pub plain-fits : length e ≤ 255 → (getD e (length e - 1) 0 ≡ 46 → ⊥) → (r : Bool) → r ≡ all isNameByte e → r ≡ isSome (namePattern e)
+    pub namePattern-fits : length e ≤ 255 → (getD e (length e - 1) 0 ≡ 46 → ⊥) → (r : Bool) → r ≡ all isNameByte e → r ≡ isSome (namePattern e)
     unfolding any
-    plain-fits h n r q =
+    namePattern-fits h n r q =
         let p : 1 ≤ length e = omega arith in
         q ∙ sym (rw (
-          plain-is e,
+          isSome-namePattern e,
           lastAmong-last "." e (length e - 1) k refl,
           ne-eqb (getD e (length e - 1) 0) 46 n,
           le-leb 1 (length e) p,
@@ -172,13 +172,13 @@ module _ (e : List ℕ) where
           Bool.and-true (all isNameByte e),
         ))
 
-  pub plain-same : (n : List ℕ) (x : Bool) → x ≡ equalFold e n → x ≡ true → (r : Bool) → r ≡ isSome (namePattern e) → r ≡ plainCovers e n
+  pub plainCovers-same : (n : List ℕ) (x : Bool) → x ≡ equalFold e n → x ≡ true → (r : Bool) → r ≡ isSome (namePattern e) → r ≡ plainCovers e n
   unfolding plainCovers
-  plain-same n x q y r k = rw (← q, y) k
+  plainCovers-same n x q y r k = rw (← q, y) k
 
-  pub plain-differs : (n : List ℕ) (x : Bool) → x ≡ equalFold e n → x ≡ false → false ≡ plainCovers e n
+  pub plainCovers-differs : (n : List ℕ) (x : Bool) → x ≡ equalFold e n → x ≡ false → false ≡ plainCovers e n
   unfolding plainCovers
-  plain-differs n x q y = rw (← q, y)
+  plainCovers-differs n x q y = rw (← q, y)
 
 -- a pattern is met where its test holds and it is one
 met : (b : Bool) (f : Endpoint → Bool) (h : Endpoint) → (f h && isSome (given b f)) ≡ matchesPattern (given b f) h
@@ -186,9 +186,9 @@ met true f h = Bool.and-true (f h)
 met false f h = Bool.and-false (f h)
 
 module _ (e : List ℕ) (host : Host) (name : List ℕ) (x : Bool) (is-x : x ≡ nameKnown (endpoint host [])) (y : Bool) where
-  pub domain-matches : y ≡ domainCovers e name → (x && y) ≡ matchesPattern (domainPattern e) (endpoint host name)
+  pub domainPattern-matches : y ≡ domainCovers e name → (x && y) ≡ matchesPattern (domainPattern e) (endpoint host name)
   unfolding domainPattern domainCovers
-  domain-matches is-y =
+  domainPattern-matches is-y =
       ap₂ _&&_ is-x is-y ∙ by (nameKnown (endpoint host name)) (ltb (length e) (length name)) (equalFold e (drop (length name - length e) name)) (isSome (domainPattern e))
       ∙ met (all isNameByte e && inRange 2 255 (length e)) (λ h. nameKnown h && ltb (length e) (length (h .name)) && equalFold e (drop (length (h .name) - length e) (h .name))) (endpoint host name)
     where
@@ -196,9 +196,9 @@ module _ (e : List ℕ) (host : Host) (name : List ℕ) (x : Bool) (is-x : x ≡
       by true l q s = refl
       by false l q s = refl
 
-  pub plain-matches : y ≡ plainCovers e name → (x && y) ≡ matchesPattern (namePattern e) (endpoint host name)
+  pub namePattern-matches : y ≡ plainCovers e name → (x && y) ≡ matchesPattern (namePattern e) (endpoint host name)
   unfolding namePattern plainCovers
-  plain-matches is-y =
+  namePattern-matches is-y =
       ap₂ _&&_ is-x is-y ∙ by (nameKnown (endpoint host name)) (equalFold e name) (isSome (namePattern e))
       ∙ met (all isNameByte e && inRange 1 255 (length e) && not (lastAmong "." e)) (λ h. nameKnown h && equalFold e (h .name)) (endpoint host name)
     where
@@ -209,15 +209,15 @@ module _ (e : List ℕ) (host : Host) (name : List ℕ) (x : Bool) (is-x : x ≡
 -- ## A pattern, by what it is read as
 
 module _ (e : List ℕ) (f v : Form) (is-f : f ≡ formOf e) (is-v : f ≡ v) where
-  pub form-sound : (r : Bool) → r ≡ isSome (formPattern v e) → r ≡ isSome (formPattern (formOf e) e)
-  form-sound r q = rw (← is-f, is-v) q
+  pub formPattern-sound : (r : Bool) → r ≡ isSome (formPattern v e) → r ≡ isSome (formPattern (formOf e) e)
+  formPattern-sound r q = rw (← is-f, is-v) q
 
-  pub form-matches : (h : Endpoint) (r : Bool) → r ≡ matchesPattern (formPattern v e) h → r ≡ matchesPattern (formPattern (formOf e) e) h
-  form-matches h r q = rw (← is-f, is-v) q
+  pub formPattern-matches : (h : Endpoint) (r : Bool) → r ≡ matchesPattern (formPattern v e) h → r ≡ matchesPattern (formPattern (formOf e) e) h
+  formPattern-matches h r q = rw (← is-f, is-v) q
 
-host-is : (e : List ℕ) → hostPattern e ≡ wildcardPattern (wildcardOf e) orElse formPattern (formOf e) e
+hostPattern-is : (e : List ℕ) → hostPattern e ≡ wildcardPattern (wildcardOf e) orElse formPattern (formOf e) e
 unfolding hostPattern formOf
-host-is e = rw (wildcard-of e) (by (firstAmong "." e) (firstAmong "[" e) (all isDottedByte e))
+hostPattern-is e = rw (wildcard-of e) (by (firstAmong "." e) (firstAmong "[" e) (all isDottedByte e))
   where
     by : (a b c : Bool) → (wildcardPattern (wildcardOf e) orElse (if a then domainPattern e else if b then bracketPattern e else if c then dottedPattern e else namePattern e))
         ≡ (wildcardPattern (wildcardOf e) orElse formPattern (if a then F.Domain else if b then F.Bracket else if c then F.Dotted else F.Plain) e)
@@ -227,12 +227,12 @@ host-is e = rw (wildcard-of e) (by (firstAmong "." e) (firstAmong "[" e) (all is
     by false false false = refl
 
 module _ (e : List ℕ) (w v : Wildcard) (is-w : w ≡ wildcardOf e) (is-v : w ≡ v) where
-  host-at : hostPattern e ≡ wildcardPattern v orElse formPattern (formOf e) e
-  host-at = host-is e ∙ rw (← is-w, is-v)
+  hostPattern-at : hostPattern e ≡ wildcardPattern v orElse formPattern (formOf e) e
+  hostPattern-at = hostPattern-is e ∙ rw (← is-w, is-v)
 
-  pub host-sound : (r : Bool) → r ≡ isSome (wildcardPattern v orElse formPattern (formOf e) e) → r ≡ isSome (hostPattern e)
-  host-sound r q = rw host-at q
+  pub hostPattern-sound : (r : Bool) → r ≡ isSome (wildcardPattern v orElse formPattern (formOf e) e) → r ≡ isSome (hostPattern e)
+  hostPattern-sound r q = rw hostPattern-at q
 
-  pub host-matches : (h : Endpoint) (r : Bool) → r ≡ matchesPattern (wildcardPattern v orElse formPattern (formOf e) e) h → r ≡ hostMatches e h
+  pub hostMatches-at : (h : Endpoint) (r : Bool) → r ≡ matchesPattern (wildcardPattern v orElse formPattern (formOf e) e) h → r ≡ hostMatches e h
   unfolding hostMatches
-  host-matches h r q = rw host-at q
+  hostMatches-at h r q = rw hostPattern-at q

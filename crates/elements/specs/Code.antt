@@ -1,6 +1,11 @@
--- Elements as the code reads them. Nothing here needs to be believed for the meaning of document 01: it says what inner contracts cite.
---   wildcardOf e == the wildcard that e is
---   formOf e     == what e is read as where it is no wildcard
+-- Patterns and elements as the code reads them: what the contracts of functions that are called by others cite. Nothing here needs to be
+-- believed for the meaning of document 01: its words are those of Request, Pattern and Element.
+--   hostMatches e h              == e is a host pattern that matches h
+--   elementFault kind e          == what is wrong with e as an element of that kind
+--   daemonRequest, clientRequest == a request by what the elements of a list look at
+--   wildcardOf e, formOf e       == the wildcard that e is; what e is read as where it is none
+--   dottedNet e, bracketPrefix e == the net and mask, or the address and prefix length, that a pattern of addresses writes
+--   atSign e                     == the place of the `@` that parts e
 -- Assumes nothing: these are definitions.
 use Prim.Native.Nat.{ℕ, _+_, _-_, _*_, _/_, _%_, _^_}
 use mathlib.Core.Bool.{Bool, true, false, not, _&&_, _||_}
@@ -41,6 +46,8 @@ use Rattle.elements.specs.Request.{Endpoint, Request, endpoint, requestO
 use Rattle.elements.specs.Pattern.{Pattern, isNameByte, domainPattern, leadingFields, netMask, bracketPattern, dottedPattern, namePattern, hostPattern}
 use Rattle.elements.specs.Element.{Element, foundIf, reservedStart, userHalf}
 
+-- ## Wildcards and forms
+
 unfoldable pub wildcardOf : List ℕ → Wildcard
 wildcardOf e =
     if isWord "ALL" e then W.All
@@ -60,6 +67,7 @@ formOf e =
     else if all isDottedByte e then F.Dotted
     else F.Plain
 
+-- what a wildcard matches
 abbrev pub wildcardPattern : Wildcard → Pattern
 wildcardPattern W.Nothing = none
 wildcardPattern W.All = some λ h. true
@@ -68,10 +76,12 @@ wildcardPattern W.Known = some λ h. nameKnown h && addrKnown h
 wildcardPattern W.Unknown = some λ h. nameCase h true false false || not (addrKnown h)
 wildcardPattern W.Paranoid = some λ h. nameCase h false true false
 
+-- ## Matching
+
 abbrev pub matchesPattern : Pattern → Endpoint → Bool
 matchesPattern p h = holds (λ f. f h) p
 
--- a domain, a name, is a pattern and matches a known name
+-- a domain pattern, a name pattern, is one and matches a known name
 unfoldable pub domainCovers : List ℕ → List ℕ → Bool
 domainCovers e n = (ltb (length e) (length n) && equalFold e (drop (length n - length e) n)) && isSome (domainPattern e)
 

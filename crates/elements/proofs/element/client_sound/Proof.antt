@@ -3,7 +3,7 @@ use mathlib.Core.Path.{sym}
 use native.Mathlib.Omega.{arith}
 use borrow.Author.Needs.{needs}
 use lib.Seq.{length-take-le}
-use Rattle.elements.proofs.ElementLaws.{client-whole, client-halves, client-userless}
+use Rattle.elements.proofs.ElementLaws.{clientElement-whole, clientElement-halves, clientElement-userless}
 use Rattle.elements.proofs.element.client_sound.Statement.{statement}
 use Rattle.elements.proofs.element.client_sound.Tie as tie
 
@@ -12,7 +12,7 @@ client-sound-spec =
     tie.close
     (tie.spec
     (λ c κs. search needs)
-    (λ c. search (client-whole, needs))
+    (λ c. search (clientElement-whole, needs))
     (λ c. search needs)
     (λ c. sym (length-take-le _ _ (omega arith)))
     (λ c κs. search needs)
@@ -20,5 +20,5 @@ client-sound-spec =
     (λ c. search needs)
     (λ c. search needs)
     (λ c κs. search needs)
-    (λ c. search (client-halves, needs))
-    (λ c. search (client-userless, needs)))
+    (λ c. search (clientElement-halves, needs))
+    (λ c. search (clientElement-userless, needs)))

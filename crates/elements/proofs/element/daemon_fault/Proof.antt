@@ -1,7 +1,7 @@
 -- `elements::element::daemon_fault` meets its contract. The tests are those of the definition. Assumes nothing.
 use borrow.Author.Needs.{needs}
 use Rattle.elements.specs.Element.{daemonElement}
-use Rattle.elements.proofs.ElementLaws.{fault-reserved, fault-sound, fault-unknown}
+use Rattle.elements.proofs.ElementLaws.{elementFault-reserved, elementFault-sound, elementFault-unknown}
 use Rattle.elements.proofs.element.daemon_fault.Statement.{statement}
 use Rattle.elements.proofs.element.daemon_fault.Tie as tie
 
@@ -11,7 +11,7 @@ daemon-fault-spec =
     (tie.spec
     (λ c κs. search needs)
     (λ c κs. search needs)
-    (λ c. search (fault-reserved daemonElement, needs))
+    (λ c. search (elementFault-reserved daemonElement, needs))
     (λ c κs. search needs)
-    (λ c. search (fault-sound daemonElement, needs))
-    (λ c. search (fault-unknown daemonElement, needs)))
+    (λ c. search (elementFault-sound daemonElement, needs))
+    (λ c. search (elementFault-unknown daemonElement, needs)))

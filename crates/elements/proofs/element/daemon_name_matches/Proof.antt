@@ -1,7 +1,7 @@
 -- `elements::element::daemon_name_matches` meets its contract. By the wildcard that was read. Assumes nothing.
 use mathlib.Core.Path.{refl, sym, _∙_}
 use borrow.Author.Needs.{needs}
-use Rattle.elements.proofs.ElementLaws.{daemon-matches, daemon-equals}
+use Rattle.elements.proofs.ElementLaws.{daemonName-matches, daemonAt-equals}
 use Rattle.elements.proofs.element.daemon_name_matches.Statement.{statement}
 use Rattle.elements.proofs.element.daemon_name_matches.Tie as tie
 
@@ -17,9 +17,9 @@ daemon-name-matches-spec =
     (λ c. search needs)
     (λ c. search needs)
     (λ c. search needs)
-    (λ c. daemon-matches _ _ _ (c .before .before .before .read-wildcard .ensures) (c .before .enum-told .given .1) _ _ (c .name-equals .ensures ∙ sym (daemon-equals _ _)))
-    (λ c. daemon-matches _ _ _ (c .before .before .read-wildcard .ensures) (c .enum-told2 .given .1) _ _ refl)
-    (λ c. daemon-matches _ _ _ (c .before .before .read-wildcard .ensures) (c .enum-told3 .given .1) _ _ refl)
-    (λ c. daemon-matches _ _ _ (c .before .before .read-wildcard .ensures) (c .enum-told4 .given .1) _ _ refl)
-    (λ c. daemon-matches _ _ _ (c .before .before .read-wildcard .ensures) (c .enum-told5 .given .1) _ _ refl)
-    (λ c. daemon-matches _ _ _ (c .before .before .read-wildcard .ensures) (c .enum-told6 .given .1) _ _ refl))
+    (λ c. daemonName-matches _ _ _ (c .before .before .before .read-wildcard .ensures) (c .before .enum-told .given .1) _ _ (c .name-equals .ensures ∙ sym (daemonAt-equals _ _)))
+    (λ c. daemonName-matches _ _ _ (c .before .before .read-wildcard .ensures) (c .enum-told2 .given .1) _ _ refl)
+    (λ c. daemonName-matches _ _ _ (c .before .before .read-wildcard .ensures) (c .enum-told3 .given .1) _ _ refl)
+    (λ c. daemonName-matches _ _ _ (c .before .before .read-wildcard .ensures) (c .enum-told4 .given .1) _ _ refl)
+    (λ c. daemonName-matches _ _ _ (c .before .before .read-wildcard .ensures) (c .enum-told5 .given .1) _ _ refl)
+    (λ c. daemonName-matches _ _ _ (c .before .before .read-wildcard .ensures) (c .enum-told6 .given .1) _ _ refl))

@@ -1,7 +1,7 @@
 -- `elements::element::daemon_name_sound` meets its contract. By the wildcard that was read. Assumes nothing.
 use mathlib.Core.Path.{refl, sym, _∙_}
 use borrow.Author.Needs.{needs}
-use Rattle.elements.proofs.ElementLaws.{daemon-sound, daemon-named}
+use Rattle.elements.proofs.ElementLaws.{daemonName-sound, isSome-daemonAt}
 use Rattle.elements.proofs.element.daemon_name_sound.Statement.{statement}
 use Rattle.elements.proofs.element.daemon_name_sound.Tie as tie
 
@@ -17,9 +17,9 @@ daemon-name-sound-spec =
     (λ c. search needs)
     (λ c. search needs)
     (λ c. search needs)
-    (λ c. daemon-sound _ _ _ (c .before .before .before .read-wildcard .ensures) (c .before .enum-told .given .1) _ (c .name-fits .ensures ∙ sym (daemon-named _)))
-    (λ c. daemon-sound _ _ _ (c .before .before .read-wildcard .ensures) (c .enum-told2 .given .1) _ refl)
-    (λ c. daemon-sound _ _ _ (c .before .before .read-wildcard .ensures) (c .enum-told3 .given .1) _ refl)
-    (λ c. daemon-sound _ _ _ (c .before .before .read-wildcard .ensures) (c .enum-told4 .given .1) _ refl)
-    (λ c. daemon-sound _ _ _ (c .before .before .read-wildcard .ensures) (c .enum-told5 .given .1) _ refl)
-    (λ c. daemon-sound _ _ _ (c .before .before .read-wildcard .ensures) (c .enum-told6 .given .1) _ refl))
+    (λ c. daemonName-sound _ _ _ (c .before .before .before .read-wildcard .ensures) (c .before .enum-told .given .1) _ (c .name-fits .ensures ∙ sym (isSome-daemonAt _)))
+    (λ c. daemonName-sound _ _ _ (c .before .before .read-wildcard .ensures) (c .enum-told2 .given .1) _ refl)
+    (λ c. daemonName-sound _ _ _ (c .before .before .read-wildcard .ensures) (c .enum-told3 .given .1) _ refl)
+    (λ c. daemonName-sound _ _ _ (c .before .before .read-wildcard .ensures) (c .enum-told4 .given .1) _ refl)
+    (λ c. daemonName-sound _ _ _ (c .before .before .read-wildcard .ensures) (c .enum-told5 .given .1) _ refl)
+    (λ c. daemonName-sound _ _ _ (c .before .before .read-wildcard .ensures) (c .enum-told6 .given .1) _ refl))

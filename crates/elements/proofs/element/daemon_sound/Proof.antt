@@ -3,7 +3,7 @@ use mathlib.Core.Path.{sym}
 use native.Mathlib.Omega.{arith}
 use borrow.Author.Needs.{needs}
 use lib.Seq.{length-take-le}
-use Rattle.elements.proofs.ElementLaws.{daemon-whole, daemon-halves, daemon-nameless}
+use Rattle.elements.proofs.ElementLaws.{daemonElement-whole, daemonElement-halves, daemonElement-nameless}
 use Rattle.elements.proofs.element.daemon_sound.Statement.{statement}
 use Rattle.elements.proofs.element.daemon_sound.Tie as tie
 
@@ -12,7 +12,7 @@ daemon-sound-spec =
     tie.close
     (tie.spec
     (λ c κs. search needs)
-    (λ c. search (daemon-whole, needs))
+    (λ c. search (daemonElement-whole, needs))
     (λ c. search needs)
     (λ c. sym (length-take-le _ _ (omega arith)))
     (λ c κs. search needs)
@@ -20,5 +20,5 @@ daemon-sound-spec =
     (λ c. search needs)
     (λ c. search needs)
     (λ c κs. search needs)
-    (λ c. search (daemon-halves, needs))
-    (λ c. search (daemon-nameless, needs)))
+    (λ c. search (daemonElement-halves, needs))
+    (λ c. search (daemonElement-nameless, needs)))

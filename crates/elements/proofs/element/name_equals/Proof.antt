@@ -1,6 +1,6 @@
 -- `elements::element::name_equals` meets its contract. What is equal is tried first, and the name checked only then. Assumes nothing.
 use borrow.Author.Needs.{needs}
-use Rattle.elements.proofs.ElementLaws.{equals-same, equals-differ}
+use Rattle.elements.proofs.ElementLaws.{nameEquals-same, nameEquals-differ}
 use Rattle.elements.proofs.element.name_equals.Statement.{statement}
 use Rattle.elements.proofs.element.name_equals.Tie as tie
 
@@ -10,5 +10,5 @@ name-equals-spec =
     (tie.spec
     (λ c κs. search needs)
     (λ c κs. search needs)
-    (λ c. search (equals-same, needs))
-    (λ c. search (equals-differ, needs)))
+    (λ c. search (nameEquals-same, needs))
+    (λ c. search (nameEquals-differ, needs)))

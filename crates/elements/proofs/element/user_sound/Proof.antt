@@ -1,7 +1,7 @@
 -- `elements::element::user_sound` meets its contract. By the wildcard that was read. Assumes nothing.
 use mathlib.Core.Path.{refl, sym, _∙_}
 use borrow.Author.Needs.{needs}
-use Rattle.elements.proofs.ElementLaws.{user-sound, user-named}
+use Rattle.elements.proofs.ElementLaws.{userHalf-sound, isSome-userAt}
 use Rattle.elements.proofs.element.user_sound.Statement.{statement}
 use Rattle.elements.proofs.element.user_sound.Tie as tie
 
@@ -17,9 +17,9 @@ user-sound-spec =
     (λ c. search needs)
     (λ c. search needs)
     (λ c. search needs)
-    (λ c. user-sound _ _ _ (c .before .before .before .read-wildcard .ensures) (c .before .enum-told .given .1) _ (c .name-fits .ensures ∙ sym (user-named _)))
-    (λ c. user-sound _ _ _ (c .before .before .read-wildcard .ensures) (c .enum-told2 .given .1) _ refl)
-    (λ c. user-sound _ _ _ (c .before .before .read-wildcard .ensures) (c .enum-told3 .given .1) _ refl)
-    (λ c. user-sound _ _ _ (c .before .before .read-wildcard .ensures) (c .enum-told4 .given .1) _ refl)
-    (λ c. user-sound _ _ _ (c .before .before .read-wildcard .ensures) (c .enum-told5 .given .1) _ refl)
-    (λ c. user-sound _ _ _ (c .before .before .read-wildcard .ensures) (c .enum-told6 .given .1) _ refl))
+    (λ c. userHalf-sound _ _ _ (c .before .before .before .read-wildcard .ensures) (c .before .enum-told .given .1) _ (c .name-fits .ensures ∙ sym (isSome-userAt _)))
+    (λ c. userHalf-sound _ _ _ (c .before .before .read-wildcard .ensures) (c .enum-told2 .given .1) _ refl)
+    (λ c. userHalf-sound _ _ _ (c .before .before .read-wildcard .ensures) (c .enum-told3 .given .1) _ refl)
+    (λ c. userHalf-sound _ _ _ (c .before .before .read-wildcard .ensures) (c .enum-told4 .given .1) _ refl)
+    (λ c. userHalf-sound _ _ _ (c .before .before .read-wildcard .ensures) (c .enum-told5 .given .1) _ refl)
+    (λ c. userHalf-sound _ _ _ (c .before .before .read-wildcard .ensures) (c .enum-told6 .given .1) _ refl))

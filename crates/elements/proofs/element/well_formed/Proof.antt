@@ -1,6 +1,6 @@
 -- `elements::element::well_formed` meets its contract. The four tests are those of the definition. Assumes nothing.
 use borrow.Author.Needs.{needs}
-use Rattle.elements.proofs.ElementLaws.{fits-all}
+use Rattle.elements.proofs.ElementLaws.{wellFormed-fits}
 use Rattle.elements.proofs.element.well_formed.Statement.{statement}
 use Rattle.elements.proofs.element.well_formed.Tie as tie
 
@@ -12,4 +12,4 @@ well-formed-spec =
     (λ c κs. search needs)
     (λ c κs. search needs)
     (λ c κs. search needs)
-    (λ c. search (fits-all, needs)))
+    (λ c. search (wellFormed-fits, needs)))

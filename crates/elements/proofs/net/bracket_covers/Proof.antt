@@ -1,6 +1,6 @@
 -- `elements::net::bracket_covers` meets its contract. The length of a prefix that is read is at most 128. Assumes nothing.
 use borrow.Author.Needs.{needs}
-use Rattle.elements.proofs.CoverLaws.{length-fits, covers-nothing, covers-prefix}
+use Rattle.elements.proofs.CoverLaws.{bracketPrefix-fits, prefixCovers-nothing, prefixCovers-prefix}
 use Rattle.elements.proofs.net.bracket_covers.Statement.{statement}
 use Rattle.elements.proofs.net.bracket_covers.Tie as tie
 
@@ -11,6 +11,6 @@ bracket-covers-spec =
     (λ c κs. search needs)
     (λ c. search needs)
     (λ c. search needs)
-    (λ c κs. length-fits _ _ (c .before .before .before .read-bracket .ensures) _ _ _ (c .before .prefix .given .1))
-    (λ c. search (covers-nothing, needs))
-    (λ c. covers-prefix _ _ (c .before .before .before .before .read-bracket .ensures) _ _ _ (c .before .before .prefix .given .1) _ _ (c .same-prefix-v6 .ensures)))
+    (λ c κs. bracketPrefix-fits _ _ (c .before .before .before .read-bracket .ensures) _ _ _ (c .before .prefix .given .1))
+    (λ c. search (prefixCovers-nothing, needs))
+    (λ c. prefixCovers-prefix _ _ (c .before .before .before .before .read-bracket .ensures) _ _ _ (c .before .before .prefix .given .1) _ _ (c .same-prefix-v6 .ensures)))

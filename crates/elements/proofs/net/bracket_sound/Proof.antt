@@ -1,6 +1,6 @@
 -- `elements::net::bracket_sound` meets its contract. A pattern is one where its prefix is read. Assumes nothing.
 use borrow.Author.Needs.{needs}
-use Rattle.elements.proofs.CoverLaws.{bracket-nothing, bracket-prefix}
+use Rattle.elements.proofs.CoverLaws.{bracketPattern-nothing, bracketPattern-prefix}
 use Rattle.elements.proofs.net.bracket_sound.Statement.{statement}
 use Rattle.elements.proofs.net.bracket_sound.Tie as tie
 
@@ -11,5 +11,5 @@ bracket-sound-spec =
     (λ c κs. search needs)
     (λ c. search needs)
     (λ c. search needs)
-    (λ c. search (bracket-nothing, needs))
-    (λ c. bracket-prefix _ _ (c .before .before .read-bracket .ensures) _ _ _ (c .enum-told2 .given .1)))
+    (λ c. search (bracketPattern-nothing, needs))
+    (λ c. bracketPattern-prefix _ _ (c .before .before .read-bracket .ensures) _ _ _ (c .enum-told2 .given .1)))

@@ -1,6 +1,6 @@
 -- `elements::net::dotted_matches` meets its contract. An IPv4 address has 32 bits, so that its net covers it where the pattern's test holds. Assumes nothing.
 use borrow.Author.Needs.{needs}
-use Rattle.elements.proofs.CoverLaws.{net-covers}
+use Rattle.elements.proofs.CoverLaws.{dottedTest-net}
 use Rattle.elements.proofs.net.dotted_matches.Statement.{statement}
 use Rattle.elements.proofs.net.dotted_matches.Tie as tie
 
@@ -14,5 +14,5 @@ dotted-matches-spec =
     (λ c κs. search needs)
     (λ c. search needs)
     (λ c. search needs)
-    (λ c. rw (c .before .before .before .addr .given .1) (net-covers _ _ (search needs) _ (c .before .read-dotted .ensures) _ (c .net-covers .ensures)))
+    (λ c. rw (c .before .before .before .addr .given .1) (dottedTest-net _ _ (search needs) _ (c .before .read-dotted .ensures) _ (c .net-covers .ensures)))
     (λ c. search needs))

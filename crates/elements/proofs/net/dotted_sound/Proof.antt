@@ -1,6 +1,6 @@
 -- `elements::net::dotted_sound` meets its contract. A pattern is one where its net is read. Assumes nothing.
 use borrow.Author.Needs.{needs}
-use Rattle.elements.proofs.CoverLaws.{dotted-nothing, dotted-net}
+use Rattle.elements.proofs.CoverLaws.{dottedPattern-nothing, dottedPattern-net}
 use Rattle.elements.proofs.net.dotted_sound.Statement.{statement}
 use Rattle.elements.proofs.net.dotted_sound.Tie as tie
 
@@ -11,5 +11,5 @@ dotted-sound-spec =
     (λ c κs. search needs)
     (λ c. search needs)
     (λ c. search needs)
-    (λ c. search (dotted-nothing, needs))
-    (λ c. dotted-net _ _ (c .before .before .read-dotted .ensures) _ _ (c .enum-told2 .given .1)))
+    (λ c. search (dottedPattern-nothing, needs))
+    (λ c. dottedPattern-net _ _ (c .before .before .read-dotted .ensures) _ _ (c .enum-told2 .given .1)))

@@ -3,7 +3,7 @@ use mathlib.Core.Path.{sym}
 use native.Mathlib.Omega.{arith}
 use borrow.Author.Needs.{needs}
 use lib.Seq.{length-take-le}
-use Rattle.elements.proofs.NetLaws.{field-endless, field-unread, field-read}
+use Rattle.elements.proofs.NetLaws.{fieldOf-endless, fieldOf-unread, fieldOf-read}
 use Rattle.elements.proofs.net.first_field.Statement.{statement}
 use Rattle.elements.proofs.net.first_field.Tie as tie
 
@@ -12,11 +12,11 @@ first-field-spec =
     tie.close
     (tie.spec
     (λ c κs. search needs)
-    (λ c. search (field-endless, needs))
+    (λ c. search (fieldOf-endless, needs))
     (λ c. sym (length-take-le _ _ (omega arith)))
     (λ c κs. search needs)
     (λ c. search needs)
     (λ c. search needs)
     (λ c. search needs)
-    (λ c. search (field-unread, needs))
-    (λ c. field-read _ _ (c .before .before .before .before .before .before .index-of .ensures .0) (c .before .before .before .before .before .if1 .left) _ (c .before .before .before .read-decimal .ensures) _ (c .before .v .given .1)))
+    (λ c. search (fieldOf-unread, needs))
+    (λ c. fieldOf-read _ _ (c .before .before .before .before .before .before .index-of .ensures .0) (c .before .before .before .before .before .if1 .left) _ (c .before .before .before .read-decimal .ensures) _ (c .before .v .given .1)))

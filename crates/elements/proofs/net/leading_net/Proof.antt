@@ -1,6 +1,6 @@
 -- `elements::net::leading_net` meets its contract. The fields are shifted into place, one to three of them. Assumes nothing.
 use borrow.Author.Needs.{needs}
-use Rattle.elements.proofs.NetLaws.{leading-shifted}
+use Rattle.elements.proofs.NetLaws.{leadingNet-shifted}
 use Rattle.elements.proofs.net.leading_net.Statement.{statement}
 use Rattle.elements.proofs.net.leading_net.Tie as tie
 
@@ -13,4 +13,4 @@ leading-net-spec =
     (λ c. search needs)
     (λ c. search needs)
     (λ c. search needs)
-    (λ c. leading-shifted _ _ (c .pre .0) (c .pre .1) (c .pre .2)))
+    (λ c. leadingNet-shifted _ _ (c .pre .0) (c .pre .1) (c .pre .2)))

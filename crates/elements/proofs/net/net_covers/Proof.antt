@@ -1,6 +1,6 @@
 -- `elements::net::net_covers` meets its contract. The callee's answer about the net that was read. Assumes nothing.
 use borrow.Author.Needs.{needs}
-use Rattle.elements.proofs.CoverLaws.{cover-net}
+use Rattle.elements.proofs.CoverLaws.{netCovers-net}
 use Rattle.elements.proofs.net.net_covers.Statement.{statement}
 use Rattle.elements.proofs.net.net_covers.Tie as tie
 
@@ -12,4 +12,4 @@ net-covers-spec =
     (λ c. search needs)
     (λ c κs. search needs)
     (λ c. search needs)
-    (λ c. cover-net _ _ _ _ (c .before .before .net .given .1) _ (c .in-net .ensures)))
+    (λ c. netCovers-net _ _ _ _ (c .before .before .net .given .1) _ (c .in-net .ensures)))

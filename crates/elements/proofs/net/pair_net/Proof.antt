@@ -1,6 +1,6 @@
 -- `elements::net::pair_net` meets its contract. By what was read of both. Assumes nothing.
 use borrow.Author.Needs.{needs}
-use Rattle.elements.proofs.NetLaws.{pair-net}
+use Rattle.elements.proofs.NetLaws.{pairNet-values}
 use Rattle.elements.proofs.net.pair_net.Statement.{statement}
 use Rattle.elements.proofs.net.pair_net.Tie as tie
 
@@ -14,4 +14,4 @@ pair-net-spec =
     (λ c. search needs)
     (λ c. search needs)
     (λ c. search needs)
-    (λ c. pair-net _ _ _ _ (c .before .before .before .before .net .given .1) (c .before .mask .given .1)))
+    (λ c. pairNet-values _ _ _ _ (c .before .before .before .before .net .given .1) (c .before .mask .given .1)))

@@ -1,6 +1,6 @@
 -- `elements::net::pair_prefix` meets its contract. By what was read of both. Assumes nothing.
 use borrow.Author.Needs.{needs}
-use Rattle.elements.proofs.NetLaws.{pair-prefix}
+use Rattle.elements.proofs.NetLaws.{prefixWith-values}
 use Rattle.elements.proofs.net.pair_prefix.Statement.{statement}
 use Rattle.elements.proofs.net.pair_prefix.Tie as tie
 
@@ -14,4 +14,4 @@ pair-prefix-spec =
     (λ c. search needs)
     (λ c. search needs)
     (λ c. search needs)
-    (λ c. pair-prefix _ _ _ _ _ (c .before .before .before .before .address .given .1) (c .before .length .given .1)))
+    (λ c. prefixWith-values _ _ _ _ _ (c .before .before .before .before .address .given .1) (c .before .length .given .1)))

@@ -3,7 +3,7 @@ use mathlib.Core.Path.{sym}
 use native.Mathlib.Omega.{arith}
 use borrow.Author.Needs.{needs}
 use lib.Seq.{length-take-le}
-use Rattle.elements.proofs.NetLaws.{bracket-nil, bracket-open, bracket-pair}
+use Rattle.elements.proofs.NetLaws.{bracketPrefix-nil, bracketPrefix-open, bracketPrefix-pair}
 use Rattle.elements.proofs.net.read_bracket.Statement.{statement}
 use Rattle.elements.proofs.net.read_bracket.Tie as tie
 
@@ -11,12 +11,12 @@ pub read-bracket-spec : {M : Type 1} → statement M
 read-bracket-spec =
     tie.close
     (tie.spec
-    (λ c. search (bracket-nil, needs))
+    (λ c. search (bracketPrefix-nil, needs))
     (λ c. search needs)
     (λ c. search needs)
     (λ c. search needs)
     (λ c κs. search needs)
-    (λ c. search (bracket-open, needs))
+    (λ c. search (bracketPrefix-open, needs))
     (λ c. search needs)
     (λ c. sym (length-take-le _ _ (omega arith)))
     (λ c κs. search needs)
@@ -25,4 +25,4 @@ read-bracket-spec =
     (λ c. search needs)
     (λ c κs. search needs)
     (λ c κs. search needs)
-    (λ c. search (bracket-pair, needs)))
+    (λ c. search (bracketPrefix-pair, needs)))

@@ -1,6 +1,6 @@
 -- `elements::net::read_dotted` meets its contract. By the last byte. Assumes nothing.
 use borrow.Author.Needs.{needs}
-use Rattle.elements.proofs.NetLaws.{dotted-nil, dotted-fields, dotted-whole}
+use Rattle.elements.proofs.NetLaws.{dottedNet-nil, dottedNet-fields, dottedNet-whole}
 use Rattle.elements.proofs.net.read_dotted.Statement.{statement}
 use Rattle.elements.proofs.net.read_dotted.Tie as tie
 
@@ -8,10 +8,10 @@ pub read-dotted-spec : {M : Type 1} → statement M
 read-dotted-spec =
     tie.close
     (tie.spec
-    (λ c. search (dotted-nil, needs))
+    (λ c. search (dottedNet-nil, needs))
     (λ c. search needs)
     (λ c. search needs)
     (λ c κs. search needs)
     (λ c κs. search needs)
-    (λ c. search (dotted-fields, needs))
-    (λ c. search (dotted-whole, needs)))
+    (λ c. search (dottedNet-fields, needs))
+    (λ c. search (dottedNet-whole, needs)))

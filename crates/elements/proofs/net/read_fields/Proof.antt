@@ -5,7 +5,7 @@ use mathlib.Core.Path.{sym, ap, _∙_}
 use native.Mathlib.Omega.{arith}
 use borrow.Author.Needs.{needs}
 use Rattle.elements.specs.Code.{asNet}
-use Rattle.elements.proofs.NetLaws.{Fields, fields-start, fields-many, fields-nothing, Field-more, field-more}
+use Rattle.elements.proofs.NetLaws.{Fields, fields-start, fields-many, fields-nothing, NextField, fields-next}
 use Rattle.elements.proofs.net.read_fields.Statement.{statement}
 use Rattle.elements.proofs.net.read_fields.Tie as tie
 
@@ -16,12 +16,12 @@ abbrev μ-loop : tie.MeasureT-loop
 μ-loop e at₀ n₀ count₀ at n count = 3 - count
 
 -- the field that was read, with those before it
-step : (c : tie.After-known-told Inv-loop μ-loop) → Field-more (c .before .before .before .before .before .before .before .before .args .e .now)
+step : (c : tie.After-known-told Inv-loop μ-loop) → NextField (c .before .before .before .before .before .before .before .before .args .e .now)
     (c .before .before .before .before .before .before .loop .at) (c .before .before .before .before .before .before .loop .n)
     (c .before .before .before .before .before .before .loop .count) (c .before .f .given .0 .0) (c .before .f .given .0 .1 .0)
 step c =
     let l = c .before .before .before .before .before .before .loop in
-    field-more _ (l .at) (l .n) (l .count) (l .inv) _ (c .before .before .before .first-field .ensures) (c .before .before .before .before .before .loop-test .taken) _ _ (c .before .f .given .1)
+    fields-next _ (l .at) (l .n) (l .count) (l .inv) _ (c .before .before .before .first-field .ensures) (c .before .before .before .before .before .loop-test .taken) _ _ (c .before .f .given .1)
 
 pub read-fields-spec : {M : Type 1} → statement M
 read-fields-spec =

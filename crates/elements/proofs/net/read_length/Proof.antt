@@ -1,6 +1,6 @@
 -- `elements::net::read_length` meets its contract. By the first byte. Assumes nothing.
 use borrow.Author.Needs.{needs}
-use Rattle.elements.proofs.NetLaws.{length-none, length-bad, length-read}
+use Rattle.elements.proofs.NetLaws.{prefixLength-none, prefixLength-bad, prefixLength-read}
 use Rattle.elements.proofs.net.read_length.Statement.{statement}
 use Rattle.elements.proofs.net.read_length.Tie as tie
 
@@ -8,11 +8,11 @@ pub read-length-spec : {M : Type 1} → statement M
 read-length-spec =
     tie.close
     (tie.spec
-    (λ c. search (length-none, needs))
+    (λ c. search (prefixLength-none, needs))
     (λ c. search needs)
-    (λ c. search (length-bad, needs))
+    (λ c. search (prefixLength-bad, needs))
     (λ c. search needs)
     (λ c. search needs)
     (λ c. search needs)
     (λ c κs. search needs)
-    (λ c. search (length-read, needs)))
+    (λ c. search (prefixLength-read, needs)))

@@ -3,7 +3,7 @@ use mathlib.Core.Path.{sym}
 use native.Mathlib.Omega.{arith}
 use borrow.Author.Needs.{needs}
 use lib.Seq.{length-take-le}
-use Rattle.elements.proofs.NetLaws.{mask-none, mask-pair}
+use Rattle.elements.proofs.NetLaws.{maskNet-none, maskNet-pair}
 use Rattle.elements.proofs.net.read_mask.Statement.{statement}
 use Rattle.elements.proofs.net.read_mask.Tie as tie
 
@@ -12,7 +12,7 @@ read-mask-spec =
     tie.close
     (tie.spec
     (λ c κs. search needs)
-    (λ c. search (mask-none, needs))
+    (λ c. search (maskNet-none, needs))
     (λ c. search needs)
     (λ c. sym (length-take-le _ _ (omega arith)))
     (λ c κs. search needs)
@@ -21,4 +21,4 @@ read-mask-spec =
     (λ c. search needs)
     (λ c κs. search needs)
     (λ c κs. search needs)
-    (λ c. search (mask-pair, needs)))
+    (λ c. search (maskNet-pair, needs)))

@@ -1,6 +1,6 @@
 -- `elements::net::read_whole` meets its contract. An address is read first, and net/mask only where it is none. Assumes nothing.
 use borrow.Author.Needs.{needs}
-use Rattle.elements.proofs.NetLaws.{whole-mask, whole-address}
+use Rattle.elements.proofs.NetLaws.{wholeNet-mask, wholeNet-address}
 use Rattle.elements.proofs.net.read_whole.Statement.{statement}
 use Rattle.elements.proofs.net.read_whole.Tie as tie
 
@@ -12,5 +12,5 @@ read-whole-spec =
     (λ c. search needs)
     (λ c κs. search needs)
     (λ c. search needs)
-    (λ c. search (whole-mask, needs))
-    (λ c. whole-address _ _ (c .before .before .before .read-v4 .ensures) _ (c .before .v .given .1)))
+    (λ c. search (wholeNet-mask, needs))
+    (λ c. wholeNet-address _ _ (c .before .before .before .read-v4 .ensures) _ (c .before .v .given .1)))

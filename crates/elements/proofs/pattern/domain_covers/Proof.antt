@@ -1,6 +1,6 @@
 -- `elements::pattern::domain_covers` meets its contract. What covers is tried first, and the pattern checked only then. Assumes nothing.
 use borrow.Author.Needs.{needs}
-use Rattle.elements.proofs.PatternLaws.{domain-ends, domain-differs}
+use Rattle.elements.proofs.PatternLaws.{domainCovers-ends, domainCovers-differs}
 use Rattle.elements.proofs.pattern.domain_covers.Statement.{statement}
 use Rattle.elements.proofs.pattern.domain_covers.Tie as tie
 
@@ -10,5 +10,5 @@ domain-covers-spec =
     (tie.spec
     (λ c κs. search needs)
     (λ c κs. search needs)
-    (λ c. search (domain-ends, needs))
-    (λ c. search (domain-differs, needs)))
+    (λ c. search (domainCovers-ends, needs))
+    (λ c. search (domainCovers-differs, needs)))

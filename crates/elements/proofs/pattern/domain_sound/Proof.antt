@@ -1,6 +1,6 @@
 -- `elements::pattern::domain_sound` meets its contract. The tests of the length and of the bytes are those of the definition. Assumes nothing.
 use borrow.Author.Needs.{needs}
-use Rattle.elements.proofs.PatternLaws.{domain-short, domain-long, domain-fits}
+use Rattle.elements.proofs.PatternLaws.{domainPattern-short, domainPattern-long, domainPattern-fits}
 use Rattle.elements.proofs.pattern.domain_sound.Statement.{statement}
 use Rattle.elements.proofs.pattern.domain_sound.Tie as tie
 
@@ -8,7 +8,7 @@ pub domain-sound-spec : {M : Type 1} → statement M
 domain-sound-spec =
     tie.close
     (tie.spec
-    (λ c. search (domain-short, needs))
-    (λ c. search (domain-long, needs))
+    (λ c. search (domainPattern-short, needs))
+    (λ c. search (domainPattern-long, needs))
     (λ c κs. search needs)
-    (λ c. search (domain-fits, needs)))
+    (λ c. search (domainPattern-fits, needs)))

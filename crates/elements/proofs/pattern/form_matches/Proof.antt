@@ -2,8 +2,8 @@
 use mathlib.Core.Path.{sym, _∙_}
 use borrow.Author.Needs.{needs}
 use Rattle.elements.specs.Request.{endpoint}
-use Rattle.elements.proofs.CoverLaws.{bracket-matches, dotted-matches}
-use Rattle.elements.proofs.PatternLaws.{form-matches}
+use Rattle.elements.proofs.CoverLaws.{bracketPattern-matches, dottedPattern-matches}
+use Rattle.elements.proofs.PatternLaws.{formPattern-matches}
 use Rattle.elements.proofs.pattern.form_matches.Statement.{statement}
 use Rattle.elements.proofs.pattern.form_matches.Tie as tie
 
@@ -20,7 +20,7 @@ form-matches-spec =
     (λ c κs. search needs)
     (λ c. search needs)
     (λ c κs. search needs)
-    (λ c. form-matches _ _ _ (c .before .before .before .read-form .ensures) (c .before .enum-told .given .1) _ _ (c .domain-matches .ensures))
-    (λ c. form-matches _ _ _ (c .before .before .before .read-form .ensures) (c .before .enum-told2 .given .1) _ _ (c .bracket-matches .ensures ∙ sym (bracket-matches _ (endpoint _ _))))
-    (λ c. form-matches _ _ _ (c .before .before .before .read-form .ensures) (c .before .enum-told3 .given .1) _ _ (c .dotted-matches .ensures ∙ sym (dotted-matches _ (endpoint _ _))))
-    (λ c. form-matches _ _ _ (c .before .before .before .read-form .ensures) (c .before .enum-told4 .given .1) _ _ (c .plain-matches .ensures)))
+    (λ c. formPattern-matches _ _ _ (c .before .before .before .read-form .ensures) (c .before .enum-told .given .1) _ _ (c .domain-matches .ensures))
+    (λ c. formPattern-matches _ _ _ (c .before .before .before .read-form .ensures) (c .before .enum-told2 .given .1) _ _ (c .bracket-matches .ensures ∙ sym (bracketPattern-matches _ (endpoint _ _))))
+    (λ c. formPattern-matches _ _ _ (c .before .before .before .read-form .ensures) (c .before .enum-told3 .given .1) _ _ (c .dotted-matches .ensures ∙ sym (dottedPattern-matches _ (endpoint _ _))))
+    (λ c. formPattern-matches _ _ _ (c .before .before .before .read-form .ensures) (c .before .enum-told4 .given .1) _ _ (c .plain-matches .ensures)))

@@ -1,6 +1,6 @@
 -- `elements::pattern::form_sound` meets its contract. By the form that was read. Assumes nothing.
 use borrow.Author.Needs.{needs}
-use Rattle.elements.proofs.PatternLaws.{form-sound}
+use Rattle.elements.proofs.PatternLaws.{formPattern-sound}
 use Rattle.elements.proofs.pattern.form_sound.Statement.{statement}
 use Rattle.elements.proofs.pattern.form_sound.Tie as tie
 
@@ -17,7 +17,7 @@ form-sound-spec =
     (λ c κs. search needs)
     (λ c. search needs)
     (λ c κs. search needs)
-    (λ c. form-sound _ _ _ (c .before .before .before .read-form .ensures) (c .before .enum-told .given .1) _ (c .domain-sound .ensures))
-    (λ c. form-sound _ _ _ (c .before .before .before .read-form .ensures) (c .before .enum-told2 .given .1) _ (c .bracket-sound .ensures))
-    (λ c. form-sound _ _ _ (c .before .before .before .read-form .ensures) (c .before .enum-told3 .given .1) _ (c .dotted-sound .ensures))
-    (λ c. form-sound _ _ _ (c .before .before .before .read-form .ensures) (c .before .enum-told4 .given .1) _ (c .plain-sound .ensures)))
+    (λ c. formPattern-sound _ _ _ (c .before .before .before .read-form .ensures) (c .before .enum-told .given .1) _ (c .domain-sound .ensures))
+    (λ c. formPattern-sound _ _ _ (c .before .before .before .read-form .ensures) (c .before .enum-told2 .given .1) _ (c .bracket-sound .ensures))
+    (λ c. formPattern-sound _ _ _ (c .before .before .before .read-form .ensures) (c .before .enum-told3 .given .1) _ (c .dotted-sound .ensures))
+    (λ c. formPattern-sound _ _ _ (c .before .before .before .read-form .ensures) (c .before .enum-told4 .given .1) _ (c .plain-sound .ensures)))

@@ -1,7 +1,7 @@
 -- `elements::pattern::host_matches` meets its contract. By the wildcard that was read. Assumes nothing.
 use mathlib.Core.Path.{refl}
 use borrow.Author.Needs.{needs}
-use Rattle.elements.proofs.PatternLaws.{host-matches}
+use Rattle.elements.proofs.PatternLaws.{hostMatches-at}
 use Rattle.elements.proofs.pattern.host_matches.Statement.{statement}
 use Rattle.elements.proofs.pattern.host_matches.Tie as tie
 
@@ -21,9 +21,9 @@ host-matches-spec =
     (λ c κs. search needs)
     (λ c. search needs)
     (λ c κs. search needs)
-    (λ c. host-matches _ _ _ (c .before .before .before .read-wildcard .ensures) (c .before .enum-told .given .1) _ _ (c .form-matches .ensures))
-    (λ c. host-matches _ _ _ (c .before .before .read-wildcard .ensures) (c .enum-told2 .given .1) _ _ refl)
-    (λ c. host-matches _ _ _ (c .before .before .before .read-wildcard .ensures) (c .before .enum-told3 .given .1) _ _ (c .is-local .ensures))
-    (λ c. host-matches _ _ _ (c .before .before .before .read-wildcard .ensures) (c .before .enum-told4 .given .1) _ _ (c .is-known .ensures))
-    (λ c. host-matches _ _ _ (c .before .before .before .read-wildcard .ensures) (c .before .enum-told5 .given .1) _ _ (c .is-unknown .ensures))
-    (λ c. host-matches _ _ _ (c .before .before .before .read-wildcard .ensures) (c .before .enum-told6 .given .1) _ _ (c .name-paranoid .ensures)))
+    (λ c. hostMatches-at _ _ _ (c .before .before .before .read-wildcard .ensures) (c .before .enum-told .given .1) _ _ (c .form-matches .ensures))
+    (λ c. hostMatches-at _ _ _ (c .before .before .read-wildcard .ensures) (c .enum-told2 .given .1) _ _ refl)
+    (λ c. hostMatches-at _ _ _ (c .before .before .before .read-wildcard .ensures) (c .before .enum-told3 .given .1) _ _ (c .is-local .ensures))
+    (λ c. hostMatches-at _ _ _ (c .before .before .before .read-wildcard .ensures) (c .before .enum-told4 .given .1) _ _ (c .is-known .ensures))
+    (λ c. hostMatches-at _ _ _ (c .before .before .before .read-wildcard .ensures) (c .before .enum-told5 .given .1) _ _ (c .is-unknown .ensures))
+    (λ c. hostMatches-at _ _ _ (c .before .before .before .read-wildcard .ensures) (c .before .enum-told6 .given .1) _ _ (c .name-paranoid .ensures)))

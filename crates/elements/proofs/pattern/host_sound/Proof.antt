@@ -1,7 +1,7 @@
 -- `elements::pattern::host_sound` meets its contract. By the wildcard that was read. Assumes nothing.
 use mathlib.Core.Path.{refl}
 use borrow.Author.Needs.{needs}
-use Rattle.elements.proofs.PatternLaws.{host-sound}
+use Rattle.elements.proofs.PatternLaws.{hostPattern-sound}
 use Rattle.elements.proofs.pattern.host_sound.Statement.{statement}
 use Rattle.elements.proofs.pattern.host_sound.Tie as tie
 
@@ -17,9 +17,9 @@ host-sound-spec =
     (λ c. search needs)
     (λ c. search needs)
     (λ c. search needs)
-    (λ c. host-sound _ _ _ (c .before .before .before .read-wildcard .ensures) (c .before .enum-told .given .1) _ (c .form-sound .ensures))
-    (λ c. host-sound _ _ _ (c .before .before .read-wildcard .ensures) (c .enum-told2 .given .1) _ refl)
-    (λ c. host-sound _ _ _ (c .before .before .read-wildcard .ensures) (c .enum-told3 .given .1) _ refl)
-    (λ c. host-sound _ _ _ (c .before .before .read-wildcard .ensures) (c .enum-told4 .given .1) _ refl)
-    (λ c. host-sound _ _ _ (c .before .before .read-wildcard .ensures) (c .enum-told5 .given .1) _ refl)
-    (λ c. host-sound _ _ _ (c .before .before .read-wildcard .ensures) (c .enum-told6 .given .1) _ refl))
+    (λ c. hostPattern-sound _ _ _ (c .before .before .before .read-wildcard .ensures) (c .before .enum-told .given .1) _ (c .form-sound .ensures))
+    (λ c. hostPattern-sound _ _ _ (c .before .before .read-wildcard .ensures) (c .enum-told2 .given .1) _ refl)
+    (λ c. hostPattern-sound _ _ _ (c .before .before .read-wildcard .ensures) (c .enum-told3 .given .1) _ refl)
+    (λ c. hostPattern-sound _ _ _ (c .before .before .read-wildcard .ensures) (c .enum-told4 .given .1) _ refl)
+    (λ c. hostPattern-sound _ _ _ (c .before .before .read-wildcard .ensures) (c .enum-told5 .given .1) _ refl)
+    (λ c. hostPattern-sound _ _ _ (c .before .before .read-wildcard .ensures) (c .enum-told6 .given .1) _ refl))

@@ -1,6 +1,6 @@
 -- `elements::pattern::plain_covers` meets its contract. What covers is tried first, and the pattern checked only then. Assumes nothing.
 use borrow.Author.Needs.{needs}
-use Rattle.elements.proofs.PatternLaws.{plain-same, plain-differs}
+use Rattle.elements.proofs.PatternLaws.{plainCovers-same, plainCovers-differs}
 use Rattle.elements.proofs.pattern.plain_covers.Statement.{statement}
 use Rattle.elements.proofs.pattern.plain_covers.Tie as tie
 
@@ -10,5 +10,5 @@ plain-covers-spec =
     (tie.spec
     (λ c κs. search needs)
     (λ c κs. search needs)
-    (λ c. search (plain-same, needs))
-    (λ c. search (plain-differs, needs)))
+    (λ c. search (plainCovers-same, needs))
+    (λ c. search (plainCovers-differs, needs)))
