@@ -7,18 +7,21 @@ fn show(text: &[u8]) {
     report::text(b" -> ");
     match address::read::read_address(text) {
         AddressRead::Refused(r) => report::refusal(r),
-        AddressRead::Address(a) => written(a, 39),
+        AddressRead::Address(a) => written(a),
     }
 }
 
-// The address a, written into so many bytes at most.
-fn written(a: address::Addr, room: usize) {
+// The address a, written into as many bytes as the longest needs.
+fn written(a: address::Addr) {
     let mut out = [46u8; 39];
-    if room <= out.len() {
-        match address::write::write_address(&mut out[..room], a) {
-            section::Written::Refused(r) => report::refusal(r),
-            section::Written::Count(n) => report::line(&out, n),
-        }
+    let answer = address::write::write_address(&mut out, a);
+    shown(answer, &out);
+}
+
+fn shown(answer: section::Written, out: &[u8]) {
+    match answer {
+        section::Written::Refused(r) => report::refusal(r),
+        section::Written::Count(n) => report::line(out, n),
     }
 }
 
@@ -119,14 +122,26 @@ fn near_misses_2() {
     show(b"ffff:ffff:ffff:ffff:ffff:ffff:ffff:ffff");
 }
 
-// Room: exactly enough, one byte less, and none; an unknown address.
+// Room for seven bytes, and for six.
+fn in_seven(a: address::Addr) {
+    let mut out = [46u8; 7];
+    let answer = address::write::write_address(&mut out, a);
+    shown(answer, &out);
+}
+
+fn in_six(a: address::Addr) {
+    let mut out = [46u8; 6];
+    let answer = address::write::write_address(&mut out, a);
+    shown(answer, &out);
+}
+
+// Room: exactly enough, and one byte less; an unknown address; an output that is not filled.
 fn room() {
-    written(address::Addr::V4(16909060), 7);
-    written(address::Addr::V4(16909060), 6);
-    written(address::Addr::V6(0, 0), 2);
-    written(address::Addr::V6(0, 0), 1);
-    written(address::Addr::Unknown, 7);
-    written(address::Addr::Unknown, 0);
+    in_seven(address::Addr::V4(16909060));
+    in_six(address::Addr::V4(16909060));
+    in_seven(address::Addr::Unknown);
+    in_six(address::Addr::Unknown);
+    in_six(address::Addr::V6(0, 0));
 }
 
 fn main() {

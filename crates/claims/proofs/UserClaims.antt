@@ -12,12 +12,12 @@ use Rattle.elements.specs.declared.User.the-variants as U
 use Rattle.elements.specs.Request.{Request, wellFormed, withUser}
 use Rattle.rules.specs.declared.Answer.{Answer}
 use Rattle.rules.specs.declared.Verdict.{Verdict}
-use Rattle.rules.specs.Search.{decide}
+use Rattle.rules.specs.Search.{decide, commandBytes}
 use Rattle.rules.proofs.UserLaws.{QuietVerdict, QuietOutcome, decide-same}
 use Rattle.expansion.proofs.UserLaws.{expand-same}
 use Rattle.sheet.specs.declared.Parts.{Parts}
 use Rattle.sheet.specs.Sheet.{textAt, unpack, decideSheet}
-use Rattle.claims.specs.Claims.{Permitted, named, unknown, Decided, granted, denied, commandBytes, SameFor, NameCannotMatter}
+use Rattle.claims.specs.Claims.{Permitted, named, unknown, Decided, granted, denied, SameFor, NameCannotMatter}
 
 decided-quiet : {v : Verdict} → Decided v → QuietVerdict v
 decided-quiet granted = tt

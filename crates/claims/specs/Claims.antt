@@ -18,8 +18,7 @@ use Rattle.elements.specs.Request.{Request, withUser}
 use Rattle.rules.specs.declared.Answer.{Answer}
 use Rattle.rules.specs.declared.Verdict.{Verdict}
 use Rattle.rules.specs.declared.Verdict.the-variants.{Granted, Denied, Ask}
-use Rattle.rules.specs.declared.File.the-variants.{Neither, Allow, Deny}
-use Rattle.rules.specs.Search.{decide}
+use Rattle.rules.specs.Search.{decide, commandBytes}
 use Rattle.expansion.specs.Expand.{usesUser, expand}
 use Rattle.sheet.specs.declared.Parts.{Parts}
 use Rattle.sheet.specs.Sheet.{Texts, textAt, textsAt, unpack, pack, decideSheet}
@@ -69,10 +68,6 @@ pub data Permitted : User → List ℕ → Type 0 where
 pub data Decided : Verdict → Type 0 where
   granted : Decided Granted
   denied : Decided Denied
-
--- the bytes of the raw command, "a part of the allow file or of the deny file"
-abbrev pub commandBytes : List ℕ → List ℕ → Answer → List ℕ
-commandBytes allow deny a = elim (a .file) [ Neither ↦ [] | Allow ↦ textAt allow (a .command) | Deny ↦ textAt deny (a .command) ]
 
 -- the name could not have mattered: the same answer, and "expanding that command for both in the same room gives the same
 -- bytes or the same refusal, unless it uses %u or %c"
