@@ -1,0 +1,7 @@
+-- The three tests are those of the definition. Assumes nothing.
+use borrow.Author.Needs.{needs}
+use Rattle.expansion.proofs.is_safe.Statement.{statement}
+use Rattle.expansion.proofs.is_safe.Tie as tie
+
+pub is-safe-spec : {M : Type 1} → statement M
+is-safe-spec = tie.close (tie.spec (λ c κs. search needs) (λ c κs. search needs) (λ c κs. search needs) (λ c. cc))
