@@ -14,7 +14,7 @@ fn show(text: &[u8]) {
 // The address a, written into as many bytes as the longest needs.
 fn written(a: address::Addr) {
     let mut out = [46u8; 39];
-    let answer = address::write::write_address(&mut out, a);
+    let answer = address_format::write_address(&mut out, a);
     shown(answer, &out);
 }
 
@@ -125,13 +125,13 @@ fn near_misses_2() {
 // Room for seven bytes, and for six.
 fn in_seven(a: address::Addr) {
     let mut out = [46u8; 7];
-    let answer = address::write::write_address(&mut out, a);
+    let answer = address_format::write_address(&mut out, a);
     shown(answer, &out);
 }
 
 fn in_six(a: address::Addr) {
     let mut out = [46u8; 6];
-    let answer = address::write::write_address(&mut out, a);
+    let answer = address_format::write_address(&mut out, a);
     shown(answer, &out);
 }
 

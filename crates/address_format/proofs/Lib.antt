@@ -1,0 +1,3 @@
+pub mod WriteText
+pub mod WriteRuns
+pub mod WriteLaws
