@@ -14,6 +14,8 @@ use Rattle.lines.specs.Command as Command
 use Rattle.elements.specs.Request as Request
 use Rattle.elements.specs.Pattern as Pattern
 use Rattle.elements.specs.Element as Element
+use Rattle.lists.specs.Check as ListCheck
+use Rattle.lists.specs.Walk as Walk
 use Rattle.rules.specs.Check as Check
 use Rattle.rules.specs.Search as Search
 use Rattle.expansion.specs.Expand as Expand
@@ -38,8 +40,8 @@ unfolding
     Pattern.namePattern Pattern.hostPattern
     Element.halves Element.reservedStart Element.isPlainName Element.daemonName Element.userHalf Element.daemonParts Element.clientParts
     Element.daemonElement Element.clientElement
-    Check.exceptMisplaced Check.ruleFault Check.lineFault Check.hostsFault
-    Search.included Search.excluded Search.ruleFound Search.lineAnswer Search.search Search.decide
+    ListCheck.exceptMisplaced ListCheck.ruleFault Walk.included Walk.excluded Walk.ruleFound
+    Check.lineFault Check.hostsFault Search.lineAnswer Search.search Search.decide
     Expand.inserted Expand.safeByte Expand.pieceText Expand.expansion Expand.expand
     Byuid.readRange Byuid.readNet Byuid.readCommaForm Byuid.readColonForm Byuid.lineGrants Byuid.byuidDecision Byuid.decideByuid
     Portacl.readEntry Portacl.entries Portacl.entryFault Portacl.portaclFault Portacl.portaclDecision Portacl.decidePortacl

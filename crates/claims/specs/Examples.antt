@@ -20,9 +20,10 @@ use Rattle.elements.specs.declared.Name.the-variants as N
 use Rattle.elements.specs.declared.User.the-variants as U
 use Rattle.elements.specs.Request.{Endpoint, Request, wellFormed}
 use Rattle.elements.specs.Element.{clientElement, lookAt}
+use Rattle.lists.specs.Walk.{included}
 use Rattle.rules.specs.declared.Verdict.the-variants.{Granted, Denied}
 use Rattle.rules.specs.declared.File.the-variants.{Neither, Deny}
-use Rattle.rules.specs.Search.{included, answer, decide}
+use Rattle.rules.specs.Search.{answer, decide}
 use Rattle.expansion.specs.Expand.{expand}
 use Rattle.byuid.specs.declared.Decision.the-variants as B
 use Rattle.byuid.specs.Byuid.{decideByuid}

@@ -31,8 +31,11 @@ use Rattle.lines.proofs.RuleLaws.{parseRule-none, parseRule-parts}
 use Rattle.elements.specs.declared.Found.{Found}
 use Rattle.elements.specs.declared.Found.the-variants.{No, Yes, Ask}
 use Rattle.elements.specs.Request.{Request}
-use Rattle.rules.specs.declared.Checked.{Checked}
-use Rattle.rules.specs.declared.Checked.the-variants as Che
+use Rattle.lists.specs.declared.Checked.{Checked}
+use Rattle.lists.specs.declared.Checked.the-variants as Che
+use Rattle.lists.specs.Check.{ruleFault}
+use Rattle.lists.specs.Walk.{ruleFound}
+use Rattle.lists.specs.Code.{NoNewline, checkedOf, foundBy, lineFound}
 use Rattle.rules.specs.declared.Verdict.{Verdict}
 use Rattle.rules.specs.declared.Verdict.the-variants as Ver
 use Rattle.rules.specs.declared.File.{File}
@@ -44,9 +47,8 @@ use Rattle.rules.specs.declared.hosts_file.Shape.the-variants as Sh
 use Rattle.rules.specs.declared.hosts_file.Told.{Told}
 use Rattle.rules.specs.declared.hosts_file.Told.the-variants as T
 use Rattle.rules.specs.declared.hosts_file.Step.{Step}
-use Rattle.rules.specs.Check.{ruleFault, lineFault, hostsFault}
-use Rattle.rules.specs.Search.{answer, ruleFound, ruleAnswer, lineAnswer}
-use Rattle.rules.specs.Code.{NoNewline, checkedOf, foundBy, lineFound}
+use Rattle.rules.specs.Check.{lineFault, hostsFault}
+use Rattle.rules.specs.Search.{answer, ruleAnswer, lineAnswer}
 use Rattle.rules.specs.FileCode.{faultAt, hostsFaultAt, passOf, passLine, passText, shapeFault, shapeOf, lineShape, toldOf, ruleTold, lineTold}
 use Rattle.rules.specs.FileCode.{commandPart, ScannedLine, stepOf, onward}
 use Rattle.rules.proofs.JoinLaws.{ruleTold-join, isEmpty-trimmed}

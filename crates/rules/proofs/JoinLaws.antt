@@ -19,10 +19,10 @@ use Rattle.lines.proofs.LineLaws.{any-one, join-pair, join-plain, isNoNewline, 
 use Rattle.lines.proofs.RuleLaws.{rule}
 use Rattle.elements.specs.declared.Found.the-variants.{No}
 use Rattle.elements.specs.Request.{Request}
+use Rattle.lists.specs.Check.{ruleFault}
+use Rattle.lists.specs.Walk.{ruleFound}
+use Rattle.lists.specs.Code.{NoNewline, lineFound}
 use Rattle.rules.specs.declared.hosts_file.Told.{Told}
-use Rattle.rules.specs.Check.{ruleFault}
-use Rattle.rules.specs.Search.{ruleFound}
-use Rattle.rules.specs.Code.{NoNewline, lineFound}
 use Rattle.rules.specs.FileCode.{toldOf, ruleTold}
 
 -- ## Parting at a separator

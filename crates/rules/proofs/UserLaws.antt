@@ -21,13 +21,14 @@ use Rattle.elements.specs.declared.Found.the-variants.{No, Yes, Ask}
 use Rattle.elements.specs.Request.{Endpoint, Request, userCase, wellFormed, withUser}
 use Rattle.elements.specs.Pattern.{hostPattern}
 use Rattle.elements.specs.Element.{halves, foundIf, daemonName, userHalf, daemonParts, clientParts, daemonElement, clientElement, lookAt}
+use Rattle.lists.specs.Walk.{onFound, included, excluded, ruleFound}
 use Rattle.rules.specs.declared.Verdict.{Verdict}
 use Rattle.rules.specs.declared.Verdict.the-variants as Ver
 use Rattle.rules.specs.declared.File.{File}
 use Rattle.rules.specs.declared.File.the-variants as Deciding
 use Rattle.rules.specs.declared.Answer.{Answer}
 use Rattle.rules.specs.Check.{hostsFault}
-use Rattle.rules.specs.Search.{onFound, included, excluded, ruleFound, answer, ruleAnswer, lineAnswer, search, decide}
+use Rattle.rules.specs.Search.{answer, ruleAnswer, lineAnswer, search, decide}
 
 -- what has not asked: a finding, a verdict, an answer, an outcome
 abbrev pub Quiet : Found → Type 0

@@ -32,6 +32,8 @@ use Rattle.lines.specs.Rule.{Rule, parseRule}
 use Rattle.elements.specs.declared.Found.{Found}
 use Rattle.elements.specs.declared.Found.the-variants.{No}
 use Rattle.elements.specs.Request.{Request}
+use Rattle.lists.specs.Check.{ruleFault}
+use Rattle.lists.specs.Code.{NoNewline, lineFound}
 use Rattle.rules.specs.declared.Verdict.{Verdict}
 use Rattle.rules.specs.declared.Verdict.the-variants.{Granted, Denied}
 use Rattle.rules.specs.declared.File.{File}
@@ -46,9 +48,8 @@ use Rattle.rules.specs.declared.hosts_file.Shape.the-variants as Sh
 use Rattle.rules.specs.declared.hosts_file.Told.{Told}
 use Rattle.rules.specs.declared.hosts_file.Told.the-variants as T
 use Rattle.rules.specs.declared.hosts_file.Step.{Step}
-use Rattle.rules.specs.Check.{ruleFault, lineFault, hostsFault}
+use Rattle.rules.specs.Check.{lineFault, hostsFault}
 use Rattle.rules.specs.Search.{answer, rawCommand, lineAnswer}
-use Rattle.rules.specs.Code.{NoNewline, lineFound}
 
 -- ## A text
 

@@ -1,11 +1,11 @@
--- Document 01, "EXCEPT", "Search" and "Asking": the walk and the verdict.
+-- Document 01, "Search": the verdict. What one rule finds is in lists, Walk.antt.
 --   search allow deny r == the answer on a request by two sound texts
 --   decide allow deny r == the call: every check, then the search
 --   rulingOf o          == the outcome o as the call answers it
 --   commandBytes allow deny a == the bytes of the raw command of the answer a
 -- Assumes nothing: these are definitions.
 use Prim.Native.Nat.{ℕ, _+_, _-_}
-use mathlib.Core.Bool.{Bool, not, _||_}
+use mathlib.Core.Bool.{not, _||_}
 use mathlib.Core.List.{List, [], _∷_}
 use mathlib.Core.Option.{Option, none, some, Option·getD}
 use lib.ListN.{length, take, drop}
@@ -17,12 +17,12 @@ use Rattle.section.specs.Refusal.{Outcome, refused, answered, placeless, refusi
 use Rattle.section.specs.Section as S
 use Rattle.section.specs.Section.{part, overLimit}
 use Rattle.lines.specs.Line.{Line, lines, isComment, isBlank}
-use Rattle.lines.specs.Rule.{Rule, isExcept, parseRule}
+use Rattle.lines.specs.Rule.{Rule, parseRule}
 use Rattle.lines.specs.Command.{trimmed}
 use Rattle.elements.specs.declared.Found.{Found}
 use Rattle.elements.specs.declared.Found.the-variants as Found
 use Rattle.elements.specs.Request.{Request, wellFormed}
-use Rattle.elements.specs.Element.{lookAt, daemonElement, clientElement}
+use Rattle.lists.specs.Walk.{ruleFound}
 use Rattle.rules.specs.declared.Verdict.{Verdict}
 use Rattle.rules.specs.declared.Verdict.the-variants.{Granted, Denied, Ask}
 use Rattle.rules.specs.declared.File.{File}
@@ -42,29 +42,6 @@ abbrev pub fileSection : File → ℕ
 fileSection Neither = 0
 fileSection Allow = S.allow .order
 fileSection Deny = S.deny .order
-
--- asking ends every walk; else what follows a match, or a miss
-abbrev pub onFound : Found → Found → Found → Found
-onFound Found.Yes matched missed = matched
-onFound Found.No matched missed = missed
-onFound Found.Ask matched missed = Found.Ask
-
--- "What follows EXCEPT is itself a list. A list matches if some element left of its first EXCEPT matches and the list
--- after it, if any, does not. Elements are looked at left to right until one matches; the right side is looked at only
--- after the left matched."
-unfoldable mutual
-  pub included : (List ℕ → Found) → List (List ℕ) → Found
-  included m [] = Found.No
-  included m (w ∷ ws) = if isExcept w then Found.No else onFound (m w) (excluded m ws) (included m ws)
-
-  pub excluded : (List ℕ → Found) → List (List ℕ) → Found
-  excluded m [] = Found.Yes
-  excluded m (w ∷ ws) = if isExcept w then onFound (included m ws) Found.No Found.Yes else excluded m ws
-
--- "A rule's client list is looked at only if its daemon list matched."
-unfoldable pub ruleFound : Request → Rule → Found
-ruleFound r u =
-    onFound (included (λ e. lookAt r (daemonElement e)) (u .daemons)) (included (λ e. lookAt r (clientElement e)) (u .clients)) Found.No
 
 -- "a part of the allow file or of the deny file, from after the second separator to before the ending newline; an empty
 -- part where there is none"; "empty means none". The place of an empty part is free.

@@ -8,11 +8,10 @@ ghost use Rattle.lines.specs.Line.{line, join};
 ghost use Rattle.lines.specs.Rule.{parseRule};
 ghost use Rattle.lines.specs.Scan.{spanAt, scanLine};
 ghost use Rattle.elements.specs.Request.{requestOf, endpoint};
-ghost use Rattle.rules.specs.Code.{NoNewline};
+ghost use Rattle.lists.specs.Code.{NoNewline};
 ghost use Rattle.rules.specs.FileCode.{ScannedLine, lineShape, ruleTold, lineTold, commandPart, passLine, stepOf, passText, passOf, hostsFaultAt};
 ghost use mathlib.Core.Option.{none};
 use super::Answer;
-use super::Checked;
 use super::File;
 use super::Verdict;
 use address::Addr;
@@ -23,6 +22,7 @@ use elements::User;
 use lines::line;
 use lines::line::LineSpan;
 use lines::rule;
+use lists::Checked;
 use section::Fault;
 use section::Part;
 use section::Refusal;
@@ -98,11 +98,11 @@ fn rule_told(
         (requestOf (now (daemon .entry)) (endpoint client (now («client_name» .entry))) (endpoint server (now («server_name» .entry))) user (now («user_name» .entry)))
         (now (t .entry)) ⌝ }
 {
-    match super::check::check_rule(t) {
+    match lists::check::check_rule(t) {
         Checked::Faulty(f) => Told::Faulty(f),
         Checked::Sound => {
             if search {
-                Told::Finds(super::walk::rule_found(
+                Told::Finds(lists::walk::rule_found(
                     t,
                     daemon,
                     client,

@@ -1,9 +1,7 @@
 // The checks of the allow and deny files, and the verdict on a request.
 //   decide(allow, deny, ..)  == the verdict, or the refusal of a text or of the request
 //   command_part(allow, deny, answer) == the bytes of the answer's raw command
-pub mod check;
 pub mod hosts_file;
-pub mod walk;
 
 ghost use mathlib.Core.Path.{_≡_};
 ghost use lib.ListN.{take, drop};
@@ -37,12 +35,6 @@ pub struct Answer {
     pub file: File,
     pub line: usize,
     pub command: Part,
-}
-
-// What checking a rule finds.
-pub enum Checked {
-    Sound,
-    Faulty(Fault),
 }
 
 // What a decision answers: a refusal, or the verdict.

@@ -1,0 +1,3 @@
+pub mod JoinedLaws
+pub mod CheckLaws
+pub mod WalkLaws

@@ -1,0 +1,16 @@
+-- `check::lowest_fault` meets its contract, test by test. Assumes nothing.
+use borrow.Author.Needs.{needs}
+use Rattle.lists.proofs.CheckLaws.{lowestOf-empty, lowestOf-misplaced, lowestOf-reserved, lowestOf-unknown, lowestOf-percent, lowestOf-sound}
+use Rattle.lists.proofs.check.lowest_fault.Statement.{statement}
+use Rattle.lists.proofs.check.lowest_fault.Tie as tie
+
+pub lowest-fault-spec : {M : Type 1} → statement M
+lowest-fault-spec =
+    tie.close
+    (tie.spec
+    (λ c. search (lowestOf-empty, needs))
+    (λ c. search (lowestOf-misplaced, needs))
+    (λ c. search (lowestOf-reserved, needs))
+    (λ c. search (lowestOf-unknown, needs))
+    (λ c. search (lowestOf-percent, needs))
+    (λ c. search (lowestOf-sound, needs)))

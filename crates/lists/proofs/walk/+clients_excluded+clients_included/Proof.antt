@@ -1,0 +1,107 @@
+-- The sides of EXCEPT in a client list, `walk::clients_included` and `walk::clients_excluded`, meet their contracts, by the laws of the walk at what a
+-- client element finds. The measure of both is the length of the rest of the list. Assumes nothing.
+use Prim.Native.Nat.{ℕ, _<_}
+use borrow.Author.Needs.{needs}
+use borrow.Fn.Kinds.{In}
+use borrow.Fn.PlainCycle.{Measures, is, falls, and}
+use lib.ListN.{length}
+use Rattle.lines.proofs.RuleLaws.{rest-shorter}
+use Rattle.lines.proofs.rule.after_element.Reads as after-element
+use Rattle.lines.proofs.rule.element.Reads as element
+use Rattle.lines.proofs.rule.element_span.Reads as element-span
+use Rattle.lines.proofs.rule.is_except.Reads as is-except
+use Rattle.elements.proofs.element.client_found.Reads as client-found
+use Rattle.lists.proofs.WalkLaws.{included-none, included-except, included-yes, included-no, included-ask}
+use Rattle.lists.proofs.WalkLaws.{excluded-none, excluded-except, excluded-more}
+use Rattle.lists.proofs.walk.turned.Reads as turned
+use Rattle.lists.proofs.walk.clients_excluded.Reads as clients-excluded
+use Rattle.lists.proofs.walk.clients_excluded.Kinds as clients-excluded-kinds
+use Rattle.lists.proofs.walk.+clients_excluded+clients_included.Lts-clients_excluded as clients-excluded-lts
+use Rattle.lists.proofs.walk.clients_included.Reads as clients-included
+use Rattle.lists.proofs.walk.clients_included.Kinds as clients-included-kinds
+use Rattle.lists.proofs.walk.+clients_excluded+clients_included.Lts-clients_included as clients-included-lts
+use Rattle.lists.proofs.walk.+clients_excluded+clients_included.{statement}
+use Rattle.lists.proofs.walk.+clients_excluded+clients_included.Tie.{close}
+
+abbrev μ-clients-excluded : Measures 3 clients-excluded-kinds.ps ℕ
+μ-clients-excluded κs a = length (a .0 .now)
+
+abbrev μ-clients-included : Measures 3 clients-included-kinds.ps ℕ
+μ-clients-included κs a = length (a .0 .now)
+
+abbrev clients-excluded-at : ℕ → In 3 clients-excluded-kinds.ps
+clients-excluded-at t = and 3 clients-excluded-kinds.ps (is 3 clients-excluded-kinds.ps μ-clients-excluded t) clients-excluded.Pre
+
+abbrev clients-excluded-below : ℕ → In 3 clients-excluded-kinds.ps
+clients-excluded-below t = and 3 clients-excluded-kinds.ps (falls 3 clients-excluded-kinds.ps _<_ μ-clients-excluded t) clients-excluded.Pre
+
+abbrev clients-included-at : ℕ → In 3 clients-included-kinds.ps
+clients-included-at t = and 3 clients-included-kinds.ps (is 3 clients-included-kinds.ps μ-clients-included t) clients-included.Pre
+
+abbrev clients-included-below : ℕ → In 3 clients-included-kinds.ps
+clients-included-below t = and 3 clients-included-kinds.ps (falls 3 clients-included-kinds.ps _<_ μ-clients-included t) clients-included.Pre
+
+pub +clients-excluded+clients-included-spec : {M : Type 1} → statement M
++clients-excluded+clients-included-spec =
+    close μ-clients-excluded μ-clients-included (λ t. clients-excluded-lts.spec (
+      element-span.Asked,
+      element-span.Learnt,
+      element.Asked,
+      element.Learnt,
+      after-element.Asked,
+      after-element.Learnt,
+      is-except.Asked,
+      is-except.Learnt,
+      clients-included-below t,
+      clients-included.Post,
+      turned.Asked,
+      turned.Learnt,
+      clients-excluded-below t,
+      clients-excluded.Post,
+    )
+    (clients-excluded-at t)
+    clients-excluded.Post
+    (λ c κs. search needs)
+    (λ c κs. search needs)
+    (λ c. search (excluded-none, needs))
+    (λ c κs. search needs)
+    (λ c κs. search needs)
+    (λ c κs. (search (rest-shorter, needs), tt))
+    (λ c κs. search needs)
+    (λ c κs. (search (rest-shorter, needs), tt))
+    (λ c. search (excluded-except, needs))
+    (λ c. search (excluded-more, needs)))
+    λ t. clients-included-lts.spec (
+      element-span.Asked,
+      element-span.Learnt,
+      element.Asked,
+      element.Learnt,
+      is-except.Asked,
+      is-except.Learnt,
+      client-found.Asked,
+      client-found.Learnt,
+      after-element.Asked,
+      after-element.Learnt,
+      clients-excluded-below t,
+      clients-excluded.Post,
+      clients-included-below t,
+      clients-included.Post,
+    )
+    (clients-included-at t)
+    clients-included.Post
+    (λ c κs. search needs)
+    (λ c κs. search needs)
+    (λ c. search (included-none, needs))
+    (λ c κs. search needs)
+    (λ c. search (included-except, needs))
+    (λ c κs. search needs)
+    (λ c. search needs)
+    (λ c κs. search needs)
+    (λ c κs. (search (rest-shorter, needs), tt))
+    (λ c. search needs)
+    (λ c κs. search needs)
+    (λ c κs. (search (rest-shorter, needs), tt))
+    (λ c. search needs)
+    (λ c. search (included-yes, needs))
+    (λ c. search (included-no, needs))
+    (λ c. search (included-ask, needs))

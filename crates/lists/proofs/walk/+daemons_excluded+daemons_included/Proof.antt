@@ -1,0 +1,107 @@
+-- The sides of EXCEPT in a daemon list, `walk::daemons_included` and `walk::daemons_excluded`, meet their contracts, by the laws of the walk at what a
+-- daemon element finds. The measure of both is the length of the rest of the list. Assumes nothing.
+use Prim.Native.Nat.{ℕ, _<_}
+use borrow.Author.Needs.{needs}
+use borrow.Fn.Kinds.{In}
+use borrow.Fn.PlainCycle.{Measures, is, falls, and}
+use lib.ListN.{length}
+use Rattle.lines.proofs.RuleLaws.{rest-shorter}
+use Rattle.lines.proofs.rule.after_element.Reads as after-element
+use Rattle.lines.proofs.rule.element.Reads as element
+use Rattle.lines.proofs.rule.element_span.Reads as element-span
+use Rattle.lines.proofs.rule.is_except.Reads as is-except
+use Rattle.elements.proofs.element.daemon_found.Reads as daemon-found
+use Rattle.lists.proofs.WalkLaws.{included-none, included-except, included-yes, included-no, included-ask}
+use Rattle.lists.proofs.WalkLaws.{excluded-none, excluded-except, excluded-more}
+use Rattle.lists.proofs.walk.turned.Reads as turned
+use Rattle.lists.proofs.walk.daemons_excluded.Reads as daemons-excluded
+use Rattle.lists.proofs.walk.daemons_excluded.Kinds as daemons-excluded-kinds
+use Rattle.lists.proofs.walk.+daemons_excluded+daemons_included.Lts-daemons_excluded as daemons-excluded-lts
+use Rattle.lists.proofs.walk.daemons_included.Reads as daemons-included
+use Rattle.lists.proofs.walk.daemons_included.Kinds as daemons-included-kinds
+use Rattle.lists.proofs.walk.+daemons_excluded+daemons_included.Lts-daemons_included as daemons-included-lts
+use Rattle.lists.proofs.walk.+daemons_excluded+daemons_included.{statement}
+use Rattle.lists.proofs.walk.+daemons_excluded+daemons_included.Tie.{close}
+
+abbrev μ-daemons-excluded : Measures 3 daemons-excluded-kinds.ps ℕ
+μ-daemons-excluded κs a = length (a .0 .now)
+
+abbrev μ-daemons-included : Measures 3 daemons-included-kinds.ps ℕ
+μ-daemons-included κs a = length (a .0 .now)
+
+abbrev daemons-excluded-at : ℕ → In 3 daemons-excluded-kinds.ps
+daemons-excluded-at t = and 3 daemons-excluded-kinds.ps (is 3 daemons-excluded-kinds.ps μ-daemons-excluded t) daemons-excluded.Pre
+
+abbrev daemons-excluded-below : ℕ → In 3 daemons-excluded-kinds.ps
+daemons-excluded-below t = and 3 daemons-excluded-kinds.ps (falls 3 daemons-excluded-kinds.ps _<_ μ-daemons-excluded t) daemons-excluded.Pre
+
+abbrev daemons-included-at : ℕ → In 3 daemons-included-kinds.ps
+daemons-included-at t = and 3 daemons-included-kinds.ps (is 3 daemons-included-kinds.ps μ-daemons-included t) daemons-included.Pre
+
+abbrev daemons-included-below : ℕ → In 3 daemons-included-kinds.ps
+daemons-included-below t = and 3 daemons-included-kinds.ps (falls 3 daemons-included-kinds.ps _<_ μ-daemons-included t) daemons-included.Pre
+
+pub +daemons-excluded+daemons-included-spec : {M : Type 1} → statement M
++daemons-excluded+daemons-included-spec =
+    close μ-daemons-excluded μ-daemons-included (λ t. daemons-excluded-lts.spec (
+      element-span.Asked,
+      element-span.Learnt,
+      element.Asked,
+      element.Learnt,
+      after-element.Asked,
+      after-element.Learnt,
+      is-except.Asked,
+      is-except.Learnt,
+      daemons-included-below t,
+      daemons-included.Post,
+      turned.Asked,
+      turned.Learnt,
+      daemons-excluded-below t,
+      daemons-excluded.Post,
+    )
+    (daemons-excluded-at t)
+    daemons-excluded.Post
+    (λ c κs. search needs)
+    (λ c κs. search needs)
+    (λ c. search (excluded-none, needs))
+    (λ c κs. search needs)
+    (λ c κs. search needs)
+    (λ c κs. (search (rest-shorter, needs), tt))
+    (λ c κs. search needs)
+    (λ c κs. (search (rest-shorter, needs), tt))
+    (λ c. search (excluded-except, needs))
+    (λ c. search (excluded-more, needs)))
+    λ t. daemons-included-lts.spec (
+      element-span.Asked,
+      element-span.Learnt,
+      element.Asked,
+      element.Learnt,
+      is-except.Asked,
+      is-except.Learnt,
+      daemon-found.Asked,
+      daemon-found.Learnt,
+      after-element.Asked,
+      after-element.Learnt,
+      daemons-excluded-below t,
+      daemons-excluded.Post,
+      daemons-included-below t,
+      daemons-included.Post,
+    )
+    (daemons-included-at t)
+    daemons-included.Post
+    (λ c κs. search needs)
+    (λ c κs. search needs)
+    (λ c. search (included-none, needs))
+    (λ c κs. search needs)
+    (λ c. search (included-except, needs))
+    (λ c κs. search needs)
+    (λ c. search needs)
+    (λ c κs. search needs)
+    (λ c κs. (search (rest-shorter, needs), tt))
+    (λ c. search needs)
+    (λ c κs. search needs)
+    (λ c κs. (search (rest-shorter, needs), tt))
+    (λ c. search needs)
+    (λ c. search (included-yes, needs))
+    (λ c. search (included-no, needs))
+    (λ c. search (included-ask, needs))

@@ -1,0 +1,38 @@
+-- Document 01, "Numbers the gate answers with": 7 to 11, of one rule.
+--   ruleFault o == the lowest number given to the rule o, none where a line has no first separator
+-- Not here: the test of 11 (lines, Command.antt).
+-- Assumes nothing: these are definitions.
+use Prim.Native.Nat.{ℕ}
+use mathlib.Core.Bool.{Bool, false, not, _&&_, _||_}
+use mathlib.Core.List.{List, [], _∷_, _++_}
+use mathlib.Core.Option.{Option, none, some}
+use Rattle.text.specs.Basics.{isSome, any, all}
+use Rattle.section.specs.declared.Fault.{Fault}
+use Rattle.section.specs.declared.Fault.the-variants as F
+use Rattle.section.specs.Refusal.{lowest}
+use Rattle.lines.specs.Rule.{Rule, isExcept}
+use Rattle.lines.specs.Command.{hasBadPercent}
+use Rattle.elements.specs.Element.{Element, reservedStart, daemonElement, clientElement}
+
+-- 7: "a list with no element (EXCEPT is none)"
+abbrev pub hasNoElement : List (List ℕ) → Bool
+hasNoElement ws = all isExcept ws
+
+-- 8: "EXCEPT not directly between two elements"; after: whether an element stands directly before
+unfoldable pub exceptMisplaced : Bool → List (List ℕ) → Bool
+exceptMisplaced after [] = not after
+exceptMisplaced after (w ∷ ws) = isExcept w && not after || exceptMisplaced (not (isExcept w)) ws
+
+-- 10: "any other element not among the kinds below"
+abbrev pub hasUnknown : (List ℕ → Element) → List (List ℕ) → Bool
+hasUnknown kind ws = any (λ e. not (isSome (kind e))) ws
+
+-- the lowest of 7 to 11; 7 too where there is "no first separator"
+unfoldable pub ruleFault : Option Rule → Option Fault
+ruleFault none = some F.NoElement
+ruleFault (some r) = lowest
+    ((F.NoElement, hasNoElement (r .daemons) || hasNoElement (r .clients))
+    ∷ (F.MisplacedExcept, exceptMisplaced false (r .daemons) || exceptMisplaced false (r .clients))
+    ∷ (F.ReservedStart, any reservedStart (r .daemons ++ r .clients))
+    ∷ (F.UnknownElement, hasUnknown daemonElement (r .daemons) || hasUnknown clientElement (r .clients))
+    ∷ (F.BadPercent, hasBadPercent (r .command)) ∷ [])

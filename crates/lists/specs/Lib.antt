@@ -1,0 +1,4 @@
+pub mod Check
+pub mod Walk
+pub mod Code
+pub mod ListCode

@@ -1,0 +1,103 @@
+-- What the inner contracts of checking one rule, and of looking at it, cite. Nothing here needs to be believed for the meaning of
+-- document 01: the public promises are stated over Check and Search alone.
+--   listStart                == what is found before the first element
+--   listCheck kind ws        == what checking the list ws finds, kind saying what its elements are
+--   listMore c after x f     == c, one element further: x says whether that is EXCEPT, f what is wrong with it
+--   listEnd c after          == c at the list's end
+--   listFrom kind after c ws == c, checked on through ws; after: whether an element stands directly before
+--   lowestOf d c bad         == the lowest fault of a rule with the lists d and c; bad: whether a percent of its command is
+--   restFault d s            == the same where s follows the first separator
+--   daemonFinds d s e, clientFinds c u n e == what the element e of a daemon list, of a client list, finds
+-- Assumes nothing: these are definitions.
+use Prim.Native.Nat.{ℕ}
+use mathlib.Core.Bool.{Bool, true, false, not, _&&_, _||_}
+use mathlib.Core.List.{List, [], _∷_}
+use lib.ListN.{take}
+use Rattle.text.specs.Basics.{if_then_else_, isSome, any}
+use Rattle.section.specs.declared.Fault.the-variants as F
+use Rattle.lines.specs.Parts.{separatorIndex, afterSeparator, words, trimBlanks, anyBadPercent}
+use Rattle.elements.specs.declared.Found.{Found}
+use Rattle.elements.specs.declared.Found.the-variants as N
+use Rattle.elements.specs.declared.User.{User}
+use Rattle.elements.specs.declared.element.ElementFault.{ElementFault}
+use Rattle.elements.specs.declared.element.ElementFault.the-variants as E
+use Rattle.elements.specs.Code.{daemonRequest, clientRequest}
+use Rattle.elements.specs.Request.{Endpoint}
+use Rattle.elements.specs.Element.{Element, reservedStart, daemonElement, clientElement, lookAt}
+use Rattle.lists.specs.declared.Checked.{Checked}
+use Rattle.lists.specs.declared.Checked.the-variants as C
+use Rattle.lists.specs.declared.check.ListCheck.{ListCheck}
+use Rattle.lists.specs.Check.{hasNoElement, exceptMisplaced}
+use Rattle.lists.specs.Walk.{onFound}
+
+-- ## Checking a list
+
+-- an element of reserved start counts too: 9 is answered before 10
+abbrev pub isUnsound : (List ℕ → Element) → List ℕ → Bool
+isUnsound kind e = reservedStart e || not (isSome (kind e))
+
+abbrev pub checks : Bool → Bool → Bool → Bool → ListCheck
+checks e m r u = record { empty = e; misplaced = m; reserved = r; unsound = u }
+
+unfoldable pub listCheck : (List ℕ → Element) → List (List ℕ) → ListCheck
+listCheck kind ws = checks (hasNoElement ws) (exceptMisplaced false ws) (any reservedStart ws) (any (isUnsound kind) ws)
+
+abbrev pub listStart : ListCheck
+listStart = checks true false false false
+
+unfoldable pub listFrom : (List ℕ → Element) → Bool → ListCheck → List (List ℕ) → ListCheck
+listFrom kind after c ws =
+    checks
+    (c .empty && hasNoElement ws)
+    (c .misplaced || exceptMisplaced after ws)
+    (c .reserved || any reservedStart ws)
+    (c .unsound || any (isUnsound kind) ws)
+
+abbrev pub isReserved : ElementFault → Bool
+isReserved E.Sound = false
+isReserved E.Reserved = true
+isReserved E.Unknown = false
+
+abbrev pub isFault : ElementFault → Bool
+isFault E.Sound = false
+isFault E.Reserved = true
+isFault E.Unknown = true
+
+unfoldable pub listMore : ListCheck → Bool → Bool → ElementFault → ListCheck
+listMore c after x f = checks (c .empty && x) (c .misplaced || x && not after) (c .reserved || isReserved f) (c .unsound || isFault f)
+
+abbrev pub listEnd : ListCheck → Bool → ListCheck
+listEnd c after = checks (c .empty) (c .misplaced || not after) (c .reserved) (c .unsound)
+
+-- ## Checking a rule
+
+unfoldable pub lowestOf : ListCheck → ListCheck → Bool → Checked
+lowestOf d c bad =
+    if d .empty || c .empty then C.Faulty F.NoElement
+    else if d .misplaced || c .misplaced then C.Faulty F.MisplacedExcept
+    else if d .reserved || c .reserved then C.Faulty F.ReservedStart
+    else if d .unsound || c .unsound then C.Faulty F.UnknownElement
+    else if bad then C.Faulty F.BadPercent
+    else C.Sound
+
+-- the client list and the command, where s follows the first separator
+abbrev pub clientWords : List ℕ → List (List ℕ)
+clientWords s = words (take (separatorIndex false s) s)
+
+abbrev pub badCommandAfter : ℕ → List ℕ → Bool
+badCommandAfter j s = anyBadPercent (trimBlanks (afterSeparator j s))
+
+unfoldable pub restFault : ListCheck → List ℕ → Checked
+restFault d s = lowestOf d (listCheck clientElement (clientWords s)) (badCommandAfter (separatorIndex false s) s)
+
+-- ## Looking at a list
+
+-- what the list after EXCEPT finds, turned round
+abbrev pub turned : Found → Found
+turned f = onFound f N.No N.Yes
+
+abbrev pub daemonFinds : List ℕ → Endpoint → List ℕ → Found
+daemonFinds daemon server e = lookAt (daemonRequest daemon server) (daemonElement e)
+
+abbrev pub clientFinds : Endpoint → User → List ℕ → List ℕ → Found
+clientFinds client user name e = lookAt (clientRequest client user name) (clientElement e)

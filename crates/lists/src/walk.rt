@@ -1,0 +1,160 @@
+// What one rule finds of a request.
+//   rule_found(t, ..) == what the rule in the joined line t finds
+// Each side of EXCEPT is a function of its own, and calls the other over the rest of the list.
+ghost use mathlib.Core.Path.{_≡_};
+ghost use Rattle.lines.specs.Parts.{words};
+ghost use Rattle.elements.specs.Request.{endpoint, requestOf};
+ghost use Rattle.lists.specs.Walk.{included, excluded};
+ghost use Rattle.lists.specs.Code.{NoNewline, lineFound};
+ghost use Rattle.lists.specs.ListCode.{turned, daemonFinds, clientFinds, clientWords};
+use elements::Found;
+use elements::Host;
+use elements::User;
+use elements::element;
+use lines::rule;
+
+// What the list after EXCEPT finds, turned round.
+fn turned(f: Found) -> Found
+    ensures { λ r. ⌜ r ≡ turned f ⌝ }
+{
+    match f {
+        Found::Yes => Found::No,
+        Found::No => Found::Yes,
+        Found::Ask => f,
+    }
+}
+
+// What the daemon list s finds.
+fn daemons_included(s: &[u8], daemon: &[u8], server: Host, server_name: &[u8]) -> Found
+    ensures { λ r. ⌜ r ≡ included (daemonFinds (now (daemon .entry)) (endpoint server (now («server_name» .entry)))) (words (now (s .entry))) ⌝ }
+{
+    let at = rule::element_span(s);
+    let w = rule::element(s, at);
+    if w.len() == 0 {
+        return Found::No;
+    }
+    if rule::is_except(w) {
+        return Found::No;
+    }
+    match element::daemon_found(w, daemon, server, server_name) {
+        Found::Yes => daemons_excluded(rule::after_element(s, at), daemon, server, server_name),
+        Found::No => daemons_included(rule::after_element(s, at), daemon, server, server_name),
+        Found::Ask => Found::Ask,
+    }
+}
+
+// What is left of it, s, finds once an element matched.
+fn daemons_excluded(s: &[u8], daemon: &[u8], server: Host, server_name: &[u8]) -> Found
+    ensures { λ r. ⌜ r ≡ excluded (daemonFinds (now (daemon .entry)) (endpoint server (now («server_name» .entry)))) (words (now (s .entry))) ⌝ }
+{
+    let at = rule::element_span(s);
+    let w = rule::element(s, at);
+    if w.len() == 0 {
+        return Found::Yes;
+    }
+    let rest = rule::after_element(s, at);
+    if rule::is_except(w) {
+        turned(daemons_included(rest, daemon, server, server_name))
+    } else {
+        daemons_excluded(rest, daemon, server, server_name)
+    }
+}
+
+// What the client list s finds.
+fn clients_included(
+    s: &[u8],
+    client: Host,
+    client_name: &[u8],
+    user: User,
+    user_name: &[u8],
+) -> Found
+    ensures { λ r. ⌜ r ≡ included (clientFinds (endpoint client (now («client_name» .entry))) user (now («user_name» .entry))) (words (now (s .entry))) ⌝ }
+{
+    let at = rule::element_span(s);
+    let w = rule::element(s, at);
+    if w.len() == 0 {
+        return Found::No;
+    }
+    if rule::is_except(w) {
+        return Found::No;
+    }
+    match element::client_found(w, client, client_name, user, user_name) {
+        Found::Yes => clients_excluded(
+            rule::after_element(s, at),
+            client,
+            client_name,
+            user,
+            user_name,
+        ),
+        Found::No => clients_included(
+            rule::after_element(s, at),
+            client,
+            client_name,
+            user,
+            user_name,
+        ),
+        Found::Ask => Found::Ask,
+    }
+}
+
+// What is left of it, s, finds once an element matched.
+fn clients_excluded(
+    s: &[u8],
+    client: Host,
+    client_name: &[u8],
+    user: User,
+    user_name: &[u8],
+) -> Found
+    ensures { λ r. ⌜ r ≡ excluded (clientFinds (endpoint client (now («client_name» .entry))) user (now («user_name» .entry))) (words (now (s .entry))) ⌝ }
+{
+    let at = rule::element_span(s);
+    let w = rule::element(s, at);
+    if w.len() == 0 {
+        return Found::Yes;
+    }
+    let rest = rule::after_element(s, at);
+    if rule::is_except(w) {
+        turned(clients_included(rest, client, client_name, user, user_name))
+    } else {
+        clients_excluded(rest, client, client_name, user, user_name)
+    }
+}
+
+// What the client list finds, with s after the first separator.
+fn rest_found(s: &[u8], client: Host, client_name: &[u8], user: User, user_name: &[u8]) -> Found
+    ensures { λ r. ⌜ r ≡ included (clientFinds (endpoint client (now («client_name» .entry))) user (now («user_name» .entry))) (clientWords (now (s .entry))) ⌝ }
+{
+    let j = rule::separator(s);
+    clients_included(&s[..j], client, client_name, user, user_name)
+}
+
+// What the rule in the joined line t finds; its client list is looked at only if its daemon list matched.
+pub fn rule_found(
+    t: &[u8],
+    daemon: &[u8],
+    client: Host,
+    client_name: &[u8],
+    server: Host,
+    server_name: &[u8],
+    user: User,
+    user_name: &[u8],
+) -> Found
+    requires { ⌜ NoNewline (now t) ⌝ }
+    ensures { λ r. ⌜ r ≡ lineFound (requestOf (now (daemon .entry)) (endpoint client (now («client_name» .entry))) (endpoint server (now («server_name» .entry))) user (now («user_name» .entry))) (now (t .entry)) ⌝ }
+{
+    let i = rule::separator(t);
+    if t.len() <= i {
+        return Found::No;
+    }
+    match daemons_included(&t[..i], daemon, server, server_name) {
+        Found::Yes => rest_found(
+            rule::after_separator(t, i),
+            client,
+            client_name,
+            user,
+            user_name,
+        ),
+        Found::No => Found::No,
+        Found::Ask => Found::Ask,
+    }
+}
