@@ -12,7 +12,7 @@ use Rattle.lines.specs.Line as Line
 use Rattle.lines.specs.Rule as Rule
 use Rattle.lines.specs.Command as Command
 use Rattle.elements.specs.Request as Request
-use Rattle.elements.specs.Pattern as Pattern
+use Rattle.patterns.specs.Pattern as Pattern
 use Rattle.elements.specs.Element as Element
 use Rattle.lists.specs.Check as ListCheck
 use Rattle.lists.specs.Walk as Walk

@@ -16,9 +16,10 @@ use Rattle.address.specs.Address.{readAddress, writeAddress}
 use Rattle.lines.specs.Rule.{elements}
 use Rattle.elements.specs.declared.Found.{Found}
 use Rattle.elements.specs.declared.Found.the-variants.{No, Yes}
-use Rattle.elements.specs.declared.Name.the-variants as N
+use Rattle.patterns.specs.declared.Name.the-variants as N
 use Rattle.elements.specs.declared.User.the-variants as U
-use Rattle.elements.specs.Request.{Endpoint, Request, wellFormed}
+use Rattle.patterns.specs.Host.{Endpoint}
+use Rattle.elements.specs.Request.{Request, wellFormed}
 use Rattle.elements.specs.Element.{clientElement, lookAt}
 use Rattle.lists.specs.Walk.{included}
 use Rattle.rules.specs.declared.Verdict.the-variants.{Granted, Denied}

@@ -17,19 +17,21 @@ use Rattle.text.specs.Basics.{if_then_else_, _>>=_, _orElse_, given, holds, isS
 use Rattle.text.specs.Text.{bytes, firstAmong, inRange, lower, equal, equalFold, isWord}
 use Rattle.text.specs.Scan.{indexOf}
 use Rattle.text.proofs.ScanLaws.{take-rest, splitOnce-mark, splitOnce-no-mark, eq-of-equal}
+use Rattle.patterns.specs.declared.pattern.Wildcard.{Wildcard}
+use Rattle.patterns.specs.declared.pattern.Wildcard.the-variants as W
+use Rattle.patterns.specs.Host.{Endpoint, nameCase}
+use Rattle.patterns.specs.Pattern.{Pattern, isNameByte, hostPattern}
+use Rattle.patterns.specs.Code.{wildcardOf, wildcardPattern, matchesPattern, hostMatches}
+use Rattle.patterns.proofs.TestLaws.{firstAmong-head, indexOf-length}
+use Rattle.patterns.proofs.PatternLaws.{wildcard-of, isSome-given}
 use Rattle.elements.specs.declared.User.{User}
 use Rattle.elements.specs.declared.User.the-variants as U
 use Rattle.elements.specs.declared.Found.{Found}
 use Rattle.elements.specs.declared.Found.the-variants.{No, Ask}
-use Rattle.elements.specs.declared.pattern.Wildcard.{Wildcard}
-use Rattle.elements.specs.declared.pattern.Wildcard.the-variants as W
 use Rattle.elements.specs.declared.element.ElementFault.the-variants as E
-use Rattle.elements.specs.Request.{Endpoint, Request, requestOf, nameCase, userCase, wellFormed}
-use Rattle.elements.specs.Pattern.{Pattern, isNameByte, hostPattern}
+use Rattle.elements.specs.Request.{Request, requestOf, userCase, wellFormed}
 use Rattle.elements.specs.Element.{Element, halves, reservedStart, isPlainName, daemonName, userHalf, foundIf, daemonParts, clientParts, daemonElement, clientElement, lookAt}
-use Rattle.elements.specs.Code.{elementFault, userFits, wildcardOf, wildcardPattern, matchesPattern, hostMatches, atSign, nameFits, nameEquals, userTest, userFound, askIf, nobody, daemonRequest, clientRequest}
-use Rattle.elements.proofs.TestLaws.{firstAmong-head, indexOf-length}
-use Rattle.elements.proofs.PatternLaws.{wildcard-of, isSome-given}
+use Rattle.elements.specs.Code.{elementFault, userFits, atSign, nameFits, nameEquals, userTest, userFound, askIf, nobody, daemonRequest, clientRequest}
 
 -- ## Halves
 

@@ -1,5 +1,1 @@
-pub mod TestLaws
-pub mod PatternLaws
-pub mod NetLaws
-pub mod CoverLaws
 pub mod ElementLaws

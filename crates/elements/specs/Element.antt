@@ -10,10 +10,10 @@ use mathlib.Core.Option.{Option, none, some}
 use lib.ListN.{length}
 use Rattle.text.specs.Basics.{if_then_else_, _>>=_, _orElse_, given, holds, isSome, all}
 use Rattle.text.specs.Text.{bytes, firstAmong, consFirst, splitOnce, inRange, equalFold, isWord}
+use Rattle.patterns.specs.Pattern.{wildcard, isNameByte, hostPattern}
 use Rattle.elements.specs.declared.Found.{Found}
 use Rattle.elements.specs.declared.Found.the-variants.{No, Yes, Ask}
 use Rattle.elements.specs.Request.{Request, userCase}
-use Rattle.elements.specs.Pattern.{wildcard, isNameByte, hostPattern}
 
 abbrev pub Element : Type 0
 Element = Option (Request → Found)

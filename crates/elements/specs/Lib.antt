@@ -1,4 +1,3 @@
 pub mod Request
-pub mod Pattern
 pub mod Element
 pub mod Code

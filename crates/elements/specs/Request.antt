@@ -1,24 +1,16 @@
 -- Document 01, "Elements", "Asking" and "The words of demand 3": what a request is.
---   nameCase h .., userCase r .. == a value for each state of a name, of a user
---   wellFormed r                 == every field is within its size
---   withUser r u name           == the request alike in all else, with that user
+--   userCase r ..     == a value for each state of a user
+--   wellFormed r      == every field is within its size
+--   withUser r u name == the request alike in all else, with that user
 -- Assumes nothing: these are definitions.
 use Prim.Native.Nat.{ℕ}
-use mathlib.Core.Bool.{Bool, true, false, not, _&&_}
+use mathlib.Core.Bool.{Bool, true, _&&_}
 use mathlib.Core.List.{List}
 use lib.ListN.{length}
 use Rattle.text.specs.Text.{inRange}
-use Rattle.address.specs.Address.{addrCase}
-use Rattle.elements.specs.declared.Name.{Name}
-use Rattle.elements.specs.declared.Name.the-variants as N
-use Rattle.elements.specs.declared.Host.{Host}
+use Rattle.patterns.specs.Host.{Endpoint, nameCase}
 use Rattle.elements.specs.declared.User.{User}
 use Rattle.elements.specs.declared.User.the-variants as U
-
--- "A host is a name state and an address state together", the bytes of a known name beside it
-pub record Endpoint : Type 0 where
-  pub host : Host
-  pub name : List ℕ
 
 -- "A request for a verdict is daemon, client host, server host and user", the bytes of a known user beside it
 pub record Request : Type 0 where
@@ -28,23 +20,11 @@ pub record Request : Type 0 where
   pub user : User
   pub userName : List ℕ
 
-abbrev pub endpoint : Host → List ℕ → Endpoint
-endpoint h name = record { host = h; name = name }
-
 abbrev pub requestOf : List ℕ → Endpoint → Endpoint → User → List ℕ → Request
 requestOf d c s u name = record { daemon = d; client = c; server = s; user = u; userName = name }
 
-abbrev pub nameCase {ℓ} : {B : Type ℓ} → Endpoint → B → B → B → B
-nameCase h unknown paranoid known = elim (h .host .name) [ N.Unknown ↦ unknown | N.Paranoid ↦ paranoid | N.Known ↦ known ]
-
 abbrev pub userCase {ℓ} : {B : Type ℓ} → Request → B → B → B → B
 userCase r notFetched unknown known = elim (r .user) [ U.NotFetched ↦ notFetched | U.Unknown ↦ unknown | U.Known ↦ known ]
-
-abbrev pub nameKnown : Endpoint → Bool
-nameKnown h = nameCase h false false true
-
-abbrev pub addrKnown : Endpoint → Bool
-addrKnown h = addrCase (h .host .addr) false (λ n. true) (λ n. true)
 
 -- 13: "a request field outside its size or its kinds": "`%d` daemon (1 to 64 bytes)", a known name "(1 to 255 bytes,
 -- any values)", a known user "(1 to 64 bytes, any values)"

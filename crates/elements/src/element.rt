@@ -1,13 +1,13 @@
 // The elements of daemon and client lists: whether a text is one, and what it finds of a request.
 use super::Found;
-use super::Host;
-use super::Name;
 use super::User;
-use super::pattern::Wildcard;
-use super::pattern::host_matches;
-use super::pattern::host_sound;
-use super::pattern::is_name;
-use super::pattern::read_wildcard;
+use patterns::Host;
+use patterns::Name;
+use patterns::pattern::Wildcard;
+use patterns::pattern::host_matches;
+use patterns::pattern::host_sound;
+use patterns::pattern::is_name;
+use patterns::pattern::read_wildcard;
 use text::equal_fold;
 ghost use mathlib.Core.Path.{_≡_};
 ghost use mathlib.Core.Bool.{true};
@@ -16,7 +16,8 @@ ghost use Prim.Native.Nat.{_≤_};
 ghost use lib.ListN.{length};
 ghost use Rattle.text.specs.Basics.{holds, isSome};
 ghost use Rattle.text.specs.Text.{firstAmong, inRange};
-ghost use Rattle.elements.specs.Request.{endpoint, requestOf, nameCase, wellFormed};
+ghost use Rattle.patterns.specs.Host.{endpoint, nameCase};
+ghost use Rattle.elements.specs.Request.{requestOf, wellFormed};
 ghost use Rattle.elements.specs.Element.{reservedStart, foundIf, daemonName, userHalf, daemonElement, clientElement, lookAt};
 ghost use Rattle.elements.specs.Code.{elementFault, daemonRequest, clientRequest, atSign, nameFits, nameEquals, askIf, userTest, userFound, userFits};
 

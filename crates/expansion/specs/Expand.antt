@@ -18,7 +18,8 @@ use Rattle.section.specs.Refusal.{Outcome, _>>=_, lowest, atPlace, refusing, wi
 use Rattle.address.specs.Address.{addrText}
 use Rattle.lines.specs.Line.{join, hasBadByte, isTooLong}
 use Rattle.lines.specs.Command.{Piece, literal, directive, pieces, isDirective, trimmed, hasBadPercent}
-use Rattle.elements.specs.Request.{Endpoint, Request, nameCase, userCase, nameKnown, addrKnown, wellFormed}
+use Rattle.patterns.specs.Host.{Endpoint, nameCase, nameKnown, addrKnown}
+use Rattle.elements.specs.Request.{Request, userCase, wellFormed}
 
 -- "`%n %N` name, or `unknown`, or `paranoid`; `%h %H` the known name, else the address"
 abbrev pub nameText : Endpoint → List ℕ

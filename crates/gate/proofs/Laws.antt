@@ -10,10 +10,11 @@ use Rattle.text.specs.Basics.{_>>=_}
 use Rattle.section.specs.Refusal.{Outcome, refused, answered}
 use Rattle.address.specs.declared.Addr.{Addr}
 use Rattle.address.specs.declared.Addr.the-variants as A
-use Rattle.elements.specs.declared.Name.{Name}
-use Rattle.elements.specs.declared.Host.{Host}
+use Rattle.patterns.specs.declared.Name.{Name}
+use Rattle.patterns.specs.declared.Host.{Host}
 use Rattle.elements.specs.declared.User.{User}
-use Rattle.elements.specs.Request.{endpoint, requestOf}
+use Rattle.patterns.specs.Host.{endpoint}
+use Rattle.elements.specs.Request.{requestOf}
 use Rattle.rules.specs.declared.Answer.{Answer}
 use Rattle.rules.specs.declared.Ruling.{Ruling as VerdictRuling}
 use Rattle.rules.specs.declared.Ruling.the-variants as R

@@ -9,11 +9,11 @@ use Rattle.rules.specs.declared.Ruling.{Ruling as VerdictRuling}
 use Rattle.rules.specs.declared.Ruling.the-variants as R
 use Rattle.gate.specs.declared.GateAnswer.{GateAnswer}
 use Rattle.gate.specs.Gate.{gateAnswer, refusalAnswer, answerNumbers, byuidCode, portaclCode}
-use Rattle.elements.specs.declared.Name.{Name}
+use Rattle.patterns.specs.declared.Name.{Name}
 use Rattle.elements.specs.declared.User.{User}
 use Rattle.portacl.specs.declared.Protocol.{Protocol}
 use Rattle.address.specs.declared.Addr.{Addr}
-use Rattle.elements.specs.declared.Host.{Host}
+use Rattle.patterns.specs.declared.Host.{Host}
 use Rattle.gate.specs.declared.NameRead.{NameRead}
 use Rattle.gate.specs.declared.NameRead.the-variants as OfName
 use Rattle.gate.specs.declared.UserRead.{UserRead}

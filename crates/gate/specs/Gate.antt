@@ -12,12 +12,13 @@ use Rattle.section.specs.declared.Refusal.{Refusal}
 use Rattle.section.specs.Refusal.{Outcome, refused, answered, faultNumber}
 use Rattle.address.specs.declared.Addr.{Addr}
 use Rattle.address.specs.declared.Addr.the-variants as A
-use Rattle.elements.specs.declared.Name.{Name}
-use Rattle.elements.specs.declared.Name.the-variants as N
+use Rattle.patterns.specs.declared.Name.{Name}
+use Rattle.patterns.specs.declared.Name.the-variants as N
 use Rattle.elements.specs.declared.User.{User}
 use Rattle.elements.specs.declared.User.the-variants as U
-use Rattle.elements.specs.declared.Host.{Host}
-use Rattle.elements.specs.Request.{Request, endpoint, requestOf}
+use Rattle.patterns.specs.declared.Host.{Host}
+use Rattle.patterns.specs.Host.{endpoint}
+use Rattle.elements.specs.Request.{Request, requestOf}
 use Rattle.rules.specs.declared.Answer.{Answer}
 use Rattle.rules.specs.declared.Verdict.{Verdict}
 use Rattle.rules.specs.declared.Verdict.the-variants as Ver

@@ -2,14 +2,15 @@
 //   gate_verdict, gate_byuid, gate_portacl == the decisions of rules, byuid and portacl
 // A number outside its kinds is refused by 13, after every check of the texts.
 use address::Addr;
-use elements::Host;
-use elements::Name;
 use elements::User;
+use patterns::Host;
+use patterns::Name;
 use portacl::Protocol;
 use portacl::Settings;
 ghost use mathlib.Core.Path.{_≡_};
 ghost use mathlib.Core.Option.{Option};
-ghost use Rattle.elements.specs.Request.{endpoint, requestOf};
+ghost use Rattle.patterns.specs.Host.{endpoint};
+ghost use Rattle.elements.specs.Request.{requestOf};
 ghost use Rattle.rules.specs.Search.{decide as decideBy, fileSection};
 ghost use Rattle.byuid.specs.Byuid.{decideByuid};
 ghost use Rattle.portacl.specs.Portacl.{decidePortacl};

@@ -1,9 +1,9 @@
 // The examples of document 000, every number that a rule can be refused by, and what is easy to get wrong. Each case prints its
 // sentence and what the gate answers.
 use address::Addr;
-use elements::Host;
-use elements::Name;
 use elements::User;
+use patterns::Host;
+use patterns::Name;
 
 // The verdict on a client, for the daemon sshd at the server 192.0.2.1, of no known user.
 fn client<'a>(

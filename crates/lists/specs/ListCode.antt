@@ -1,5 +1,5 @@
 -- What the inner contracts of checking one rule, and of looking at it, cite. Nothing here needs to be believed for the meaning of
--- document 01: the public promises are stated over Check and Search alone.
+-- document 01: the promises of the two calls are stated over Check, Walk and Code.
 --   listStart                == what is found before the first element
 --   listCheck kind ws        == what checking the list ws finds, kind saying what its elements are
 --   listMore c after x f     == c, one element further: x says whether that is EXCEPT, f what is wrong with it
@@ -22,7 +22,7 @@ use Rattle.elements.specs.declared.User.{User}
 use Rattle.elements.specs.declared.element.ElementFault.{ElementFault}
 use Rattle.elements.specs.declared.element.ElementFault.the-variants as E
 use Rattle.elements.specs.Code.{daemonRequest, clientRequest}
-use Rattle.elements.specs.Request.{Endpoint}
+use Rattle.patterns.specs.Host.{Endpoint}
 use Rattle.elements.specs.Element.{Element, reservedStart, daemonElement, clientElement, lookAt}
 use Rattle.lists.specs.declared.Checked.{Checked}
 use Rattle.lists.specs.declared.Checked.the-variants as C

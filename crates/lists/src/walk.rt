@@ -3,15 +3,16 @@
 // Each side of EXCEPT is a function of its own, and calls the other over the rest of the list.
 ghost use mathlib.Core.Path.{_≡_};
 ghost use Rattle.lines.specs.Parts.{words};
-ghost use Rattle.elements.specs.Request.{endpoint, requestOf};
+ghost use Rattle.patterns.specs.Host.{endpoint};
+ghost use Rattle.elements.specs.Request.{requestOf};
 ghost use Rattle.lists.specs.Walk.{included, excluded};
 ghost use Rattle.lists.specs.Code.{NoNewline, lineFound};
 ghost use Rattle.lists.specs.ListCode.{turned, daemonFinds, clientFinds, clientWords};
 use elements::Found;
-use elements::Host;
 use elements::User;
 use elements::element;
 use lines::rule;
+use patterns::Host;
 
 // What the list after EXCEPT finds, turned round.
 fn turned(f: Found) -> Found

@@ -5,12 +5,13 @@ pub mod hosts_file;
 
 ghost use mathlib.Core.Path.{_≡_};
 ghost use lib.ListN.{take, drop};
-ghost use Rattle.elements.specs.Request.{requestOf, endpoint};
+ghost use Rattle.patterns.specs.Host.{endpoint};
+ghost use Rattle.elements.specs.Request.{requestOf};
 ghost use Rattle.rules.specs.Search.{decide as decideBy, rulingOf, commandBytes};
 ghost use Rattle.rules.specs.FileCode.{isUnmatched, onward, passBoth, refusingRequest, rulingBy};
-use elements::Host;
 use elements::User;
 use hosts_file::Pass;
+use patterns::Host;
 use section::Fault;
 use section::Part;
 use section::Refusal;

@@ -3,7 +3,8 @@
 use borrow.Author.Needs.{needs}
 use Prim.Native.Nat.{_-_}
 use lib.ListN.{length}
-use Rattle.elements.specs.Request.{Request, requestOf, endpoint}
+use Rattle.patterns.specs.Host.{endpoint}
+use Rattle.elements.specs.Request.{Request, requestOf}
 use Rattle.rules.specs.FileCode.{passText}
 use Rattle.rules.proofs.FileLaws.{Passing, passing-start, passing-more, passing-found, passing-end, pass-stop, step-less}
 use Rattle.rules.proofs.hosts_file.pass_file.Statement.{statement}

@@ -1,8 +1,0 @@
--- `elements::pattern::domain_matches` meets its contract. A known name that is covered. Assumes nothing.
-use borrow.Author.Needs.{needs}
-use Rattle.elements.proofs.PatternLaws.{domainPattern-matches}
-use Rattle.elements.proofs.pattern.domain_matches.Statement.{statement}
-use Rattle.elements.proofs.pattern.domain_matches.Tie as tie
-
-pub domain-matches-spec : {M : Type 1} → statement M
-domain-matches-spec = tie.close (tie.spec (λ c κs. search needs) (λ c κs. search needs) (λ c. search (domainPattern-matches, needs)))

@@ -1,0 +1,4 @@
+pub mod TestLaws
+pub mod PatternLaws
+pub mod NetLaws
+pub mod CoverLaws

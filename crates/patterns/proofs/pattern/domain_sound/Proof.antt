@@ -1,0 +1,14 @@
+-- `patterns::pattern::domain_sound` meets its contract. The tests of the length and of the bytes are those of the definition. Assumes nothing.
+use borrow.Author.Needs.{needs}
+use Rattle.patterns.proofs.PatternLaws.{domainPattern-short, domainPattern-long, domainPattern-fits}
+use Rattle.patterns.proofs.pattern.domain_sound.Statement.{statement}
+use Rattle.patterns.proofs.pattern.domain_sound.Tie as tie
+
+pub domain-sound-spec : {M : Type 1} → statement M
+domain-sound-spec =
+    tie.close
+    (tie.spec
+    (λ c. search (domainPattern-short, needs))
+    (λ c. search (domainPattern-long, needs))
+    (λ c κs. search needs)
+    (λ c. search (domainPattern-fits, needs)))

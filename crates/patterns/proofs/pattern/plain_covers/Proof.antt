@@ -1,0 +1,14 @@
+-- `patterns::pattern::plain_covers` meets its contract. What covers is tried first, and the pattern checked only then. Assumes nothing.
+use borrow.Author.Needs.{needs}
+use Rattle.patterns.proofs.PatternLaws.{plainCovers-same, plainCovers-differs}
+use Rattle.patterns.proofs.pattern.plain_covers.Statement.{statement}
+use Rattle.patterns.proofs.pattern.plain_covers.Tie as tie
+
+pub plain-covers-spec : {M : Type 1} → statement M
+plain-covers-spec =
+    tie.close
+    (tie.spec
+    (λ c κs. search needs)
+    (λ c κs. search needs)
+    (λ c. search (plainCovers-same, needs))
+    (λ c. search (plainCovers-differs, needs)))

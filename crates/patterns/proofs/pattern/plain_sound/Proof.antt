@@ -1,0 +1,17 @@
+-- `patterns::pattern::plain_sound` meets its contract. The tests of the length, of the last byte and of the bytes are those of the definition. Assumes nothing.
+use borrow.Author.Needs.{needs}
+use Rattle.patterns.proofs.PatternLaws.{namePattern-empty, namePattern-long, namePattern-dot, namePattern-fits}
+use Rattle.patterns.proofs.pattern.plain_sound.Statement.{statement}
+use Rattle.patterns.proofs.pattern.plain_sound.Tie as tie
+
+pub plain-sound-spec : {M : Type 1} → statement M
+plain-sound-spec =
+    tie.close
+    (tie.spec
+    (λ c. search (namePattern-empty, needs))
+    (λ c. search (namePattern-long, needs))
+    (λ c. search needs)
+    (λ c. search needs)
+    (λ c. search (namePattern-dot, needs))
+    (λ c κs. search needs)
+    (λ c. search (namePattern-fits, needs)))

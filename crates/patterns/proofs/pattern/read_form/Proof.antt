@@ -1,0 +1,17 @@
+-- `patterns::pattern::read_form` meets its contract. The first byte decides, then all bytes. Assumes nothing.
+use borrow.Author.Needs.{needs}
+use Rattle.patterns.proofs.PatternLaws.{formOf-nil, formOf-domain, formOf-bracket, formOf-dotted, formOf-plain}
+use Rattle.patterns.proofs.pattern.read_form.Statement.{statement}
+use Rattle.patterns.proofs.pattern.read_form.Tie as tie
+
+pub read-form-spec : {M : Type 1} → statement M
+read-form-spec =
+    tie.close
+    (tie.spec
+    (λ c. search (formOf-nil, needs))
+    (λ c. search needs)
+    (λ c. search (formOf-domain, needs))
+    (λ c. search (formOf-bracket, needs))
+    (λ c κs. search needs)
+    (λ c. search (formOf-dotted, needs))
+    (λ c. search (formOf-plain, needs)))

@@ -1,0 +1,247 @@
+// Patterns of addresses: the dotted ones of IPv4 are read as a net and a mask, the bracketed ones of IPv6 as a prefix.
+//   dotted_sound(e), bracket_sound(e)                 == e is such a pattern
+//   dotted_matches(e, host), bracket_matches(e, host) == e is one that matches the host's address
+use super::Host;
+use address::Addr;
+use address::prefix::in_net;
+use address::prefix::same_prefix_v6;
+use address::read::V6Read;
+use address::read::read_v4;
+use address::read::read_v6;
+use text::NumberRead;
+ghost use mathlib.Core.Path.{_≡_};
+ghost use mathlib.Core.Option.{some};
+ghost use Prim.Native.Nat.{_+_, _*_, _^_, _<_, _≤_};
+ghost use Rattle.text.specs.Basics.{isSome};
+ghost use Rattle.text.specs.Scan.{asNumber};
+ghost use Rattle.patterns.specs.Pattern.{bracketPattern, dottedPattern};
+ghost use Rattle.patterns.specs.Code.{fieldOf, asNet, leadingNet, fieldsNet, maskNet, pairNet, wholeNet, dottedNet, netCovers, dottedCovers};
+ghost use Rattle.patterns.specs.Code.{prefixLength, asPrefix, prefixWith, bracketPrefix, prefixCovers, bracketCovers};
+
+// A net and the mask that an address is put under before it is compared with the net.
+enum NetRead {
+    Nothing,
+    Net(u32, u32),
+}
+
+// An IPv6 address as its two halves, and how many of its leading bits are compared.
+enum PrefixRead {
+    Nothing,
+    Prefix(u64, u64, u32),
+}
+
+// A field that a dot follows, and the place after the dot.
+enum Field {
+    Nothing,
+    Value(u32, usize),
+}
+
+// The field at the front of s.
+fn first_field(s: &[u8]) -> Field
+    ensures { λ r. ⌜ r ≡ fieldOf (now (s .entry)) ⌝ }
+{
+    let i = text::index_of(s, 46);
+    if i == s.len() {
+        return Field::Nothing;
+    }
+    let v = text::read_decimal(&s[..i], 255);
+    match v {
+        NumberRead::Nothing => Field::Nothing,
+        NumberRead::Value(n) => Field::Value(n, i + 1),
+    }
+}
+
+// The net of count leading fields, which write n.
+fn leading_net(n: u32, count: u32) -> NetRead
+    requires { ⌜ (1 ≤ count) × (count ≤ 3) × (n < 256 ^ count) ⌝ }
+    ensures { λ r. ⌜ r ≡ asNet (some (leadingNet count n)) ⌝ }
+{
+    let shift = 32 - 8 * count;
+    NetRead::Net(n << shift, (4294967295 >> shift) << shift)
+}
+
+// One to three fields, each followed by a dot.
+fn read_fields(e: &[u8]) -> NetRead
+    ensures { λ r. ⌜ r ≡ asNet (fieldsNet 0 0 (now (e .entry))) ⌝ }
+{
+    let mut at = 0;
+    let mut n: u32 = 0;
+    let mut count: u32 = 0;
+    while count < 3 {
+        let f = first_field(&e[at..]);
+        match f {
+            Field::Nothing => {
+                return NetRead::Nothing;
+            }
+            Field::Value(v, next) => {
+                n = n * 256 + v;
+                at += next;
+                count += 1;
+                if at == e.len() {
+                    return leading_net(n, count);
+                }
+            }
+        }
+    }
+    NetRead::Nothing
+}
+
+// A net and a mask, where both were read.
+fn pair_net(net: NumberRead, mask: NumberRead) -> NetRead
+    ensures { λ r. ⌜ r ≡ pairNet net mask ⌝ }
+{
+    match net {
+        NumberRead::Nothing => NetRead::Nothing,
+        NumberRead::Value(n) => match mask {
+            NumberRead::Nothing => NetRead::Nothing,
+            NumberRead::Value(m) => NetRead::Net(n, m),
+        },
+    }
+}
+
+// net/mask.
+fn read_mask(e: &[u8]) -> NetRead
+    ensures { λ r. ⌜ r ≡ asNet (maskNet (now (e .entry))) ⌝ }
+{
+    let i = text::index_of(e, 47);
+    if i == e.len() {
+        return NetRead::Nothing;
+    }
+    let after = i + 1;
+    pair_net(read_v4(&e[..i]), read_v4(&e[after..]))
+}
+
+// An address, as the net of that address alone, or net/mask.
+fn read_whole(e: &[u8]) -> NetRead
+    ensures { λ r. ⌜ r ≡ asNet (wholeNet (now (e .entry))) ⌝ }
+{
+    let v = read_v4(e);
+    match v {
+        NumberRead::Nothing => read_mask(e),
+        NumberRead::Value(n) => NetRead::Net(n, 4294967295),
+    }
+}
+
+// The net of a dotted pattern: fields where it ends in a dot, else an address or net/mask.
+fn read_dotted(e: &[u8]) -> NetRead
+    ensures { λ r. ⌜ r ≡ asNet (dottedNet (now (e .entry))) ⌝ }
+{
+    if e.len() == 0 {
+        return NetRead::Nothing;
+    }
+    let last = e.len() - 1;
+    if e[last] == 46 {
+        read_fields(e)
+    } else {
+        read_whole(e)
+    }
+}
+
+// The prefix length after the bracket: none written is 128.
+fn read_length(s: &[u8]) -> NumberRead
+    ensures { λ r. ⌜ r ≡ asNumber (prefixLength (now (s .entry))) ⌝ }
+{
+    if s.len() == 0 {
+        return NumberRead::Value(128);
+    }
+    if s[0] != 47 {
+        return NumberRead::Nothing;
+    }
+    text::read_decimal(&s[1..], 128)
+}
+
+// An address and a prefix length, where both were read.
+fn pair_prefix(address: V6Read, length: NumberRead) -> PrefixRead
+    ensures { λ r. ⌜ r ≡ prefixWith address length ⌝ }
+{
+    match address {
+        V6Read::Nothing => PrefixRead::Nothing,
+        V6Read::Value(high, low) => match length {
+            NumberRead::Nothing => PrefixRead::Nothing,
+            NumberRead::Value(m) => PrefixRead::Prefix(high, low, m),
+        },
+    }
+}
+
+// The prefix of a bracketed pattern: what stands between its first byte and the first closing bracket, and after that.
+fn read_bracket(e: &[u8]) -> PrefixRead
+    ensures { λ r. ⌜ r ≡ asPrefix (bracketPrefix (now (e .entry))) ⌝ }
+{
+    if e.len() == 0 {
+        return PrefixRead::Nothing;
+    }
+    let s = &e[1..];
+    let i = text::index_of(s, 93);
+    if i == s.len() {
+        return PrefixRead::Nothing;
+    }
+    let after = i + 1;
+    pair_prefix(read_v6(&s[..i]), read_length(&s[after..]))
+}
+
+// Whether e is a dotted pattern.
+pub fn dotted_sound(e: &[u8]) -> bool
+    ensures { λ r. ⌜ r ≡ isSome (dottedPattern (now (e .entry))) ⌝ }
+{
+    let net = read_dotted(e);
+    match net {
+        NetRead::Nothing => false,
+        NetRead::Net(_, _) => true,
+    }
+}
+
+// Whether an address lies in a net that was read.
+fn net_covers(net: NetRead, a: u32) -> bool
+    ensures { λ r. ⌜ r ≡ netCovers net a ⌝ }
+{
+    match net {
+        NetRead::Nothing => false,
+        NetRead::Net(net, mask) => in_net(net, mask, a),
+    }
+}
+
+// Whether the dotted pattern e matches: an IPv4 address, never a name.
+pub fn dotted_matches(e: &[u8], host: Host) -> bool
+    ensures { λ r. ⌜ r ≡ dottedCovers (now (e .entry)) host ⌝ }
+{
+    let addr = host.addr;
+    match addr {
+        Addr::Unknown => false,
+        Addr::V4(a) => net_covers(read_dotted(e), a),
+        Addr::V6(_, _) => false,
+    }
+}
+
+// Whether e is a bracketed pattern.
+pub fn bracket_sound(e: &[u8]) -> bool
+    ensures { λ r. ⌜ r ≡ isSome (bracketPattern (now (e .entry))) ⌝ }
+{
+    let prefix = read_bracket(e);
+    match prefix {
+        PrefixRead::Nothing => false,
+        PrefixRead::Prefix(_, _, _) => true,
+    }
+}
+
+// Whether the bracketed pattern e covers an IPv6 address.
+fn bracket_covers(e: &[u8], high: u64, low: u64) -> bool
+    ensures { λ r. ⌜ r ≡ prefixCovers (now (e .entry)) (high * 2 ^ 64 + low) ⌝ }
+{
+    let prefix = read_bracket(e);
+    match prefix {
+        PrefixRead::Nothing => false,
+        PrefixRead::Prefix(h, l, m) => same_prefix_v6(h, l, high, low, m),
+    }
+}
+
+// Whether the bracketed pattern e matches: an IPv6 address, in the first bits.
+pub fn bracket_matches(e: &[u8], host: Host) -> bool
+    ensures { λ r. ⌜ r ≡ bracketCovers (now (e .entry)) host ⌝ }
+{
+    let addr = host.addr;
+    match addr {
+        Addr::Unknown => false,
+        Addr::V4(_) => false,
+        Addr::V6(high, low) => bracket_covers(e, high, low),
+    }
+}

@@ -1,0 +1,328 @@
+// Host patterns: wildcards, domains and names, and which form a pattern has.
+//   host_sound(e)               == e is a host pattern
+//   host_matches(e, host, name) == e is one that matches the host
+use super::Host;
+use super::Name;
+use super::net::bracket_matches;
+use super::net::bracket_sound;
+use super::net::dotted_matches;
+use super::net::dotted_sound;
+use address::Addr;
+use text::equal_fold;
+ghost use mathlib.Core.Path.{_≡_};
+ghost use mathlib.Core.Bool.{true, false, not, _&&_, _||_};
+ghost use mathlib.Core.List.{[]};
+ghost use Rattle.text.specs.Basics.{isSome, any, all};
+ghost use Rattle.text.specs.Text.{among};
+ghost use Rattle.patterns.specs.Host.{endpoint, nameCase, nameKnown, addrKnown};
+ghost use Rattle.patterns.specs.Pattern.{isNameByte, domainPattern, namePattern, hostPattern};
+ghost use Rattle.patterns.specs.Code.{wildcardOf, formOf, isDottedByte, formPattern, matchesPattern, hostMatches, domainCovers, plainCovers};
+
+// The wildcard that a text is.
+pub enum Wildcard {
+    Nothing,
+    All,
+    Local,
+    Known,
+    Unknown,
+    Paranoid,
+}
+
+// What a pattern that is no wildcard is read as.
+pub enum Form {
+    Domain,
+    Bracket,
+    Dotted,
+    Plain,
+}
+
+// The wildcard that e is; the longest has eight bytes.
+pub fn read_wildcard(e: &[u8]) -> Wildcard
+    ensures { λ r. ⌜ r ≡ wildcardOf (now (e .entry)) ⌝ }
+{
+    if 8 < e.len() {
+        return Wildcard::Nothing;
+    }
+    if equal_fold(b"ALL", e) {
+        return Wildcard::All;
+    }
+    if equal_fold(b"LOCAL", e) {
+        return Wildcard::Local;
+    }
+    if equal_fold(b"KNOWN", e) {
+        return Wildcard::Known;
+    }
+    if equal_fold(b"UNKNOWN", e) {
+        return Wildcard::Unknown;
+    }
+    if equal_fold(b"PARANOID", e) {
+        return Wildcard::Paranoid;
+    }
+    Wildcard::Nothing
+}
+
+// Whether b may stand in a name.
+pub fn is_name_byte(b: u8) -> bool
+    ensures { λ r. ⌜ r ≡ isNameByte b ⌝ }
+{
+    text::is_letter(b) | text::is_digit(b) | ((b == 45) | ((b == 95) | (b == 46)))
+}
+
+// Whether every byte of s may stand in a name.
+pub fn is_name(s: &[u8]) -> bool
+    ensures { λ r. ⌜ r ≡ all isNameByte (now (s .entry)) ⌝ }
+{
+    let mut i = 0;
+    while i < s.len() {
+        if is_name_byte(s[i]) {
+            i += 1;
+        } else {
+            return false;
+        }
+    }
+    true
+}
+
+// Whether b may stand in a dotted pattern: a digit, a dot or a slash.
+fn is_dotted_byte(b: u8) -> bool
+    ensures { λ r. ⌜ r ≡ isDottedByte b ⌝ }
+{
+    text::is_digit(b) | ((b == 46) | (b == 47))
+}
+
+// Whether s has only digits, dots and slashes.
+fn is_dotted(s: &[u8]) -> bool
+    ensures { λ r. ⌜ r ≡ all isDottedByte (now (s .entry)) ⌝ }
+{
+    let mut i = 0;
+    while i < s.len() {
+        if is_dotted_byte(s[i]) {
+            i += 1;
+        } else {
+            return false;
+        }
+    }
+    true
+}
+
+// What e is read as, where it is no wildcard.
+fn read_form(e: &[u8]) -> Form
+    ensures { λ r. ⌜ r ≡ formOf (now (e .entry)) ⌝ }
+{
+    if e.len() == 0 {
+        return Form::Dotted;
+    }
+    let b = e[0];
+    if b == 46 {
+        return Form::Domain;
+    }
+    if b == 91 {
+        return Form::Bracket;
+    }
+    if is_dotted(e) {
+        Form::Dotted
+    } else {
+        Form::Plain
+    }
+}
+
+// Whether a host's name is known.
+fn name_known(host: Host) -> bool
+    ensures { λ r. ⌜ r ≡ nameKnown (endpoint host []) ⌝ }
+{
+    let state = host.name;
+    match state {
+        Name::Unknown => false,
+        Name::Paranoid => false,
+        Name::Known => true,
+    }
+}
+
+// Whether a host's name is paranoid.
+fn name_paranoid(host: Host) -> bool
+    ensures { λ r. ⌜ r ≡ nameCase (endpoint host []) false true false ⌝ }
+{
+    let state = host.name;
+    match state {
+        Name::Unknown => false,
+        Name::Paranoid => true,
+        Name::Known => false,
+    }
+}
+
+// Whether a host's address is known.
+fn address_known(host: Host) -> bool
+    ensures { λ r. ⌜ r ≡ addrKnown (endpoint host []) ⌝ }
+{
+    let addr = host.addr;
+    match addr {
+        Addr::Unknown => false,
+        Addr::V4(_) => true,
+        Addr::V6(_, _) => true,
+    }
+}
+
+// KNOWN: a known name and a known address.
+fn is_known(host: Host) -> bool
+    ensures { λ r. ⌜ r ≡ (nameKnown (endpoint host []) && addrKnown (endpoint host [])) ⌝ }
+{
+    let state = host.name;
+    match state {
+        Name::Unknown => false,
+        Name::Paranoid => false,
+        Name::Known => address_known(host),
+    }
+}
+
+// UNKNOWN: an unknown name or an unknown address; a paranoid name is neither known nor unknown.
+fn is_unknown(host: Host) -> bool
+    ensures { λ r. ⌜ r ≡ (nameCase (endpoint host []) true false false || not (addrKnown (endpoint host []))) ⌝ }
+{
+    let state = host.name;
+    match state {
+        Name::Unknown => true,
+        Name::Paranoid => !address_known(host),
+        Name::Known => !address_known(host),
+    }
+}
+
+// Whether s has no dot.
+fn has_no_dot(s: &[u8]) -> bool
+    ensures { λ r. ⌜ r ≡ not (any (among ".") (now (s .entry))) ⌝ }
+{
+    text::index_of(s, 46) == s.len()
+}
+
+// LOCAL: a known name without a dot.
+fn is_local(host: Host, name: &[u8]) -> bool
+    ensures { λ r. ⌜ r ≡ (nameKnown (endpoint host []) && not (any (among ".") (now (name .entry)))) ⌝ }
+{
+    let state = host.name;
+    match state {
+        Name::Unknown => false,
+        Name::Paranoid => false,
+        Name::Known => has_no_dot(name),
+    }
+}
+
+// Whether e is a domain pattern.
+fn domain_sound(e: &[u8]) -> bool
+    ensures { λ r. ⌜ r ≡ isSome (domainPattern (now (e .entry))) ⌝ }
+{
+    if e.len() < 2 {
+        return false;
+    }
+    if 255 < e.len() {
+        return false;
+    }
+    is_name(e)
+}
+
+// Whether the domain pattern e matches a known name: a longer one that ends in it.
+fn domain_covers(e: &[u8], name: &[u8]) -> bool
+    ensures { λ r. ⌜ r ≡ domainCovers (now (e .entry)) (now (name .entry)) ⌝ }
+{
+    if text::ends_with_fold(name, e) {
+        domain_sound(e)
+    } else {
+        false
+    }
+}
+
+// Whether e is a name that a pattern may be.
+fn plain_sound(e: &[u8]) -> bool
+    ensures { λ r. ⌜ r ≡ isSome (namePattern (now (e .entry))) ⌝ }
+{
+    if e.len() == 0 {
+        return false;
+    }
+    if 255 < e.len() {
+        return false;
+    }
+    let last = e.len() - 1;
+    if e[last] == 46 {
+        return false;
+    }
+    is_name(e)
+}
+
+// Whether the name pattern e matches a known name: an equal one.
+fn plain_covers(e: &[u8], name: &[u8]) -> bool
+    ensures { λ r. ⌜ r ≡ plainCovers (now (e .entry)) (now (name .entry)) ⌝ }
+{
+    if equal_fold(e, name) {
+        plain_sound(e)
+    } else {
+        false
+    }
+}
+
+// Whether the domain pattern e matches.
+fn domain_matches(e: &[u8], host: Host, name: &[u8]) -> bool
+    ensures { λ r. ⌜ r ≡ matchesPattern (domainPattern (now (e .entry))) (endpoint host (now (name .entry))) ⌝ }
+{
+    name_known(host) & domain_covers(e, name)
+}
+
+// Whether the name pattern e matches.
+fn plain_matches(e: &[u8], host: Host, name: &[u8]) -> bool
+    ensures { λ r. ⌜ r ≡ matchesPattern (namePattern (now (e .entry))) (endpoint host (now (name .entry))) ⌝ }
+{
+    name_known(host) & plain_covers(e, name)
+}
+
+// Whether e, no wildcard, is a pattern.
+fn form_sound(e: &[u8]) -> bool
+    ensures { λ r. ⌜ r ≡ isSome (formPattern (formOf (now (e .entry))) (now (e .entry))) ⌝ }
+{
+    let f = read_form(e);
+    match f {
+        Form::Domain => domain_sound(e),
+        Form::Bracket => bracket_sound(e),
+        Form::Dotted => dotted_sound(e),
+        Form::Plain => plain_sound(e),
+    }
+}
+
+// Whether e, no wildcard, matches.
+fn form_matches(e: &[u8], host: Host, name: &[u8]) -> bool
+    ensures { λ r. ⌜ r ≡ matchesPattern (formPattern (formOf (now (e .entry))) (now (e .entry))) (endpoint host (now (name .entry))) ⌝ }
+{
+    let f = read_form(e);
+    match f {
+        Form::Domain => domain_matches(e, host, name),
+        Form::Bracket => bracket_matches(e, host),
+        Form::Dotted => dotted_matches(e, host),
+        Form::Plain => plain_matches(e, host, name),
+    }
+}
+
+// Whether e is a host pattern.
+pub fn host_sound(e: &[u8]) -> bool
+    ensures { λ r. ⌜ r ≡ isSome (hostPattern (now (e .entry))) ⌝ }
+{
+    let w = read_wildcard(e);
+    match w {
+        Wildcard::Nothing => form_sound(e),
+        Wildcard::All => true,
+        Wildcard::Local => true,
+        Wildcard::Known => true,
+        Wildcard::Unknown => true,
+        Wildcard::Paranoid => true,
+    }
+}
+
+// Whether e is a host pattern that matches the host.
+pub fn host_matches(e: &[u8], host: Host, name: &[u8]) -> bool
+    ensures { λ r. ⌜ r ≡ hostMatches (now (e .entry)) (endpoint host (now (name .entry))) ⌝ }
+{
+    let w = read_wildcard(e);
+    match w {
+        Wildcard::Nothing => form_matches(e, host, name),
+        Wildcard::All => true,
+        Wildcard::Local => is_local(host, name),
+        Wildcard::Known => is_known(host),
+        Wildcard::Unknown => is_unknown(host),
+        Wildcard::Paranoid => name_paranoid(host),
+    }
+}
