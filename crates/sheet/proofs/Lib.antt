@@ -1,2 +1,3 @@
 pub mod FrameLaws
 pub mod TextsLaws
+pub mod PackLaws
