@@ -87,15 +87,15 @@ module _ (o : Option Refusal) (p : Pass) (is-p : p ≡ passOf o none) where
       by (some h) k = let z : _≡_ {A = ℕ} 0 1 = cc in absurd (omega arith)
 
 module _ (o : Option Refusal) (c : PortaclChecked) (is-c : c ≡ portaclCheckedOf o) where
-  pub portacl-refused : (g : Refusal) → c ≡ Q.Refused g → C.Refused g ≡ checkedOf o
-  portacl-refused g e = by o (sym is-c ∙ e)
+  pub entries-refused : (g : Refusal) → c ≡ Q.Refused g → C.Refused g ≡ checkedOf o
+  entries-refused g e = by o (sym is-c ∙ e)
     where
       by : (o : Option Refusal) → portaclCheckedOf o ≡ Q.Refused g → C.Refused g ≡ checkedOf o
       by none k = let z : _≡_ {A = ℕ} 0 1 = cc in absurd (omega arith)
       by (some h) k = cc
 
-  pub portacl-sound : c ≡ Q.Sound → C.Sound ≡ checkedOf o
-  portacl-sound e = by o (sym is-c ∙ e)
+  pub entries-sound : c ≡ Q.Sound → C.Sound ≡ checkedOf o
+  entries-sound e = by o (sym is-c ∙ e)
     where
       by : (o : Option Refusal) → portaclCheckedOf o ≡ Q.Sound → C.Sound ≡ checkedOf o
       by none k = refl

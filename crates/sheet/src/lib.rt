@@ -1,4 +1,5 @@
 // The station sheet: four texts in one, packed and unpacked.
+pub mod frame;
 pub mod pack;
 pub mod texts;
 
