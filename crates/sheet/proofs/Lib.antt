@@ -1,1 +1,4 @@
 pub mod FrameLaws
+pub mod ReadLaws
+pub mod TextsLaws
+pub mod PackLaws
