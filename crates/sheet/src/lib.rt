@@ -1,4 +1,6 @@
 // The station sheet: four texts in one, packed and unpacked.
+pub mod frame;
+pub mod texts;
 
 // The place and length of each text of a sheet.
 pub struct Parts {
