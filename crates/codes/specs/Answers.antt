@@ -10,6 +10,7 @@ use mathlib.Core.List.{List}
 use lib.ListN.{length}
 use Rattle.section.specs.declared.Refusal.{Refusal}
 use Rattle.section.specs.Refusal.{Outcome, refused, answered, faultNumber}
+use Rattle.section.specs.Section.{part}
 use Rattle.address.specs.declared.Addr.{Addr}
 use Rattle.address.specs.declared.Addr.the-variants as A
 use Rattle.rules.specs.declared.Answer.{Answer}
@@ -79,24 +80,11 @@ unfoldable pub checkAnswer : Outcome Parts → GateCheck
 checkAnswer (refused r) = gateCheck (faultNumber (r .fault)) (r .section) (r .line)
 checkAnswer (answered p) = gateCheck 0 0 0
 
-unfoldable pub partsAnswer : Outcome Parts → GateParts
-partsAnswer (refused r) = record {
-  number = faultNumber (r .fault);
-  section = r .section;
-  line = r .line;
-  «allow_place» = 0;
-  «allow_len» = 0;
-  «deny_place» = 0;
-  «deny_len» = 0;
-  «byuid_place» = 0;
-  «byuid_len» = 0;
-  «portacl_place» = 0;
-  «portacl_len» = 0;
-}
-partsAnswer (answered p) = record {
-  number = 0;
-  section = 0;
-  line = 0;
+abbrev pub gateParts : ℕ → ℕ → ℕ → Parts → GateParts
+gateParts n s l p = record {
+  number = n;
+  section = s;
+  line = l;
   «allow_place» = p .allow .place;
   «allow_len» = p .allow .len;
   «deny_place» = p .deny .place;
@@ -106,6 +94,13 @@ partsAnswer (answered p) = record {
   «portacl_place» = p .portacl .place;
   «portacl_len» = p .portacl .len;
 }
+
+abbrev pub noParts : Parts
+noParts = record { allow = part 0 0; deny = part 0 0; byuid = part 0 0; portacl = part 0 0 }
+
+unfoldable pub partsAnswer : Outcome Parts → GateParts
+partsAnswer (refused r) = gateParts (faultNumber (r .fault)) (r .section) (r .line) noParts
+partsAnswer (answered p) = gateParts 0 0 0 p
 
 -- ## Outputs and addresses
 
