@@ -2,6 +2,7 @@
 //   texts  == the checks of four texts
 //   frame  == where the texts of a sheet stand, by the counts alone
 //   unpack == the frame and the checks
+//   pack   == the sheet of four texts
 //   decide == the decisions by a sheet
 pub mod decide;
 pub mod frame;
