@@ -1,4 +1,6 @@
+pub mod DecideLaws
 pub mod FrameLaws
 pub mod ReadLaws
 pub mod TextsLaws
 pub mod PackLaws
+pub mod LongSheetLaws
