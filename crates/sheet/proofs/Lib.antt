@@ -1,3 +1,4 @@
+pub mod DecideLaws
 pub mod FrameLaws
 pub mod ReadLaws
 pub mod TextsLaws

@@ -1,8 +1,9 @@
 -- What the contracts of inner functions cite, and the enums of the code. Nothing here needs to be believed for the meaning of document 01.
---   checkedOf o, sectionReadOf o, framedOf o == o as the code answers it
+--   checkedOf o, sectionReadOf o, framedOf o, unpackedOf o == o as the code answers it
 --   limitsFault ts, contentsFault allow deny portacl == the two halves of textsFault
 --   sectionOf c      == the section of a cursor
 --   fromDeny sheet a, fromByuid sheet a d, fromPortacl sheet a d b, toEnd sheet p == what is left of frame, once the parts before are read
+--   decidedBy allow deny portacl r == the ruling by texts that are within their limits, the command not yet placed in the sheet
 -- Assumes nothing: these are definitions.
 use Prim.Native.Nat.{ℕ}
 use mathlib.Core.List.{List}
@@ -17,7 +18,10 @@ use Rattle.section.specs.declared.Refusal.{Refusal}
 use Rattle.section.specs.Refusal.{Outcome, refused, answered, _>>=_, placeless, refusing}
 use Rattle.section.specs.Section as S
 use Rattle.section.specs.Section.{Section, overLimit}
+use Rattle.elements.specs.Request.{Request, wellFormed}
+use Rattle.rules.specs.declared.Ruling.{Ruling}
 use Rattle.rules.specs.Check.{hostsFault}
+use Rattle.rules.specs.FileCode.{passOf, onward, passBoth, rulingBy}
 use Rattle.portacl.specs.Portacl.{portaclFault}
 use Rattle.sheet.specs.declared.Parts.{Parts}
 use Rattle.sheet.specs.declared.texts.Checked.{Checked}
@@ -26,6 +30,8 @@ use Rattle.sheet.specs.declared.frame.SectionRead.{SectionRead}
 use Rattle.sheet.specs.declared.frame.SectionRead.the-variants as R
 use Rattle.sheet.specs.declared.frame.Framed.{Framed}
 use Rattle.sheet.specs.declared.frame.Framed.the-variants as Fr
+use Rattle.sheet.specs.declared.unpack.Unpacked.{Unpacked}
+use Rattle.sheet.specs.declared.unpack.Unpacked.the-variants as U
 use Rattle.sheet.specs.Sheet.{Texts, sectionAt, partEnd}
 
 -- ## Texts
@@ -72,3 +78,12 @@ unfoldable pub fromDeny : List ℕ → Part → Outcome Parts
 fromDeny sheet a = do
   d ← sectionAt S.deny (partEnd a) sheet
   fromByuid sheet a d
+
+-- ## The calls
+
+abbrev pub unpackedOf : Outcome Parts → Unpacked
+unpackedOf (refused r) = U.Refused r
+unpackedOf (answered p) = U.Parts p
+
+unfoldable pub decidedBy : List ℕ → List ℕ → List ℕ → Request → Ruling
+decidedBy allow deny portacl r = rulingBy (onward (passBoth r allow deny) (passOf (portaclFault portacl) none)) (wellFormed r)

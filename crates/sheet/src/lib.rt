@@ -1,6 +1,8 @@
 // The station sheet: four texts in one, packed and unpacked.
+pub mod decide;
 pub mod frame;
 pub mod texts;
+pub mod unpack;
 
 // The place and length of each text of a sheet.
 pub struct Parts {
