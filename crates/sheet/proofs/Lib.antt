@@ -2,3 +2,4 @@ pub mod DecideLaws
 pub mod FrameLaws
 pub mod ReadLaws
 pub mod TextsLaws
+pub mod PackLaws

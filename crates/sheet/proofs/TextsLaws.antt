@@ -56,11 +56,11 @@ module _ (a d b p : List ℕ) (x : Bool) (is-x : x ≡ ltb (S.allow .limit) (len
 
 -- ## Contents
 
-checked-sound : (o : Option Refusal) → checkedOf o ≡ C.Sound → o ≡ none
+pub checked-sound : (o : Option Refusal) → checkedOf o ≡ C.Sound → o ≡ none
 checked-sound none e = refl
 checked-sound (some g) e = let z : _≡_ {A = ℕ} 0 1 = cc in absurd (omega arith)
 
-checked-refused : (o : Option Refusal) (g : Refusal) → checkedOf o ≡ C.Refused g → o ≡ some g
+pub checked-refused : (o : Option Refusal) (g : Refusal) → checkedOf o ≡ C.Refused g → o ≡ some g
 checked-refused none g e = let z : _≡_ {A = ℕ} 0 1 = cc in absurd (omega arith)
 checked-refused (some h) g e = cc
 

@@ -1,6 +1,7 @@
 // The station sheet: four texts in one, packed and unpacked.
 pub mod decide;
 pub mod frame;
+pub mod pack;
 pub mod texts;
 pub mod unpack;
 
