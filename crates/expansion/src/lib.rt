@@ -1,6 +1,8 @@
 // Expansion of a rule's command: the bytes that may stand in what is inserted.
 //   is_safe(b)   == b is a letter, a digit or one of the marks of the house set
 //   safe_byte(b) == b as it is inserted
+pub mod directive;
+
 ghost use mathlib.Core.Path.{_≡_};
 ghost use mathlib.Core.Bool.{_||_};
 ghost use Rattle.text.specs.Text.{isLetter, isDigit, among};
