@@ -79,10 +79,8 @@ pub record SameFor (call : Request → Outcome Answer) (command : List ℕ) (r :
 pub record NameCannotMatter : Type 0 where
   pub by-texts : (allow deny : List ℕ) (r : Request) (a : Answer) → r .user ≡ U.NotFetched → decide allow deny r ≡ answered a → Decided (a .verdict)
       → (u : User) (name : List ℕ) → Permitted u name → SameFor (decide allow deny) (commandBytes allow deny a) r u name a
-  pub by-sheet : (sheet : List ℕ) (r : Request) (a : Answer) (p : Parts) → r .user ≡ U.NotFetched → unpack sheet ≡ answered p
-      → decideSheet sheet r ≡ answered a → Decided (a .verdict)
-      → (u : User) (name : List ℕ) → Permitted u name
-      → SameFor (decideSheet sheet) (commandBytes (textAt sheet (p .allow)) (textAt sheet (p .deny)) a) r u name a
+  pub by-sheet : (sheet : List ℕ) (r : Request) (a : Answer) → r .user ≡ U.NotFetched → decideSheet sheet r ≡ answered a → Decided (a .verdict)
+      → (u : User) (name : List ℕ) → Permitted u name → SameFor (decideSheet sheet) (textAt sheet (a .command)) r u name a
 
 -- ## All
 

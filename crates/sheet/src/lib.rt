@@ -1,4 +1,5 @@
 // The station sheet: four texts in one, packed and unpacked.
+pub mod texts;
 
 // The place and length of each text of a sheet.
 pub struct Parts {
