@@ -89,7 +89,7 @@ afterAt x y =
     else []
 
 unfoldable pub insertedBy : Texts → ℕ → List ℕ
-insertedBy x y = if hasAt x y then beforeAt x y ++ bytes "@" ++ afterAt x y else afterAt x y
+insertedBy x y = if hasAt x y then beforeAt x y ++ (bytes "@" ++ afterAt x y) else afterAt x y
 
 unfoldable pub pieceBy : Texts → Piece → List ℕ
 pieceBy x (literal b) = b ∷ []

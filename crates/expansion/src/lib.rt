@@ -2,6 +2,7 @@
 //   is_safe(b)   == b is a letter, a digit or one of the marks of the house set
 //   safe_byte(b) == b as it is inserted
 pub mod directive;
+pub mod write;
 
 ghost use mathlib.Core.Path.{_≡_};
 ghost use mathlib.Core.Bool.{_||_};

@@ -1,11 +1,13 @@
 -- `directive::directive_text` meets its contract, by the arm of each byte. Assumes nothing.
 use borrow.Author.Needs.{needs}
 use mathlib.Core.Logic.{⊎-elim}
-use mathlib.Core.Path.{_∙_}
 use Rattle.expansion.specs.Code.{afterAt}
 use Rattle.expansion.proofs.TextLaws.{afterAt-other}
 use Rattle.expansion.proofs.directive.directive_text.Statement.{statement}
 use Rattle.expansion.proofs.directive.directive_text.Tie as tie
+
+returns-12 : tie.Need-returns-12
+returns-12 c = afterAt-other _ _ (c .before .match .rest)
 
 pub directive-text-spec : {M : Type 1} → statement M
 unfolding afterAt
@@ -25,4 +27,4 @@ directive-text-spec =
     (λ c. rw (c .before .match .keys9) (c .service-text .ensures))
     (λ c. rw (c .match .keys10))
     (λ c. rw (c .match .keys11))
-    (λ c. afterAt-other _ _ (c .before .match .rest)))
+    returns-12)
