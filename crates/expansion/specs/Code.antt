@@ -21,7 +21,7 @@ use Rattle.lines.specs.Parts.{anyBadPercent}
 use Rattle.elements.specs.declared.User.{User}
 use Rattle.elements.specs.declared.User.the-variants as U
 use Rattle.elements.specs.Request.{Request, nameKnown, addrKnown, wellFormed}
-use Rattle.expansion.specs.Expand.{nameText, hostText, pieceText, safeByte}
+use Rattle.expansion.specs.Expand.{nameText, pieceText, safeByte}
 
 pub record Texts : Type 0 where
   pub clientAddress : List ℕ
@@ -57,13 +57,16 @@ texts ca cn ch sa sn sh uk u sk d p m = record {
 abbrev pub userState {ℓ} : {B : Type ℓ} → User → B → B → B
 userState u other known = elim u [ U.NotFetched ↦ other | U.Unknown ↦ other | U.Known ↦ known ]
 
--- those of a request
-abbrev pub textsOf : Request → ℕ → Texts
-textsOf r process =
-    texts (addrText (r .client .host .addr)) (nameText (r .client)) (hostText (r .client))
-    (addrText (r .server .host .addr)) (nameText (r .server)) (hostText (r .server))
+-- those of a request, where the texts of its addresses and of the process number are given
+abbrev pub textsWith : Request → List ℕ → List ℕ → List ℕ → Texts
+textsWith r client server process =
+    texts client (nameText (r .client)) (if nameKnown (r .client) then r .client .name else client)
+    server (nameText (r .server)) (if nameKnown (r .server) then r .server .name else server)
     (userState (r .user) false true) (userState (r .user) (bytes "unknown") (r .userName))
-    (nameKnown (r .server) || addrKnown (r .server)) (r .daemon) (decimal process) (bytes "%")
+    (nameKnown (r .server) || addrKnown (r .server)) (r .daemon) process (bytes "%")
+
+abbrev pub textsOf : Request → ℕ → Texts
+textsOf r process = textsWith r (addrText (r .client .host .addr)) (addrText (r .server .host .addr)) (decimal process)
 
 -- whether y inserts an `@`, and the name before it
 abbrev pub hasAt : Texts → ℕ → Bool

@@ -35,7 +35,7 @@ pub fn name_text<'a>(host: Host, name: &'a [u8], unknown: &'a [u8], paranoid: &'
 
 // The known name, else the text of the address.
 pub fn host_text<'a>(host: Host, name: &'a [u8], address: &'a [u8]) -> &'a [u8]
-    ensures { λ r. ⌜ now r ≡ nameCase (endpoint host (now (name .entry))) (now (address .entry)) (now (address .entry)) (now (name .entry)) ⌝ }
+    ensures { λ r. ⌜ now r ≡ (if nameKnown (endpoint host (now (name .entry))) then now (name .entry) else now (address .entry)) ⌝ }
 {
     let state = host.name;
     match state {

@@ -32,4 +32,4 @@ put-safe-spec =
     (λ c. search (safe-step, needs))
     (λ c. search needs)
     (λ c. search needs)
-    (λ c. search (safe-all, needs)))
+    (λ c. safe-all _ (c .before .before .before .before .args .s .now) _ _ _ (c .before .loop .inv) (c .loop-test .left)))

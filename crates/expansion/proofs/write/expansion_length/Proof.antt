@@ -29,9 +29,10 @@ expansion-length-spec =
     (λ c. search needs)
     (λ c. search needs)
     (λ c. search needs)
-    (λ c. search (measured-directive, needs))
+    (λ c. let l = c .before .before .before .before .before in
+    measured-directive _ _ _ _ (l .loop .inv) (c .before .before .before .before .loop-test .taken) (c .before .before .if1 .taken) _ (c .before .byte-at .ensures) _ (c .inserted-length .ensures .0) (c .inserted-length .ensures .1))
     (λ c. search needs)
     (λ c. search needs)
     (λ c. search needs)
-    (λ c. search (measured-literal, needs))
-    (λ c. search (measured-end, needs)))
+    (λ c. measured-literal _ _ _ _ (c .before .before .before .loop .inv) (c .before .before .loop-test .taken) (c .if1 .left))
+    (λ c. measured-end _ _ _ _ (c .before .loop .inv) (c .loop-test .left)))
