@@ -4,9 +4,9 @@ use Prim.Native.Nat.{ℕ, _+_, _<_, _≤_}
 use native.Mathlib.Omega.{arith}
 use mathlib.Core.Bool.{Bool, true, false, not, _||_}
 use mathlib.Core.List.{List, [], _∷_, _++_, map, flatMap, reverse}
-use mathlib.Core.Path.{_≡_, refl, sym, ap, _∙_}
+use mathlib.Core.Path.{_≡_, refl, sym, ap, subst, _∙_}
 use borrow.Author.Tests.{lt-ltb, le-ltb, not-true, not-false}
-use lib.ListN.{length, take, drop, length-reverse}
+use lib.ListN.{length, take, drop, length-append, length-reverse}
 use lib.Seq.{take-at, take-paste, take-length}
 use Rattle.text.specs.Basics.{if_then_else_}
 use Rattle.text.specs.Text.{bytes, among}
@@ -20,7 +20,8 @@ use Rattle.section.specs.declared.Written.the-variants as W
 use Rattle.section.specs.Refusal.{Outcome, lowest, placeless, withinRoom, writtenOf, lentAfter}
 use Rattle.address.specs.Address.{addrText}
 use Rattle.address.proofs.WriteText.{Wrote}
-use Rattle.lines.specs.Line.{join, hasBadByte, isTooLong}
+use Rattle.lines.specs.declared.line.JoinedText.{JoinedText}
+use Rattle.lines.specs.Line.{join, hasBadByte}
 use Rattle.lines.specs.Command.{Piece, literal, directive, pieces, skipBlanks, trimmed, hasBadPercent}
 use Rattle.lines.specs.Parts.{trimBlanks, anyBadPercent}
 use Rattle.lines.proofs.CommandLaws.{trimmed-join, hasBadPercent-trimmed}
@@ -48,20 +49,29 @@ module _ (b o s : List ℕ) (n : ℕ) (w : Wrote b o s 0 n) where
 module _ (r : Request) (ca sa pt cn ch sn sh u : List ℕ) (uk sk : Bool) (e-cn : cn ≡ nameText (r .client)) (e-ch : ch ≡ (if nameKnown (r .client) then r .client .name else ca))
     (e-sn : sn ≡ nameText (r .server)) (e-sh : sh ≡ (if nameKnown (r .server) then r .server .name else sa)) (e-u : u ≡ userState (r .user) (bytes "unknown") (r .userName))
     (e-uk : uk ≡ userState (r .user) false true) (e-sk : sk ≡ (nameKnown (r .server) || addrKnown (r .server))) where
-  pub texts-are : texts ca cn ch sa sn sh uk u sk (r .daemon) pt (bytes "%") ≡ textsWith r ca sa pt
+  abbrev given : Texts
+  given = texts ca cn ch sa sn sh uk u sk (r .daemon) pt (bytes "%")
+
+  texts-are : given ≡ textsWith r ca sa pt
   texts-are = rw (e-cn, e-ch, e-sn, e-sh, e-u, e-uk, e-sk)
 
+  pub texts-short : Short (textsWith r ca sa pt) → Short given
+  texts-short h = subst (λ (x : Texts). Short x) (sym texts-are) h
+
+  pub texts-gave : (d o t : List ℕ) (v : Written) → Gave d o v (withinRoom (length d) (expansionBy given t))
+      → Gave d o v (withinRoom (length d) (expansionBy (textsWith r ca sa pt) t))
+  texts-gave d o t v g = subst (λ (x : Texts). Gave d o v (withinRoom (length d) (expansionBy x t))) texts-are g
+
 module _ (r : Request) (process : ℕ) (ca sa pt : List ℕ) (e-ca : ca ≡ addrText (r .client .host .addr)) (e-sa : sa ≡ addrText (r .server .host .addr)) (e-pt : pt ≡ decimal process) where
-  pub request-texts : textsWith r ca sa pt ≡ textsOf r process
+  request-texts : textsWith r ca sa pt ≡ textsOf r process
   request-texts = rw (e-ca, e-sa, e-pt)
 
   pub request-short : wellFormed r ≡ true → Short (textsWith r ca sa pt)
-  request-short w = rw request-texts (wellFormed-short r process w)
+  request-short w = subst (λ (x : Texts). Short x) (sym request-texts) (wellFormed-short r process w)
 
--- an outcome for texts is that for equal ones
-pub gave-same : (x x′ : Texts) → x ≡ x′ → (d o t : List ℕ) (v : Written)
-    → Gave d o v (withinRoom (length d) (expansionBy x t)) → Gave d o v (withinRoom (length d) (expansionBy x′ t))
-gave-same x x′ e d o t v g = rw (← e) g
+  pub request-gave : (d o t : List ℕ) (v : Written) → Gave d o v (withinRoom (length d) (expansionBy (textsWith r ca sa pt) t))
+      → Gave d o v (withinRoom (length d) (expansionBy (textsOf r process) t))
+  request-gave d o t v g = subst (λ (x : Texts). Gave d o v (withinRoom (length d) (expansionBy x t))) request-texts g
 
 -- ## The checks of a command that is joined and trimmed
 
@@ -108,29 +118,44 @@ module _ (c o b : List ℕ) (n : ℕ) (is-n : n ≡ length (join c)) (is-o : o �
   pub line-text : take n o ≡ join c
   line-text = rw is-o (take-at (join c) (drop (length (join c)) b) n (sym is-n))
 
+  pub line-within : n ≤ length o
+  line-within = rw (is-o, is-n, length-append (join c) (drop (length (join c)) b)) (omega arith)
+
   module _ (t : List ℕ) (is-t : t ≡ trimBlanks (take n o)) where
-    pub line-trimmed : t ≡ trimmed c
+    line-trimmed : t ≡ trimmed c
     line-trimmed = is-t ∙ rw line-text (sym (trimmed-join c))
+
+    pub line-gave : (r : Request) (process : ℕ) (d p : List ℕ) (v : Written) → Gave d p v (expandTrimmed t r process (length d))
+        → Gave d p v (expandTrimmed (trimmed c) r process (length d))
+    line-gave r process d p v g = subst (λ (u : List ℕ). Gave d p v (expandTrimmed u r process (length d))) line-trimmed g
 
     pub line-short : length (join c) ≤ 2047 → length t ≤ 2047
     line-short h = rw (is-t, line-text) (omega (arith, length-trimBlanks (join c)))
 
 -- ## The checks of a command
 
-module _ (c : List ℕ) (r : Request) (process : ℕ) (d : List ℕ) (clean : Bool) (is-clean : clean ≡ not (hasBadByte (join c))) where
-  pub byte-refused : clean ≡ false → (f : Refusal) → f ≡ placeless F.BadByte → Gave d d (W.Refused f) (expand c r process (length d))
+module _ (c : List ℕ) (r : Request) (process : ℕ) (d : List ℕ) (j : JoinedText)
+    (is-j : j ≡ record { len = length (join c); clean = not (hasBadByte (join c)) }) where
+  is-len : j .len ≡ length (join c)
+  is-len = ap (λ (i : JoinedText). i .len) is-j
+
+  is-clean : j .clean ≡ not (hasBadByte (join c))
+  is-clean = ap (λ (i : JoinedText). i .clean) is-j
+
+  pub byte-refused : j .clean ≡ false → (f : Refusal) → f ≡ placeless F.BadByte → Gave d d (W.Refused f) (expand c r process (length d))
   unfolding expand lowest
   byte-refused e f g = rw (not-false (hasBadByte (join c)) (sym is-clean ∙ e), g) (refl, refl)
 
-  module _ (e : clean ≡ true) (n : ℕ) (is-n : n ≡ length (join c)) where
-    pub length-refused : 2047 < n → (f : Refusal) → f ≡ placeless F.LongLine → Gave d d (W.Refused f) (expand c r process (length d))
+  pub line-length : j .len ≤ 2047 → length (join c) ≤ 2047
+  line-length h = omega (arith, is-len)
+
+  module _ (e : j .clean ≡ true) where
+    pub length-refused : 2047 < j .len → (f : Refusal) → f ≡ placeless F.LongLine → Gave d d (W.Refused f) (expand c r process (length d))
     unfolding expand lowest
     length-refused h f g =
-        let l : 2047 < length (join c) = omega arith in
+        let l : 2047 < length (join c) = omega (arith, is-len) in
         rw (not-true (hasBadByte (join c)) (sym is-clean ∙ e), lt-ltb 2047 (length (join c)) l, g) (refl, refl)
 
-    pub line-written : n ≤ 2047 → (o : List ℕ) (v : Written) → Gave d o v (expandTrimmed (trimmed c) r process (length d)) → Gave d o v (expand c r process (length d))
+    pub line-written : j .len ≤ 2047 → (o : List ℕ) (v : Written) → Gave d o v (expandTrimmed (trimmed c) r process (length d)) → Gave d o v (expand c r process (length d))
     unfolding expand expandTrimmed expansion hasBadPercent anyBadPercent lowest
-    line-written h o v g =
-        let l : length (join c) ≤ 2047 = omega arith in
-        rw (not-true (hasBadByte (join c)) (sym is-clean ∙ e), le-ltb 2047 (length (join c)) l) g
+    line-written h o v g = rw (not-true (hasBadByte (join c)) (sym is-clean ∙ e), le-ltb 2047 (length (join c)) (line-length h)) g

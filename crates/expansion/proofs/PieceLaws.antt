@@ -16,7 +16,7 @@ use Rattle.text.proofs.PasteLaws.{put-first}
 use Rattle.section.specs.declared.Fault.the-variants as F
 use Rattle.section.specs.declared.Refusal.{Refusal}
 use Rattle.section.specs.declared.Written.the-variants as W
-use Rattle.section.specs.Refusal.{placeless, withinRoom, writtenOf, lentAfter}
+use Rattle.section.specs.Refusal.{Outcome, placeless, withinRoom, writtenOf, lentAfter}
 use Rattle.address.proofs.WriteText.{Wrote, wrote-nil, wrote-byte, front-room, rest-room, rest-all}
 use Rattle.lines.specs.Command.{pieces}
 use Rattle.expansion.specs.Expand.{safeByte}
@@ -149,14 +149,16 @@ module _ (x : Texts) (t d : List ℕ) where
 
 -- ## Where there is room
 
-module _ (d t : List ℕ) (n : ℕ) (is-n : n ≡ length t) where
-  pub room-refused : length d < n → (r : Refusal) → r ≡ placeless F.NoRoom
-      → (W.Refused r ≡ writtenOf (withinRoom (length d) t)) × (d ≡ lentAfter d (withinRoom (length d) t))
-  room-refused h r e = let l : length d < length t = omega arith in rw (lt-ltb (length d) (length t) l, e) (refl, refl)
+module _ (x : Texts) (t d : List ℕ) (n : ℕ) (is-n : n ≡ length (expansionBy x t)) where
+  abbrev outcome : Outcome (List ℕ)
+  outcome = withinRoom (length d) (expansionBy x t)
 
-  pub room-count : n ≤ length d → (p : List ℕ) (k : ℕ) → (k ≡ length t) × (p ≡ putAt d 0 t)
-      → (W.Count k ≡ writtenOf (withinRoom (length d) t)) × (p ≡ lentAfter d (withinRoom (length d) t))
+  pub room-refused : length d < n → (r : Refusal) → r ≡ placeless F.NoRoom → (W.Refused r ≡ writtenOf outcome) × (d ≡ lentAfter d outcome)
+  room-refused h r e = let l : length d < length (expansionBy x t) = omega arith in rw (lt-ltb (length d) (length (expansionBy x t)) l, e) (refl, refl)
+
+  pub room-count : n ≤ length d → (p : List ℕ) (k : ℕ) → (k ≡ length (expansionBy x t)) × (p ≡ putAt d 0 (expansionBy x t))
+      → (W.Count k ≡ writtenOf outcome) × (p ≡ lentAfter d outcome)
   unfolding after
   room-count h p k w =
-      let l : length t ≤ length d = omega arith in
-      rw (le-ltb (length d) (length t) l) (ap (λ (m : ℕ). W.Count m) (w .0), put-first d p t (w .1))
+      let l : length (expansionBy x t) ≤ length d = omega arith in
+      rw (le-ltb (length d) (length (expansionBy x t)) l) (ap (λ (m : ℕ). W.Count m) (w .0), put-first d p (expansionBy x t) (w .1))

@@ -5,13 +5,13 @@
 pub mod directive;
 pub mod write;
 
-use address::write::put_address;
 use crate::directive::host_known;
 use crate::directive::host_text;
 use crate::directive::name_text;
 use crate::directive::user_known;
 use crate::directive::user_text;
 use crate::write::write_expansion;
+use address::write::put_address;
 use elements::Host;
 use elements::User;
 use elements::element::well_formed;
@@ -21,7 +21,6 @@ use lines::line::join_into;
 use lines::line::joined;
 use section::Fault;
 use section::Written;
-
 ghost use mathlib.Core.Path.{_≡_};
 ghost use mathlib.Core.Bool.{true, _||_};
 ghost use Prim.Native.Nat.{_≤_};
@@ -221,16 +220,16 @@ fn expand_line<'a>(
 }
 
 // Expands a command for a request at the front of out; a refusal leaves out as it was.
-pub fn expand(
+pub fn expand<'a>(
     out: &mut [u8],
-    command: &[u8],
-    daemon: &[u8],
+    command: &'a [u8],
+    daemon: &'a [u8],
     client: Host,
-    client_name: &[u8],
+    client_name: &'a [u8],
     server: Host,
-    server_name: &[u8],
+    server_name: &'a [u8],
     user: User,
-    user_name: &[u8],
+    user_name: &'a [u8],
     process: u32,
 ) -> Written
     ensures answer { λ r. ⌜ r ≡ writtenOf (expandBy (now (command .entry)) (requestOf (now (daemon .entry)) (endpoint client (now («client_name» .entry))) (endpoint server (now («server_name» .entry))) user (now («user_name» .entry))) process (length (now (out .entry)))) ⌝ }
