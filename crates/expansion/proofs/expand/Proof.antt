@@ -18,7 +18,7 @@ expand-spec =
     (λ c κs. search needs)
     expand-line-requires
     (λ c. search needs)
-    (λ c. line-written _ _ _ _ _ (c .before .before .before .before .before .before .joined .ensures) (c .before .before .before .before .before .if1 .taken) (c .before .before .before .before .if2 .taken) _ _ (c .before .before .expand-line .ensures))
+    (λ c. line-written _ _ _ (c .before .before .before .before .before .before .before .before .before .before .before .before .before .args .out .now) _ (c .before .before .before .before .before .before .joined .ensures) (c .before .before .before .before .before .if1 .taken) (c .before .before .before .before .if2 .taken) _ _ (c .before .before .expand-line .ensures))
     (λ c κs. search needs)
     (λ c. length-refused _ _ _ _ _ (c .before .before .before .joined .ensures) (c .before .before .if1 .taken) (c .before .if2 .left) _ (c .placeless .ensures))
     (λ c κs. search needs)

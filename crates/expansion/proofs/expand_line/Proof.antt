@@ -17,4 +17,4 @@ expand-line-spec =
     (λ c κs. search needs)
     (λ c κs. let j = c .before .before .before .before .join-into in line-short _ _ _ _ (j .ensures .0) (j .ensures .1) _ (c .before .trim .ensures) (c .before .before .before .before .before .before .before .before .before .before .before .before .pre))
     (λ c. search needs)
-    (λ c. let j = c .before .before .before .before .before .before .before .join-into in line-gave _ _ _ _ (j .ensures .0) (j .ensures .1) _ (c .before .before .before .before .trim .ensures) _ _ _ _ _ (c .before .before .expand-trimmed .ensures)))
+    (λ c. let j = c .before .before .before .before .before .before .before .join-into in line-gave _ _ _ _ (j .ensures .0) (j .ensures .1) _ (c .before .before .before .before .trim .ensures) _ _ (c .before .before .before .before .before .before .before .before .before .before .before .before .before .before .before .args .out .now) _ _ (c .before .before .expand-trimmed .ensures)))
