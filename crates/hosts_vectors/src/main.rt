@@ -1,11 +1,10 @@
 // The examples of document 000, every number that a rule can be refused by, and what is easy to get wrong. Each case prints its
 // sentence and what the gate answers.
-use address::Addr;
-use elements::Host;
-use elements::Name;
-use elements::User;
+use report::Addr;
+use report::Name;
+use report::User;
 
-// The verdict on a client, for the daemon sshd at the server 192.0.2.1, of no known user.
+// The verdict for the daemon sshd at the server 192.0.2.1, on a client of no known user.
 fn client<'a>(
     sentence: &[u8],
     allow: &'a [u8],
@@ -15,39 +14,52 @@ fn client<'a>(
     addr: Addr,
 ) {
     report::sentence(sentence);
-    let client = Host { name, addr };
-    let answer = rules::decide(
+    let at = report::numbers(addr);
+    let state = report::name_state(name);
+    let answer = gate::gate_verdict(
         allow,
         deny,
         b"sshd",
-        client,
+        state,
+        at.kind,
+        at.high,
+        at.low,
         text,
-        server(),
+        0,
+        4,
+        0,
+        3221225985,
         b"",
-        User::Unknown,
+        1,
         b"",
     );
     report::verdict(answer, allow, deny);
 }
 
-// The same for another daemon.
+// The same for another daemon, on a client of a known name at 131.155.73.255.
 fn daemon<'a>(sentence: &[u8], allow: &'a [u8], deny: &'a [u8], daemon: &[u8], text: &[u8]) {
     report::sentence(sentence);
-    let answer = rules::decide(
+    let answer = gate::gate_verdict(
         allow,
         deny,
         daemon,
-        tue(),
+        2,
+        4,
+        0,
+        2207992319,
         text,
-        server(),
+        0,
+        4,
+        0,
+        3221225985,
         b"",
-        User::Unknown,
+        1,
         b"",
     );
     report::verdict(answer, allow, deny);
 }
 
-// The same for a user.
+// The same for sshd and a user.
 fn user<'a>(
     sentence: &[u8],
     allow: &'a [u8],
@@ -57,23 +69,25 @@ fn user<'a>(
     name: &[u8],
 ) {
     report::sentence(sentence);
-    let answer = rules::decide(allow, deny, b"sshd", tue(), text, server(), b"", user, name);
+    let who = report::user_state(user);
+    let answer = gate::gate_verdict(
+        allow,
+        deny,
+        b"sshd",
+        2,
+        4,
+        0,
+        2207992319,
+        text,
+        0,
+        4,
+        0,
+        3221225985,
+        b"",
+        who,
+        name,
+    );
     report::verdict(answer, allow, deny);
-}
-
-// A host of a known name, at 131.155.73.255.
-fn tue() -> Host {
-    Host {
-        name: Name::Known,
-        addr: Addr::V4(2207992319),
-    }
-}
-
-fn server() -> Host {
-    Host {
-        name: Name::Unknown,
-        addr: Addr::V4(3221225985),
-    }
 }
 
 // The pattern examples of document 000.

@@ -1,28 +1,71 @@
 // The examples of documents 001 and 002, and near misses of every form of a byuid line and a portacl entry. Each case prints its
 // sentence and what is decided.
-use address::Addr;
-use portacl::Protocol;
-use portacl::Settings;
+use report::Addr;
+use report::Protocol;
 
-fn byuid(sentence: &[u8], text: &[u8], port: u16, addr: Addr, uid: u32) {
+// The four settings of mac_portacl.
+struct PortaclSettings {
+    enabled: u32,
+    port_high: u32,
+    suser_exempt: u32,
+    autoport_exempt: u32,
+}
+
+fn byuid(sentence: &[u8], text: &[u8], port: u32, addr: Addr, uid: u32) {
     report::sentence(sentence);
-    report::byuid(byuid::decide(text, port, addr, uid));
+    let at = report::numbers(addr);
+    report::decision(gate::gate_byuid(text, port, at.kind, at.high, at.low, uid));
 }
 
 // A bind under the settings that mac_portacl starts with.
-fn portacl(sentence: &[u8], text: &[u8], uid: u32, groups: &[u32], protocol: Protocol, port: u16) {
-    report::sentence(sentence);
-    report::portacl(portacl::decide(text, settings(1, 1023, 1, 1), uid, groups, protocol, port));
+fn portacl(sentence: &[u8], text: &[u8], uid: u32, groups: &[u32], protocol: Protocol, port: u32) {
+    bind(
+        sentence,
+        text,
+        settings(1, 1023, 1, 1),
+        uid,
+        groups,
+        protocol,
+        port,
+    );
 }
 
 // A tcp bind without groups under other settings.
-fn under(sentence: &[u8], text: &[u8], settings: Settings, uid: u32, port: u16) {
-    report::sentence(sentence);
-    report::portacl(portacl::decide(text, settings, uid, &[], Protocol::Tcp, port));
+fn under(sentence: &[u8], text: &[u8], settings: PortaclSettings, uid: u32, port: u32) {
+    bind(sentence, text, settings, uid, &[], Protocol::Tcp, port);
 }
 
-fn settings(enabled: u32, port_high: u32, suser_exempt: u32, autoport_exempt: u32) -> Settings {
-    Settings {
+fn bind(
+    sentence: &[u8],
+    text: &[u8],
+    s: PortaclSettings,
+    uid: u32,
+    groups: &[u32],
+    protocol: Protocol,
+    port: u32,
+) {
+    report::sentence(sentence);
+    let by = report::protocol_number(protocol);
+    report::decision(gate::gate_portacl(
+        text,
+        s.enabled,
+        s.port_high,
+        s.suser_exempt,
+        s.autoport_exempt,
+        uid,
+        groups,
+        by,
+        port,
+    ));
+}
+
+fn settings(
+    enabled: u32,
+    port_high: u32,
+    suser_exempt: u32,
+    autoport_exempt: u32,
+) -> PortaclSettings {
+    PortaclSettings {
         enabled,
         port_high,
         suser_exempt,
@@ -549,15 +592,15 @@ fn portacl_refused_2() {
         80,
     );
     portacl(b"12 comes before 13", b"x", 80, &[1; 17], Protocol::Tcp, 80);
-    report::sentence(b"13: 17 groups");
-    report::portacl(portacl::decide(
+    bind(
+        b"13: 17 groups",
         b"",
         settings(0, 1023, 1, 1),
         80,
         &[1; 17],
         Protocol::Tcp,
         80,
-    ));
+    );
     portacl(
         b"16 groups, the last one granted",
         b"gid:9:tcp:80",
