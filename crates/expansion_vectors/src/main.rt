@@ -188,13 +188,13 @@ fn directive(b: u8) -> u8 {
 
 fn directives() {
     report::sentence(b"% before each of the 256 bytes: . written, 5 refused by 5, % by 11");
-    let mut line = [0u8; 256];
-    let mut b = 0usize;
+    let mut b = 0u32;
     while b < 256 {
-        line[b] = directive(b as u8);
+        let mark = directive(b as u8);
+        report::text(&[mark]);
         b += 1;
     }
-    report::line(&line, 256);
+    report::text(b"\n");
 }
 
 // What a byte of a user's name is written as.
@@ -209,22 +209,31 @@ fn inserted(b: u8) -> u8 {
 
 fn house_set() {
     report::sentence(b"each of the 256 bytes, inserted");
-    let mut line = [0u8; 256];
-    let mut b = 0usize;
+    let mut b = 0u32;
     while b < 256 {
-        line[b] = inserted(b as u8);
+        let byte = inserted(b as u8);
+        report::text(&[byte]);
         b += 1;
     }
-    report::line(&line, 256);
+    report::text(b"\n");
 }
 
-// P9 into the first n of 16 bytes, and what all 16 hold afterwards.
-fn room(n: usize) {
-    if 16 < n {
-        return;
+// P9 into the first n bytes of out; into all of them where it has fewer.
+fn in_room(out: &mut [u8], n: usize) -> gate::GateWritten {
+    if out.len() < n {
+        return p9(out);
     }
+    p9(&mut out[..n])
+}
+
+fn p9(out: &mut [u8]) -> gate::GateWritten {
+    expanded(out, b"/bin/log %u", 2, 4, 2, b"a;b")
+}
+
+// P9 into n of 16 bytes: what all 16 hold afterwards, and the answer.
+fn room(n: usize) {
     let mut out = [46u8; 16];
-    let w = expanded(&mut out[..n], b"/bin/log %u", 2, 4, 2, b"a;b");
+    let w = in_room(&mut out, n);
     report::line(&out, 16);
     report::written(w, &out);
 }
@@ -234,7 +243,7 @@ fn rooms() {
         b"every room from none to all of 16 bytes: a short one is refused and untouched",
     );
     let mut n = 0usize;
-    while n <= 16 {
+    while n < 17 {
         room(n);
         n += 1;
     }

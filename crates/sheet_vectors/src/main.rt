@@ -54,10 +54,8 @@ fn same(a: &[u8], b: &[u8]) -> bool {
     }
     let mut i = 0;
     while i < a.len() {
-        if i < b.len() {
-            if a[i] != b[i] {
-                return false;
-            }
+        if a[i] != b[i] {
+            return false;
         }
         i += 1;
     }
@@ -91,68 +89,73 @@ fn cuts(sheet: &[u8]) {
     }
 }
 
-// Puts a count into a sheet.
-fn set_count(sheet: &mut [u8], at: usize, n: u32) {
-    if sheet.len() < 4 {
-        return;
+fn set(sheet: &mut [u8], at: usize, b: u8) {
+    if at < sheet.len() {
+        sheet[at] = b;
     }
-    if sheet.len() - 4 < at {
-        return;
-    }
-    sheet[at] = (n >> 24) as u8;
-    sheet[at + 1] = (n >> 16 & 255) as u8;
-    sheet[at + 2] = (n >> 8 & 255) as u8;
-    sheet[at + 3] = (n & 255) as u8;
 }
 
-fn counted(at: usize, n: u32) {
+fn set_count(sheet: &mut [u8], at: usize, a: u8, b: u8, c: u8, d: u8) {
+    if 42000 < at {
+        return;
+    }
+    set(sheet, at, a);
+    set(sheet, at + 1, b);
+    set(sheet, at + 2, c);
+    set(sheet, at + 3, d);
+}
+
+// The sample with the count at a place made of these four bytes.
+fn counted(at: usize, a: u8, b: u8, c: u8, d: u8) {
     let mut sheet = [0u8; 143];
     sample(&mut sheet);
-    set_count(&mut sheet, at, n);
+    set_count(&mut sheet, at, a, b, c, d);
     check(&sheet);
 }
 
-// 1: a count within its limit whose bytes are missing. 2: a count over its limit, and the highest.
-fn counts(sentence: &[u8], at: usize, limit: u32) {
+// A limit is 256 times its third byte. At the limit the bytes are missing; then one more, and the highest count.
+fn counts(sentence: &[u8], at: usize, limit: u8) {
     report::sentence(sentence);
-    counted(at, limit);
-    if limit < 65536 {
-        counted(at, limit + 1);
-    }
-    counted(at, 4294967295);
+    counted(at, 0, 0, limit, 0);
+    counted(at, 0, 0, limit, 1);
+    counted(at, 255, 255, 255, 255);
 }
 
 fn every_count() {
-    counts(b"allow's count: its limit, one more, 2^32 - 1", 0, 16384);
-    counts(b"deny's count", 57, 16384);
-    counts(b"byuid's count", 90, 8192);
-    counts(b"portacl's count", 110, 1024);
+    counts(b"allow's count: its limit, one more, 2^32 - 1", 0, 64);
+    counts(b"deny's count", 57, 64);
+    counts(b"byuid's count", 90, 32);
+    counts(b"portacl's count", 110, 4);
     report::sentence(b"portacl's count one less: 3, as a byte follows");
-    counted(110, 28);
+    counted(110, 0, 0, 0, 28);
 }
 
-// 1,024 bytes of portacl entries.
-fn longest_list() -> [u8; 1024] {
-    let entry = b"uid:0:tcp:0,";
-    let last = b"uid:10:tcp:65535";
-    let mut t = [0u8; 1024];
+// The byte at a place of 1,024 bytes of portacl entries: 84 of 12 bytes with their commas, and one of 16.
+fn entry_byte(i: usize) -> u8 {
+    if i < 1008 {
+        return b"uid:0:tcp:0,"[i % 12];
+    }
+    if i < 1024 {
+        return b"uid:10:tcp:65535"[i - 1008];
+    }
+    0
+}
+
+fn fill_entries(t: &mut [u8]) {
     let mut i = 0usize;
-    while i < 1024 {
-        if i < 1008 {
-            t[i] = entry[i % 12];
-        } else {
-            t[i] = last[i - 1008];
-        }
+    while i < t.len() {
+        t[i] = entry_byte(i);
         i += 1;
     }
-    t
 }
 
 fn fullest() {
     report::sentence(b"the fullest sheet, and one byte more");
     let lines = [10u8; 16384];
+    let mut list = [0u8; 1024];
+    fill_entries(&mut list);
     let mut sheet = [0u8; 42001];
-    let w = gate::gate_pack(&mut sheet, &lines, &lines, &[10u8; 8192], &longest_list());
+    let w = gate::gate_pack(&mut sheet, &lines, &lines, &[10u8; 8192], &list);
     report::number(w.count);
     report::text(b" bytes\n");
     check(report::part(&sheet, 0, 42000));
