@@ -1,3 +1,4 @@
+pub mod AnswerLaws
 pub mod AddressClaims
 pub mod ExampleClaims
 pub mod SheetClaims

@@ -2,8 +2,9 @@
 -- in turn, each within its limit, to the sheet's end.
 -- A sheet of 42,000 bytes: blank lines alone, byuid bytes of any kind, and a list of 85 entries; its checks are computed.
 -- Assumes nothing.
+use Prim.Native.Nat.{ℕ}
 use Prim.Native.Char.{code}
-use mathlib.Core.List.{[], _∷_, _++_}
+use mathlib.Core.List.{List, [], _∷_, _++_}
 use mathlib.Core.Option.{none}
 use mathlib.Core.Path.{_≡_, refl, sym, ap, _∙_}
 use native.Mathlib.Omega.{arith}
@@ -15,28 +16,57 @@ use Rattle.section.specs.Refusal.{answered, lowest}
 use Rattle.lines.specs.Line.{join, logicalLines, lines, hasBadByte}
 use Rattle.rules.specs.Check.{lineFault, hostsFault}
 use Rattle.portacl.specs.Portacl.{readEntry, entries, entryFault, portaclFault}
-use Rattle.sheet.specs.Sheet.{Texts, textsAt, textsFault, unpack, sheetOf}
+use Rattle.sheet.specs.declared.Parts.{Parts}
+use Rattle.sheet.specs.Sheet.{Texts, textsAt, textsFault, unpack, sheetOf, pack, decideSheet, decideByuidSheet, decidePortaclSheet}
 use Rattle.sheet.proofs.FrameLaws.{frame-cut, textsFault-none, partsOf, sheetOf-inTurn, framed-partsOf, textsAt-partsOf, sheetOf-textsAt, unpack-answered, answered-unpack, pack-answered, answered-pack}
-use Rattle.claims.specs.Claims.{AreBytes, CutShort, Longest, UnpackPack, PackUnpack}
+use Rattle.codes.specs.Answers.{verdictAnswer, byuidAnswer, portaclAnswer, checkAnswer, partsAnswer, writtenAnswer}
+use Rattle.claims.specs.Claims.{AreBytes, CutShort, Longest, UnpackPack, PackUnpack, textsOf}
+use Rattle.claims.proofs.AnswerLaws.{accepted-parts, parts-accepted, written-answered, front-answered}
 
 pub cut-short : CutShort
-unfolding unpack
-cut-short sheet p n e less =
-    let h = frame-cut sheet n less (unpack-answered sheet p e .0) in
-    (h .0, h .1, h .2, rw (h .3))
+unfolding unpack decideSheet decideByuidSheet decidePortaclSheet checkAnswer partsAnswer verdictAnswer byuidAnswer portaclAnswer
+cut-short sheet n e less =
+    let p = accepted-parts sheet e in
+    let h = frame-cut sheet n less (unpack-answered sheet (p .0) (p .1) .0) in (
+      h .0,
+      h .1,
+      h .2,
+      record {
+        check = rw (h .3);
+        unpacked = rw (h .3);
+        verdict = λ r. rw (h .3);
+        byuid = λ port kind high low uid. rw (h .3);
+        portacl = λ settings b. rw (h .3);
+      },
+    )
 
-pub unpack-pack : UnpackPack
-unpack-pack ts room sheet e =
+packed-parts : (ts : Texts) (room : ℕ) (sheet : List ℕ) → pack ts room ≡ answered sheet → (unpack sheet ≡ answered (partsOf ts)) × (textsAt sheet (partsOf ts) ≡ ts)
+packed-parts ts room sheet e =
     let a = pack-answered ts room sheet e in
     let is = sym (a .1) ∙ sheetOf-inTurn ts in
     let same = textsAt-partsOf ts sheet is in
-    (partsOf ts, answered-unpack (framed-partsOf ts sheet is (textsFault-none ts (a .0))) (ap textsFault same ∙ a .0), same)
+    (answered-unpack (framed-partsOf ts sheet is (textsFault-none ts (a .0))) (ap textsFault same ∙ a .0), same)
+
+-- the texts that gate_unpack finds
+texts-found : (sheet : List ℕ) (p : Parts) → unpack sheet ≡ answered p → textsOf sheet ≡ textsAt sheet p
+unfolding partsAnswer
+texts-found sheet p e = rw e
+
+pub unpack-pack : UnpackPack
+unpack-pack ts out e =
+    let w = written-answered out (pack ts (length out)) e in
+    let h = packed-parts ts (length out) (w .0) (w .1) in
+    rw (w .2) (parts-accepted (w .0) (partsOf ts) (h .0), texts-found (w .0) (partsOf ts) (h .0) ∙ h .1)
 
 pub pack-unpack : PackUnpack
-pack-unpack sheet p room b e h =
-    let a = unpack-answered sheet p e in
+unfolding writtenAnswer
+pack-unpack sheet out b e h =
+    let p = accepted-parts sheet e in
+    let a = unpack-answered sheet (p .0) (p .1) in
     let same = sheetOf-textsAt b (a .0) in
-    answered-pack (textsAt sheet p) room (a .1) (rw same h) ∙ ap answered same
+    let packed : pack (textsOf sheet) (length out) ≡ answered sheet =
+    ap (λ ts. pack ts (length out)) (texts-found sheet (p .0) (p .1)) ∙ answered-pack (textsAt sheet (p .0)) (length out) (a .1) (rw same h) ∙ ap answered same in
+    (ap writtenAnswer packed, front-answered out (pack (textsOf sheet) (length out)) sheet packed)
 
 -- ## The longest sheet
 
@@ -62,10 +92,11 @@ longest-length = refl
 
 pub longest : Longest
 longest = record {
-  at-most = λ sheet p e.
-      let f = unpack-answered sheet p e .0 in
+  at-most = λ sheet e.
+      let p = accepted-parts sheet e in
+      let f = unpack-answered sheet (p .0) (p .1) .0 in
       omega (arith, f .allow .place, f .allow .limit, f .deny .place, f .deny .limit, f .byuid .place, f .byuid .limit, f .portacl .place, f .portacl .limit, f .end);
   reached =
-      let h = unpack-pack longestTexts 42000 (sheetOf longestTexts) (answered-pack longestTexts 42000 longestTexts-sound (omega (arith, longest-length))) in
-      (sheetOf longestTexts, h .0, longest-bytes, h .1, longest-length);
+      let h = packed-parts longestTexts 42000 (sheetOf longestTexts) (answered-pack longestTexts 42000 longestTexts-sound (omega (arith, longest-length))) in
+      (sheetOf longestTexts, longest-bytes, parts-accepted (sheetOf longestTexts) (partsOf longestTexts) (h .0), longest-length);
 }

@@ -23,6 +23,7 @@ use Rattle.text.specs.Text.{among, firstAmong, lastAmong, split, consHead}
 use Rattle.text.proofs.BasicLaws.{and-true, all-take, all-drop}
 use Rattle.lines.specs.Line.{join, Line, line, continued, logicalLines, lines, hasBadByte}
 use Rattle.lines.specs.Scan.{span, isLineByte, scan, scanLine, spanAt, SpanBounds, slashBefore, pairAt}
+use Rattle.lines.specs.declared.line.JoinedText.{JoinedText}
 use Rattle.lines.specs.declared.line.LineSpan.{LineSpan}
 
 -- ## Joining
@@ -442,6 +443,51 @@ module _ {t : List ℕ} {start i j : ℕ} {c : Bool} (inv : Scanning t start i j
     pub scanning-other : (leb 32 (getD t i 0) && leb (getD t i 0) 126) ≡ false → (getD t i 0 ≡ 10 → ⊥)
         → Scanning t start (i + 1) j (c && eqb (getD t i 0) 9)
     scanning-other e n = rw (e, or-false) at (scanning-byte n)
+
+-- ## The loop that measures the join
+
+abbrev joinedText : ℕ → Bool → JoinedText
+joinedText n c = record { len = n; clean = c }
+
+not-not : (b : Bool) → not (not b) ≡ b
+not-not true = refl
+not-not false = refl
+
+-- s is read up to i: the join of that is n bytes long, and c says whether a line may hold all of them
+pub record Measuring (s : List ℕ) (i n : ℕ) (c : Bool) : Type 0 where
+  pub within : i ≤ length s
+  pub few : n ≤ i
+  pub lengths : length (join s) ≡ n + length (join (drop i s))
+  pub bytes : all isLineByte (join s) ≡ (c && all isLineByte (join (drop i s)))
+
+pub measuring-start : (s : List ℕ) → Measuring s 0 0 true
+measuring-start s = record { within = omega arith; few = omega arith; lengths = omega arith; bytes = refl }
+
+module _ {s : List ℕ} {i n : ℕ} {c : Bool} (inv : Measuring s i n c) where
+  pub measuring-end : length s ≤ i → joinedText n c ≡ joinedText (length (join s)) (not (hasBadByte (join s)))
+  unfolding join all hasBadByte
+  measuring-end h = rw (inv .lengths, inv .bytes, drop-of-length-le s h, add-zero n, and-true-right c, not-not c)
+
+  module _ (h : i < length s) (x : Bool) (is-x : x ≡ pairAt s i) where
+    pub measuring-pair : x ≡ true → Measuring s (i + 2) n c
+    measuring-pair e =
+        record {
+          within = pairAt-within s i h x is-x e;
+          few = omega (arith, inv .few);
+          lengths = rw (← (join-skip s i h x is-x e)) (inv .lengths);
+          bytes = rw (← (join-skip s i h x is-x e)) (inv .bytes);
+        }
+
+    pub measuring-byte : x ≡ false → Measuring s (i + 1) (n + 1) (c && isLineByte (getD s i 0))
+    unfolding all
+    measuring-byte e =
+        let k : join (drop i s) ≡ getD s i 0 ∷ join (drop (i + 1) s) = join-keep s i h x is-x e in
+        record {
+          within = omega arith;
+          few = omega (arith, inv .few);
+          lengths = omega (arith, inv .lengths, ap length k);
+          bytes = inv .bytes ∙ rw (k, and-assoc c (isLineByte (getD s i 0)) (all isLineByte (join (drop (i + 1) s))));
+        }
 
 -- ## The loop that writes the join
 

@@ -1,14 +1,16 @@
 // Logical lines of a text: finding one, its join, and whether it is a comment or blank.
 //   scan_line(text, start) == the logical line that starts there
+//   joined(s)              == how long s is when joined, and whether its bytes may stand in a line
 //   join_into(out, s)      == s joined, written to the front of out
 //   is_comment(raw), is_blank(raw) == of a line that is not joined yet
 ghost use mathlib.Core.Path.{_≡_};
+ghost use mathlib.Core.Bool.{not};
 ghost use mathlib.Core.List.{_++_};
 ghost use Prim.Native.Nat.{_≤_, _<_};
 ghost use lib.ListN.{length, drop};
 ghost use Rattle.text.specs.Basics.{all};
 ghost use Rattle.text.specs.Text.{among, firstAmong};
-ghost use Rattle.lines.specs.Line.{join};
+ghost use Rattle.lines.specs.Line.{join, hasBadByte};
 ghost use Rattle.lines.specs.Scan.{spanAt, scanLine, SpanBounds, slashBefore, pairAt};
 
 // A logical line that was found: its end, whether a newline stands there, how many pairs of a backslash and a newline are dropped
@@ -17,6 +19,12 @@ pub struct LineSpan {
     pub end: usize,
     pub ended: bool,
     pub joins: usize,
+    pub clean: bool,
+}
+
+// How long a text is when joined, and whether every byte of it may stand in a line.
+pub struct JoinedText {
+    pub len: usize,
     pub clean: bool,
 }
 
@@ -81,6 +89,26 @@ fn is_pair(s: &[u8], i: usize) -> bool
     }
     let k = i + 1;
     if k < s.len() { s[k] == 10 } else { false }
+}
+
+// Measures s as joined, and looks at each byte that remains.
+pub fn joined(s: &[u8]) -> JoinedText
+    ensures { λ r. ⌜ r ≡ record { len = length (join (now (s .entry))); clean = not (hasBadByte (join (now (s .entry)))) } ⌝ }
+{
+    let mut i = 0;
+    let mut len = 0;
+    let mut clean = true;
+    while i < s.len() {
+        if is_pair(s, i) {
+            i += 2;
+        } else {
+            let b = s[i];
+            clean = clean & ((b == 9) | ((32 <= b) & (b <= 126)));
+            len += 1;
+            i += 1;
+        }
+    }
+    JoinedText { len, clean }
 }
 
 // Writes s, joined, and answers its length.

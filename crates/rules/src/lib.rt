@@ -1,14 +1,17 @@
 // The checks of the allow and deny files, and the verdict on a request.
 //   decide(allow, deny, ..)  == the verdict, or the refusal of a text or of the request
+//   pass_both(allow, deny, ..) == one pass over both texts: the refusal of one, else what decides
+//   go_on(found, rest)       == that pass, then another
+//   ruling_by(pass, sound)   == the ruling by a pass, on a request that is sound or not
+//   part_of(s, part)         == the bytes of a part of s
 //   command_part(allow, deny, answer) == the bytes of the answer's raw command
 pub mod check;
 pub mod hosts_file;
 pub mod walk;
 
 ghost use mathlib.Core.Path.{_≡_};
-ghost use lib.ListN.{take, drop};
 ghost use Rattle.elements.specs.Request.{requestOf, endpoint};
-ghost use Rattle.rules.specs.Search.{decide as decideBy, rulingOf, commandBytes};
+ghost use Rattle.rules.specs.Search.{decide as decideBy, rulingOf, bytesAt, commandBytes};
 ghost use Rattle.rules.specs.FileCode.{isUnmatched, onward, passBoth, refusingRequest, rulingBy};
 use elements::Host;
 use elements::User;
@@ -62,7 +65,7 @@ fn is_unmatched(pass: Pass) -> bool
 }
 
 // The pass over some lines, then over what follows them.
-fn go_on(found: Pass, rest: Pass) -> Pass
+pub fn go_on(found: Pass, rest: Pass) -> Pass
     ensures { λ r. ⌜ r ≡ onward found rest ⌝ }
 {
     match found {
@@ -77,7 +80,7 @@ fn go_on(found: Pass, rest: Pass) -> Pass
 }
 
 // The pass over both files: the allow file first, and the deny file's rules only if none of the allow file's matches.
-fn pass_both(
+pub fn pass_both(
     allow: &[u8],
     deny: &[u8],
     daemon: &[u8],
@@ -137,7 +140,7 @@ fn answered(answer: Answer, sound: bool) -> Ruling
 }
 
 // The ruling by a pass over both files, on a request that is sound or not.
-fn ruling_by(pass: Pass, sound: bool) -> Ruling
+pub fn ruling_by(pass: Pass, sound: bool) -> Ruling
     ensures { λ r. ⌜ r ≡ rulingBy pass sound ⌝ }
 {
     match pass {
@@ -204,14 +207,16 @@ pub fn decide(
     )
 }
 
-// The part of s from at on of n bytes, as far as s goes.
-fn part_of(s: &[u8], at: usize, n: usize) -> &[u8]
-    ensures { λ r. ⌜ now r ≡ take n (drop at (now (s .entry))) ⌝ }
+// The bytes of a part of s, as far as s goes.
+pub fn part_of(s: &[u8], part: Part) -> &[u8]
+    ensures { λ r. ⌜ now r ≡ bytesAt (now (s .entry)) part ⌝ }
 {
+    let at = part.place;
     if s.len() <= at {
         return &s[..0];
     }
     let rest = &s[at..];
+    let n = part.len;
     if rest.len() <= n {
         return rest;
     }
@@ -223,10 +228,9 @@ pub fn command_part<'a>(allow: &'a [u8], deny: &'a [u8], answer: Answer) -> &'a 
     ensures { λ r. ⌜ now r ≡ commandBytes (now (allow .entry)) (now (deny .entry)) answer ⌝ }
 {
     let file = answer.file;
-    let command = answer.command;
     match file {
         File::Neither => &allow[..0],
-        File::Allow => part_of(allow, command.place, command.len),
-        File::Deny => part_of(deny, command.place, command.len),
+        File::Allow => part_of(allow, answer.command),
+        File::Deny => part_of(deny, answer.command),
     }
 }

@@ -1,1 +1,5 @@
+pub mod DecideLaws
 pub mod FrameLaws
+pub mod ReadLaws
+pub mod TextsLaws
+pub mod PackLaws

@@ -20,8 +20,10 @@ use Rattle.section.specs.Section.{Section, part, overLimit}
 use Rattle.address.specs.declared.Addr.{Addr}
 use Rattle.elements.specs.Request.{Request}
 use Rattle.rules.specs.declared.Answer.{Answer}
+use Rattle.rules.specs.declared.File.{File}
+use Rattle.rules.specs.declared.File.the-variants.{Neither, Allow, Deny}
 use Rattle.rules.specs.Check.{hostsFault}
-use Rattle.rules.specs.Search.{decide}
+use Rattle.rules.specs.Search.{answer, decide}
 use Rattle.byuid.specs.declared.Decision.{Decision as ByuidDecision}
 use Rattle.byuid.specs.Byuid.{decideByuid}
 use Rattle.portacl.specs.declared.Decision.{Decision as PortaclDecision}
@@ -36,6 +38,9 @@ pub record Texts : Type 0 where
   pub deny : List ℕ
   pub byuid : List ℕ
   pub portacl : List ℕ
+
+abbrev pub texts : List ℕ → List ℕ → List ℕ → List ℕ → Texts
+texts a d b p = record { allow = a; deny = d; byuid = b; portacl = p }
 
 abbrev pub textAt : List ℕ → Part → List ℕ
 textAt sheet p = take (p .len) (drop (p .place) sheet)
@@ -98,10 +103,21 @@ sheetOf ts = counted (ts .allow) ++ counted (ts .deny) ++ counted (ts .byuid) ++
 unfoldable pub pack : Texts → ℕ → Outcome (List ℕ)
 pack ts room = refusing (textsFault ts) (sheetOf ts) >>= withinRoom room
 
+abbrev pub filePlace : Parts → File → ℕ
+filePlace p Neither = 0
+filePlace p Allow = p .allow .place
+filePlace p Deny = p .deny .place
+
+-- "The verdict hands back the raw command as a part of the allow file or of the deny file": as that part of the sheet, so
+-- that its bytes are found by textAt
+abbrev pub inSheet : Parts → Answer → Answer
+inSheet p a = answer (a .verdict) (a .file) (a .line) (part (filePlace p (a .file) + a .command .place) (a .command .len))
+
 unfoldable pub decideSheet : List ℕ → Request → Outcome Answer
 decideSheet sheet r = do
   p ← unpack sheet
-  decide (textAt sheet (p .allow)) (textAt sheet (p .deny)) r
+  a ← decide (textAt sheet (p .allow)) (textAt sheet (p .deny)) r
+  answered (inSheet p a)
 
 unfoldable pub decideByuidSheet : List ℕ → ℕ → Addr → ℕ → Outcome ByuidDecision
 decideByuidSheet sheet port a uid = do

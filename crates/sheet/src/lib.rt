@@ -1,4 +1,9 @@
 // The station sheet: four texts in one, packed and unpacked.
+pub mod decide;
+pub mod frame;
+pub mod pack;
+pub mod texts;
+pub mod unpack;
 
 // The place and length of each text of a sheet.
 pub struct Parts {

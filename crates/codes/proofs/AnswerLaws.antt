@@ -1,0 +1,54 @@
+-- What a call answers as numbers is the definition's outcome as numbers.
+-- Assumes nothing.
+use Prim.Native.Nat.{ℕ}
+use mathlib.Core.List.{List}
+use mathlib.Core.Path.{_≡_}
+use Rattle.section.specs.declared.Written.{Written}
+use Rattle.section.specs.Refusal.{Outcome, refused, answered, writtenOf}
+use Rattle.address.specs.declared.Addr.{Addr}
+use Rattle.address.specs.declared.read.AddressRead.{AddressRead}
+use Rattle.address.specs.Address.{asRead}
+use Rattle.rules.specs.declared.Answer.{Answer}
+use Rattle.rules.specs.declared.Ruling.{Ruling as VerdictRuling}
+use Rattle.rules.specs.declared.Ruling.the-variants as Ver
+use Rattle.rules.specs.Search as Search
+use Rattle.byuid.specs.declared.Decision.{Decision as ByuidDecision}
+use Rattle.byuid.specs.declared.Ruling.{Ruling as ByuidRuling}
+use Rattle.byuid.specs.Byuid as Byuid
+use Rattle.portacl.specs.declared.Decision.{Decision as PortaclDecision}
+use Rattle.portacl.specs.declared.Ruling.{Ruling as PortaclRuling}
+use Rattle.portacl.specs.Portacl as Portacl
+use Rattle.codes.specs.declared.GateAnswer.{GateAnswer}
+use Rattle.codes.specs.declared.GateWritten.{GateWritten}
+use Rattle.codes.specs.declared.GateAddress.{GateAddress}
+use Rattle.codes.specs.Answers.{answerNumbers, verdictAnswer, byuidAnswer, portaclAnswer, writtenAnswer, addressAnswer}
+use Rattle.codes.specs.Code.{byuidNumbers, portaclNumbers, verdictNumbers, writtenNumbers, readNumbers}
+
+pub byuid-numbers : (o : Outcome ByuidDecision) (x : ByuidRuling) (a : GateAnswer) → x ≡ Byuid.rulingOf o → a ≡ byuidNumbers x → a ≡ byuidAnswer o
+unfolding byuidNumbers byuidAnswer
+byuid-numbers (refused r) x a e f = rw e at f
+byuid-numbers (answered d) x a e f = rw e at f
+
+pub portacl-numbers : (o : Outcome PortaclDecision) (x : PortaclRuling) (a : GateAnswer) → x ≡ Portacl.rulingOf o → a ≡ portaclNumbers x → a ≡ portaclAnswer o
+unfolding portaclNumbers portaclAnswer
+portacl-numbers (refused r) x a e f = rw e at f
+portacl-numbers (answered d) x a e f = rw e at f
+
+pub verdict-answered : (x : VerdictRuling) (b : Answer) (a : GateAnswer) → x ≡ Ver.Answered b → a ≡ answerNumbers b → a ≡ verdictNumbers x
+unfolding verdictNumbers
+verdict-answered x b a e f = rw e f
+
+pub verdict-numbers : (o : Outcome Answer) (x : VerdictRuling) (a : GateAnswer) → x ≡ Search.rulingOf o → a ≡ verdictNumbers x → a ≡ verdictAnswer o
+unfolding verdictNumbers verdictAnswer
+verdict-numbers (refused r) x a e f = rw e at f
+verdict-numbers (answered b) x a e f = rw e at f
+
+pub written-numbers : (o : Outcome (List ℕ)) (x : Written) (a : GateWritten) → x ≡ writtenOf o → a ≡ writtenNumbers x → a ≡ writtenAnswer o
+unfolding writtenNumbers writtenAnswer
+written-numbers (refused r) x a e f = rw e at f
+written-numbers (answered t) x a e f = rw e at f
+
+pub read-numbers : (o : Outcome Addr) (x : AddressRead) (a : GateAddress) → x ≡ asRead o → a ≡ readNumbers x → a ≡ addressAnswer o
+unfolding readNumbers addressAnswer
+read-numbers (refused r) x a e f = rw e at f
+read-numbers (answered b) x a e f = rw e at f

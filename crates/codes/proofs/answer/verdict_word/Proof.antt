@@ -1,0 +1,12 @@
+-- The answer as numbers is that of the definition. Assumes nothing.
+use borrow.Author.Needs.{needs}
+use Rattle.codes.proofs.answer.verdict_word.Statement.{statement}
+use Rattle.codes.proofs.answer.verdict_word.Tie as tie
+
+pub verdict-word-spec : {M : Type 1} → statement M
+verdict-word-spec =
+    tie.close
+    (tie.spec
+    (λ c κs. search needs)
+    (λ c κs. search needs)
+    (λ c. cc))

@@ -1,0 +1,12 @@
+-- What the calls answered, together. Assumes nothing.
+use borrow.Author.Needs.{needs}
+use Rattle.codes.proofs.request.host.Statement.{statement}
+use Rattle.codes.proofs.request.host.Tie as tie
+
+pub host-spec : {M : Type 1} → statement M
+host-spec =
+    tie.close
+    (tie.spec
+    (λ c κs. search needs)
+    (λ c κs. search needs)
+    (λ c. cc))

@@ -1,0 +1,205 @@
+// What a call answers, as numbers.
+use crate::GateAddress;
+use crate::GateAnswer;
+use crate::GateWritten;
+use address::Addr;
+use address::read::AddressRead;
+use section::Refusal;
+use section::Written;
+ghost use mathlib.Core.Path.{_≡_};
+ghost use Rattle.rules.specs.Search.{fileSection};
+ghost use Rattle.section.specs.declared.Written.the-variants as W;
+ghost use Rattle.address.specs.declared.read.AddressRead.the-variants as R;
+ghost use Rattle.codes.specs.Answers.{refusalAnswer, wordAnswer, verdictCode, answerNumbers, byuidCode, portaclCode, gateAddress, addressNumbers};
+ghost use Rattle.codes.specs.Code.{byuidNumbers, portaclNumbers, verdictNumbers, writtenNumbers, readNumbers};
+
+fn refused(r: Refusal) -> GateAnswer
+    ensures { λ a. ⌜ a ≡ refusalAnswer r ⌝ }
+{
+    let fault = r.fault;
+    GateAnswer {
+        number: section::fault_number(fault) as u32,
+        section: r.section as u32,
+        line: r.line as u64,
+        word: 0,
+        file: 0,
+        place: 0,
+        len: 0,
+    }
+}
+
+fn word(w: u32) -> GateAnswer
+    ensures { λ a. ⌜ a ≡ wordAnswer w ⌝ }
+{
+    GateAnswer {
+        number: 0,
+        section: 0,
+        line: 0,
+        word: w,
+        file: 0,
+        place: 0,
+        len: 0,
+    }
+}
+
+fn byuid_code(d: byuid::Decision) -> u32
+    ensures { λ r. ⌜ r ≡ byuidCode d ⌝ }
+{
+    match d {
+        byuid::Decision::Granted => 1,
+        byuid::Decision::NoLine => 4,
+        byuid::Decision::NotRuled => 5,
+    }
+}
+
+fn portacl_code(d: portacl::Decision) -> u32
+    ensures { λ r. ⌜ r ≡ portaclCode d ⌝ }
+{
+    match d {
+        portacl::Decision::Granted => 1,
+        portacl::Decision::Denied => 2,
+        portacl::Decision::NotRuled => 5,
+        portacl::Decision::Exempt => 6,
+    }
+}
+
+// A byuid decision as numbers.
+pub fn byuid_numbers(r: byuid::Ruling) -> GateAnswer
+    ensures { λ a. ⌜ a ≡ byuidNumbers r ⌝ }
+{
+    match r {
+        byuid::Ruling::Refused(refusal) => refused(refusal),
+        byuid::Ruling::Answered(d) => word(byuid_code(d)),
+    }
+}
+
+// A portacl decision as numbers.
+pub fn portacl_numbers(r: portacl::Ruling) -> GateAnswer
+    ensures { λ a. ⌜ a ≡ portaclNumbers r ⌝ }
+{
+    match r {
+        portacl::Ruling::Refused(refusal) => refused(refusal),
+        portacl::Ruling::Answered(d) => word(portacl_code(d)),
+    }
+}
+
+fn verdict_code(v: rules::Verdict) -> u32
+    ensures { λ r. ⌜ r ≡ verdictCode v ⌝ }
+{
+    match v {
+        rules::Verdict::Granted => 1,
+        rules::Verdict::Denied => 2,
+        rules::Verdict::Ask => 3,
+    }
+}
+
+fn file_section(f: rules::File) -> u32
+    ensures { λ r. ⌜ r ≡ fileSection f ⌝ }
+{
+    match f {
+        rules::File::Neither => 0,
+        rules::File::Allow => 1,
+        rules::File::Deny => 2,
+    }
+}
+
+fn verdict_word(a: rules::Answer) -> GateAnswer
+    ensures { λ r. ⌜ r ≡ answerNumbers a ⌝ }
+{
+    let verdict = a.verdict;
+    let file = a.file;
+    let command = a.command;
+    GateAnswer {
+        number: 0,
+        section: 0,
+        line: a.line as u64,
+        word: verdict_code(verdict),
+        file: file_section(file),
+        place: command.place as u64,
+        len: command.len as u64,
+    }
+}
+
+// A verdict as numbers.
+pub fn verdict_numbers(r: rules::Ruling) -> GateAnswer
+    ensures { λ a. ⌜ a ≡ verdictNumbers r ⌝ }
+{
+    match r {
+        rules::Ruling::Refused(refusal) => refused(refusal),
+        rules::Ruling::Answered(answer) => verdict_word(answer),
+    }
+}
+
+fn not_written(r: Refusal) -> GateWritten
+    ensures { λ a. ⌜ a ≡ writtenNumbers (W.Refused r) ⌝ }
+{
+    let fault = r.fault;
+    GateWritten {
+        number: section::fault_number(fault) as u32,
+        section: r.section as u32,
+        line: r.line as u64,
+        count: 0,
+    }
+}
+
+// What a call that writes answers, as numbers.
+pub fn written_numbers(w: Written) -> GateWritten
+    ensures { λ a. ⌜ a ≡ writtenNumbers w ⌝ }
+{
+    match w {
+        Written::Refused(refusal) => not_written(refusal),
+        Written::Count(n) => GateWritten {
+            number: 0,
+            section: 0,
+            line: 0,
+            count: n as u64,
+        },
+    }
+}
+
+fn not_read(r: Refusal) -> GateAddress
+    ensures { λ a. ⌜ a ≡ readNumbers (R.Refused r) ⌝ }
+{
+    let fault = r.fault;
+    GateAddress {
+        number: section::fault_number(fault) as u32,
+        section: r.section as u32,
+        line: r.line as u64,
+        kind: 0,
+        high: 0,
+        low: 0,
+    }
+}
+
+fn address_kind(kind: u32, high: u64, low: u64) -> GateAddress
+    ensures { λ r. ⌜ r ≡ gateAddress 0 0 0 kind high low ⌝ }
+{
+    GateAddress {
+        number: 0,
+        section: 0,
+        line: 0,
+        kind,
+        high,
+        low,
+    }
+}
+
+fn address_numbers(a: Addr) -> GateAddress
+    ensures { λ r. ⌜ r ≡ addressNumbers a ⌝ }
+{
+    match a {
+        Addr::Unknown => address_kind(0, 0, 0),
+        Addr::V4(n) => address_kind(4, 0, n as u64),
+        Addr::V6(high, low) => address_kind(6, high, low),
+    }
+}
+
+// An address read, as numbers.
+pub fn read_numbers(r: AddressRead) -> GateAddress
+    ensures { λ a. ⌜ a ≡ readNumbers r ⌝ }
+{
+    match r {
+        AddressRead::Refused(refusal) => not_read(refusal),
+        AddressRead::Address(addr) => address_numbers(addr),
+    }
+}

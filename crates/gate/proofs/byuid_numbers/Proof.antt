@@ -1,9 +1,0 @@
--- A case of the ruling at a time. Assumes nothing.
-use borrow.Author.Needs.{needs}
-use Rattle.gate.specs.Code.{byuidNumbers}
-use Rattle.gate.proofs.byuid_numbers.Statement.{statement}
-use Rattle.gate.proofs.byuid_numbers.Tie as tie
-
-pub byuid-numbers-spec : {M : Type 1} → statement M
-unfolding byuidNumbers
-byuid-numbers-spec = tie.close (tie.spec (λ c. search needs) (λ c κs. search needs) (λ c. search needs) (λ c κs. search needs) (λ c κs. search needs) (λ c. cc) (λ c. cc))

@@ -1,7 +1,0 @@
--- The number is the fault's. Assumes nothing.
-use borrow.Author.Needs.{needs}
-use Rattle.gate.proofs.refused.Statement.{statement}
-use Rattle.gate.proofs.refused.Tie as tie
-
-pub refused-spec : {M : Type 1} → statement M
-refused-spec = tie.close (tie.spec (λ c κs. search needs) (λ c. search needs) (λ c. search needs) (λ c. rw (c .before .fault-number .ensures)))

@@ -1,2 +1,0 @@
-pub mod Gate
-pub mod Code

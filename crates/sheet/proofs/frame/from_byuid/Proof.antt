@@ -1,0 +1,19 @@
+-- `sheet::frame::from_byuid` meets its contract.
+-- Assumes nothing.
+use borrow.Author.Needs.{needs}
+use Rattle.sheet.proofs.ReadLaws.{found-within, byuid-refused, byuid-found}
+use Rattle.sheet.proofs.frame.from_byuid.Statement.{statement}
+use Rattle.sheet.proofs.frame.from_byuid.Tie as tie
+
+pub from-byuid-spec : {M : Type 1} → statement M
+from-byuid-spec =
+    tie.close
+    (tie.spec
+    (λ c. search needs)
+    (λ c κs. search needs)
+    (λ c κs. search needs)
+    (λ c. search needs)
+    (λ c. search needs)
+    (λ c κs. search (found-within, needs))
+    (λ c. search (byuid-refused, needs))
+    (λ c. search (byuid-found, needs)))

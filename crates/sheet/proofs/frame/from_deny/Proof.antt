@@ -1,0 +1,19 @@
+-- `sheet::frame::from_deny` meets its contract.
+-- Assumes nothing.
+use borrow.Author.Needs.{needs}
+use Rattle.sheet.proofs.ReadLaws.{found-within, deny-refused, deny-found}
+use Rattle.sheet.proofs.frame.from_deny.Statement.{statement}
+use Rattle.sheet.proofs.frame.from_deny.Tie as tie
+
+pub from-deny-spec : {M : Type 1} → statement M
+from-deny-spec =
+    tie.close
+    (tie.spec
+    (λ c. search needs)
+    (λ c κs. search needs)
+    (λ c κs. search needs)
+    (λ c. search needs)
+    (λ c. search needs)
+    (λ c κs. search (found-within, needs))
+    (λ c. search (deny-refused, needs))
+    (λ c. search (deny-found, needs)))

@@ -1,0 +1,19 @@
+-- `sheet::frame::from_portacl` meets its contract.
+-- Assumes nothing.
+use borrow.Author.Needs.{needs}
+use Rattle.sheet.proofs.ReadLaws.{found-within, portacl-refused, portacl-found}
+use Rattle.sheet.proofs.frame.from_portacl.Statement.{statement}
+use Rattle.sheet.proofs.frame.from_portacl.Tie as tie
+
+pub from-portacl-spec : {M : Type 1} → statement M
+from-portacl-spec =
+    tie.close
+    (tie.spec
+    (λ c. search needs)
+    (λ c κs. search needs)
+    (λ c κs. search needs)
+    (λ c. search needs)
+    (λ c. search needs)
+    (λ c κs. search (found-within, needs))
+    (λ c. search (portacl-refused, needs))
+    (λ c. search (portacl-found, needs)))

@@ -1,0 +1,27 @@
+-- `sheet::frame::read_count` meets its contract: a byte is below 256.
+-- Assumes nothing.
+use native.Mathlib.Omega.{arith}
+use borrow.Author.Needs.{needs}
+use Rattle.sheet.proofs.ReadLaws.{count-of-four}
+use Rattle.sheet.proofs.frame.read_count.Statement.{statement}
+use Rattle.sheet.proofs.frame.read_count.Tie as tie
+
+pub read-count-spec : {M : Type 1} → statement M
+read-count-spec =
+    tie.close
+    (tie.spec
+    (λ c. search needs)
+    (λ c. omega (arith, c .shared-slice-known .given 0))
+    (λ c. search needs)
+    (λ c. omega (arith, c .shared-slice-known2 .given 1))
+    (λ c. search needs)
+    (λ c. omega (arith, c .shared-slice-known3 .given 2))
+    (λ c. search needs)
+    (λ c. omega (arith, c .shared-slice-known4 .given 3))
+    (λ c. omega (arith, c .shared-slice-known4 .given 0))
+    (λ c. omega (arith, c .shared-slice-known4 .given 0, c .shared-slice-known4 .given 1))
+    (λ c. omega (arith, c .shared-slice-known4 .given 0, c .shared-slice-known4 .given 1))
+    (λ c. omega (arith, c .shared-slice-known4 .given 0, c .shared-slice-known4 .given 1, c .shared-slice-known4 .given 2))
+    (λ c. omega (arith, c .shared-slice-known4 .given 0, c .shared-slice-known4 .given 1, c .shared-slice-known4 .given 2))
+    (λ c. omega (arith, c .shared-slice-known4 .given 0, c .shared-slice-known4 .given 1, c .shared-slice-known4 .given 2, c .shared-slice-known4 .given 3))
+    (λ c. search (count-of-four, needs)))

@@ -1,0 +1,22 @@
+-- `sheet::frame::section_at` meets its contract: its count present, its limit, its bytes present.
+-- Assumes nothing.
+use borrow.Author.Needs.{needs}
+use Rattle.sheet.proofs.ReadLaws.{count-absent, count-over, bytes-absent, count-place, section-found}
+use Rattle.sheet.proofs.frame.section_at.Statement.{statement}
+use Rattle.sheet.proofs.frame.section_at.Tie as tie
+
+pub section-at-spec : {M : Type 1} → statement M
+section-at-spec =
+    tie.close
+    (tie.spec
+    (λ c κs. search needs)
+    (λ c κs. search needs)
+    (λ c. search (count-absent, needs))
+    (λ c κs. search needs)
+    (λ c κs. search needs)
+    (λ c. search (count-over, needs))
+    (λ c. search needs)
+    (λ c κs. search needs)
+    (λ c. search (bytes-absent, needs))
+    (λ c. search (count-place, needs))
+    (λ c. search (section-found, needs)))

@@ -1,0 +1,17 @@
+-- `sheet::texts::check_texts` meets its contract: limits, then contents.
+-- Assumes nothing.
+use borrow.Author.Needs.{needs}
+use Rattle.sheet.proofs.TextsLaws.{texts-limits, texts-contents}
+use Rattle.sheet.proofs.texts.check_texts.Statement.{statement}
+use Rattle.sheet.proofs.texts.check_texts.Tie as tie
+
+pub check-texts-spec : {M : Type 1} → statement M
+check-texts-spec =
+    tie.close
+    (tie.spec
+    (λ c κs. search needs)
+    (λ c. search needs)
+    (λ c. search needs)
+    (λ c κs. search needs)
+    (λ c. search (texts-limits, needs))
+    (λ c. search (texts-contents, needs)))

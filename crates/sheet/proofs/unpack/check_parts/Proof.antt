@@ -1,0 +1,17 @@
+-- `sheet::unpack::check_parts` meets its contract.
+-- Assumes nothing.
+use borrow.Author.Needs.{needs}
+use Rattle.sheet.proofs.DecideLaws.{texts-in-sheet}
+use Rattle.sheet.proofs.unpack.check_parts.Statement.{statement}
+use Rattle.sheet.proofs.unpack.check_parts.Tie as tie
+
+pub check-parts-spec : {M : Type 1} → statement M
+check-parts-spec =
+    tie.close
+    (tie.spec
+    (λ c κs. search needs)
+    (λ c κs. search needs)
+    (λ c κs. search needs)
+    (λ c κs. search needs)
+    (λ c κs. search needs)
+    (λ c. search (texts-in-sheet, needs)))

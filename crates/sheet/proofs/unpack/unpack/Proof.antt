@@ -1,0 +1,20 @@
+-- `sheet::unpack::unpack` meets its contract: the frame, then the texts.
+-- Assumes nothing.
+use borrow.Author.Needs.{needs}
+use Rattle.sheet.proofs.DecideLaws.{unframed, unpack-refused, unpack-parts}
+use Rattle.sheet.proofs.unpack.unpack.Statement.{statement}
+use Rattle.sheet.proofs.unpack.unpack.Tie as tie
+
+pub unpack-spec : {M : Type 1} → statement M
+unpack-spec =
+    tie.close
+    (tie.spec
+    (λ c κs. search needs)
+    (λ c. search needs)
+    (λ c. search needs)
+    (λ c κs. search needs)
+    (λ c. search needs)
+    (λ c. search needs)
+    (λ c. search (unframed, needs))
+    (λ c. search (unpack-refused, needs))
+    (λ c. search (unpack-parts, needs)))
