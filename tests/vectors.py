@@ -1,14 +1,18 @@
 #!/usr/bin/env python3
-"""vectors.py [--check]: writes the expected output of crates/expansion_vectors and crates/sheet_vectors, by tests/reference.py.
+"""vectors.py [--check]: writes the expected output of the programs crates/*_vectors by tests/reference.py. With --check the files are
+compared instead.
 
-The cases stand here a second time, as the reference takes them. With --check the files are compared instead.
+The cases of address_vectors, port_vectors and hosts_vectors are read out of the programs: each is a call with literals. Those of
+expansion_vectors and sheet_vectors, which run through loops, stand here a second time.
 """
 import pathlib
+import re
 import sys
 
 import reference as ref
 from reference import BAD
 
+top = pathlib.Path(__file__).resolve().parent.parent
 out = []
 
 
@@ -122,13 +126,11 @@ def packed(texts, room):
 
 def verdict(text, sheet, daemon, name, user):
     sentence(text)
-    answer = ref.sheet_verdict(sheet, dict(daemon=daemon, client=(name, ("4", 169090600)), server=(None, ("4", 3221225985)), user=user))
-    if ref.refused(answer):
-        return shown(answer)
-    word, file, line, place, command = answer
-    where = b", no file" if file == 0 else b", %s line %d" % ([b"allow", b"deny"][file - 1], line)
-    assert command == b"" or sheet[place:place + len(command)] == command
-    out.append(word.encode() + where + (b", command:" + command if command else b""))
+    request = dict(daemon=daemon, client=(name, ("4", 169090600)), server=(None, ("4", 3221225985)), user=user)
+    answer = ref.sheet_verdict(sheet, request)
+    if not ref.refused(answer) and answer[4]:
+        assert sheet[answer[3]:answer[3] + len(answer[4])] == answer[4]
+    answered(answer)
 
 
 def by_sheet():
@@ -191,11 +193,84 @@ def sheets():
         packed(list(texts), 8)
 
 
+# Programs of single cases
+
+def run_cases(crate, calls):
+    """runs each function that main calls: its statements are calls of the functions in `calls`, and lets"""
+    source = (top / "crates" / crate / "src" / "main.rt").read_text(encoding="utf-8")
+    bodies = {name: body for name, body in re.findall(r"^fn (\w+)\(\) \{\n(.*?)^\}", source, re.M | re.S)}
+    for name in re.findall(r"^    (\w+)\(\);", bodies["main"], re.M):
+        body = re.sub(r"\[(\d+)u8; (\d+)\]", r"bytes([\1]) * \2", bodies[name])
+        body = re.sub(r"\[(\d+); (\d+)\]", r"[\1] * \2", body)
+        body = re.sub(r"\b(Addr|Name|User|Protocol)::(\w+)", r"\1_\2", body)
+        body = re.sub(r"&(?=[\[\w])|^    (let )?|;$", "", body, flags=re.M)
+        exec(re.sub(r"^ +", "", body, flags=re.M), dict(calls))
+
+
+def show_address(text):
+    answer = ref.read_address(text)
+    out.append(text + b" -> " + (refusal(answer) if ref.refused(answer) else ref.write_address(answer, 39)))
+
+
+def address_cases():
+    def in_room(room):
+        return lambda kind, high, low: shown(ref.write_address({0: None, 4: ("4", low), 6: ("6", (high << 64) + low)}[kind], room))
+    run_cases("address_vectors", dict(show=show_address, in_seven=in_room(7), in_six=in_room(6)))
+
+
+ADDRESSES_WRITTEN = dict(Addr_Unknown=None, Addr_V4=lambda n: ("4", n), Addr_V6=lambda high, low: ("6", (high << 64) + low))
+
+
+def port_cases():
+    def byuid(text, *case):
+        sentence(text)
+        shown(ref.byuid(*case))
+
+    def bind(text, *case):
+        sentence(text)
+        shown(ref.portacl(*case))
+
+    def settings(*four):
+        return dict(zip(("enabled", "port_high", "suser_exempt", "autoport_exempt"), four))
+
+    run_cases("port_vectors", dict(
+        ADDRESSES_WRITTEN, Protocol_Tcp=b"tcp", Protocol_Udp=b"udp", settings=settings, byuid=byuid, bind=bind,
+        portacl=lambda text, rules, *case: bind(text, rules, settings(1, 1023, 1, 1), *case),
+        under=lambda text, rules, by, uid, port: bind(text, rules, by, uid, [], b"tcp", port)))
+
+
+def answered(answer):
+    """a verdict, with its file and line, and the raw command"""
+    if ref.refused(answer):
+        return shown(answer)
+    word, file, line, _, command = answer
+    where = b", no file" if file == 0 else b", %s line %d" % ([b"allow", b"deny"][file - 1], line)
+    out.append(word.encode() + where + (b", command:" + command if command else b""))
+
+
+def hosts_cases():
+    tue = ("4", 2207992319)
+
+    def decide(text, allow, deny, daemon, client, user):
+        sentence(text)
+        answered(ref.verdict(allow, deny, dict(daemon=daemon, client=client, server=(None, ("4", 3221225985)), user=user)))
+
+    def known(state, name):
+        return name if state == "known" else state
+
+    run_cases("hosts_vectors", dict(
+        ADDRESSES_WRITTEN, Name_Unknown=None, Name_Paranoid=False, Name_Known="known", User_NotFetched="not fetched", User_Unknown=None, User_Known="known",
+        longest_line=lambda: b"#" * 2047 + b"\n", longer_line=lambda: b"#" * 2048 + b"\n",
+        client=lambda text, allow, deny, name, host, addr: decide(text, allow, deny, b"sshd", (known(name, host), addr), None),
+        daemon=lambda text, allow, deny, daemon, host: decide(text, allow, deny, daemon, (host, tue), None),
+        user=lambda text, allow, deny, host, user, name: decide(text, allow, deny, b"sshd", (host, tue), known(user, name))))
+
+
 def main():
-    top = pathlib.Path(__file__).resolve().parent.parent
     assert len(SHEET) == 143 and COUNTS == [0, 57, 90, 110], (len(SHEET), COUNTS)
     wrong = 0
-    for crate, cases in (("expansion_vectors", expansion), ("sheet_vectors", sheets)):
+    for crate, cases in (("address_vectors", address_cases), ("port_vectors", port_cases), ("hosts_vectors", hosts_cases),
+                         ("expansion_vectors", expansion), ("sheet_vectors", sheets)):
         out.clear()
         cases()
         path, text = top / "crates" / crate / "stdout", b"".join(line + b"\n" for line in out)
