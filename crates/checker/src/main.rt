@@ -17,7 +17,7 @@ fn at_end(fd: i32) -> bool {
     libc::read(fd, &mut next) == 0
 }
 
-// A sheet has at most 42,000 bytes: a longer file is refused by its first 42,001.
+// A sheet has at most 42,000 bytes: a longer file is refused by its first 42,001, as it would be whole (law unpack-take of sheet).
 fn check_file(fd: i32, name: &[u8]) {
     let mut sheet = [0u8; 42001];
     let n = io::read_full(fd, &mut sheet);
