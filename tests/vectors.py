@@ -230,12 +230,16 @@ def port_cases():
         sentence(text)
         shown(ref.portacl(*case))
 
+    def portacl(text, rules, *case):
+        bind(text, rules, settings(1, 1023, 1, 1), *case)
+
     def settings(*four):
         return dict(zip(("enabled", "port_high", "suser_exempt", "autoport_exempt"), four))
 
     run_cases("port_vectors", dict(
         ADDRESSES_WRITTEN, Protocol_Tcp=b"tcp", Protocol_Udp=b"udp", settings=settings, byuid=byuid, bind=bind,
-        portacl=lambda text, rules, *case: bind(text, rules, settings(1, 1023, 1, 1), *case),
+        portacl=portacl, at_80=lambda text, rules: byuid(text, rules, 80, ("4", 184483841), 432),
+        tcp_80=lambda text, rules: portacl(text, rules, 80, [], b"tcp", 80),
         under=lambda text, rules, by, uid, port: bind(text, rules, by, uid, [], b"tcp", port)))
 
 
@@ -249,11 +253,12 @@ def answered(answer):
 
 
 def hosts_cases():
-    tue = ("4", 2207992319)
-
     def decide(text, allow, deny, daemon, client, user):
         sentence(text)
         answered(ref.verdict(allow, deny, dict(daemon=daemon, client=client, server=(None, ("4", 3221225985)), user=user)))
+
+    def at_tue(text, allow, deny, daemon, host):
+        decide(text, allow, deny, daemon, (host, ("4", 2207992319)), None)
 
     def known(state, name):
         return name if state == "known" else state
@@ -262,8 +267,9 @@ def hosts_cases():
         ADDRESSES_WRITTEN, Name_Unknown=None, Name_Paranoid=False, Name_Known="known", User_NotFetched="not fetched", User_Unknown=None, User_Known="known",
         longest_line=lambda: b"#" * 2047 + b"\n", longer_line=lambda: b"#" * 2048 + b"\n",
         client=lambda text, allow, deny, name, host, addr: decide(text, allow, deny, b"sshd", (known(name, host), addr), None),
-        daemon=lambda text, allow, deny, daemon, host: decide(text, allow, deny, daemon, (host, tue), None),
-        user=lambda text, allow, deny, host, user, name: decide(text, allow, deny, b"sshd", (host, tue), known(user, name))))
+        daemon=at_tue, by_allow=lambda text, allow: at_tue(text, allow, b"", b"sshd", b"wzv.win.tue.nl"),
+        else_denied=lambda text, allow: at_tue(text, allow, b"ALL: ALL\n", b"sshd", b"wzv.win.tue.nl"),
+        user=lambda text, allow, deny, host, user, name: decide(text, allow, deny, b"sshd", (host, ("4", 2207992319)), known(user, name))))
 
 
 def main():
