@@ -18,11 +18,17 @@ use Rattle.byuid.specs.Byuid as Byuid
 use Rattle.portacl.specs.declared.Decision.{Decision as PortaclDecision}
 use Rattle.portacl.specs.declared.Ruling.{Ruling as PortaclRuling}
 use Rattle.portacl.specs.Portacl as Portacl
+use Rattle.sheet.specs.declared.Parts.{Parts}
+use Rattle.sheet.specs.declared.unpack.Unpacked.{Unpacked}
+use Rattle.sheet.specs.declared.unpack.Unpacked.the-variants as Un
+use Rattle.sheet.specs.Code.{unpackedOf}
 use Rattle.codes.specs.declared.GateAnswer.{GateAnswer}
+use Rattle.codes.specs.declared.GateCheck.{GateCheck}
+use Rattle.codes.specs.declared.GateParts.{GateParts}
 use Rattle.codes.specs.declared.GateWritten.{GateWritten}
 use Rattle.codes.specs.declared.GateAddress.{GateAddress}
-use Rattle.codes.specs.Answers.{answerNumbers, verdictAnswer, byuidAnswer, portaclAnswer, writtenAnswer, addressAnswer}
-use Rattle.codes.specs.Code.{byuidNumbers, portaclNumbers, verdictNumbers, writtenNumbers, readNumbers}
+use Rattle.codes.specs.Answers.{answerNumbers, verdictAnswer, byuidAnswer, portaclAnswer, gateParts, checkAnswer, partsAnswer, writtenAnswer, addressAnswer}
+use Rattle.codes.specs.Code.{byuidNumbers, portaclNumbers, verdictNumbers, checkNumbers, partsNumbers, writtenNumbers, readNumbers}
 
 pub byuid-numbers : (o : Outcome ByuidDecision) (x : ByuidRuling) (a : GateAnswer) → x ≡ Byuid.rulingOf o → a ≡ byuidNumbers x → a ≡ byuidAnswer o
 unfolding byuidNumbers byuidAnswer
@@ -42,6 +48,20 @@ pub verdict-numbers : (o : Outcome Answer) (x : VerdictRuling) (a : GateAnswer) 
 unfolding verdictNumbers verdictAnswer
 verdict-numbers (refused r) x a e f = rw e at f
 verdict-numbers (answered b) x a e f = rw e at f
+
+pub parts-found : (x : Unpacked) (p : Parts) (a : GateParts) → x ≡ Un.Parts p → a ≡ gateParts 0 0 0 p → a ≡ partsNumbers x
+unfolding partsNumbers
+parts-found x p a e f = rw e f
+
+pub check-numbers : (o : Outcome Parts) (x : Unpacked) (a : GateCheck) → x ≡ unpackedOf o → a ≡ checkNumbers x → a ≡ checkAnswer o
+unfolding checkNumbers checkAnswer
+check-numbers (refused r) x a e f = rw e at f
+check-numbers (answered p) x a e f = rw e at f
+
+pub parts-numbers : (o : Outcome Parts) (x : Unpacked) (a : GateParts) → x ≡ unpackedOf o → a ≡ partsNumbers x → a ≡ partsAnswer o
+unfolding partsNumbers partsAnswer
+parts-numbers (refused r) x a e f = rw e at f
+parts-numbers (answered p) x a e f = rw e at f
 
 pub written-numbers : (o : Outcome (List ℕ)) (x : Written) (a : GateWritten) → x ≡ writtenOf o → a ≡ writtenNumbers x → a ≡ writtenAnswer o
 unfolding writtenNumbers writtenAnswer

@@ -15,13 +15,17 @@ use Rattle.portacl.specs.declared.Ruling.{Ruling as PortaclRuling}
 use Rattle.portacl.specs.declared.Ruling.the-variants as P
 use Rattle.rules.specs.declared.Ruling.{Ruling as VerdictRuling}
 use Rattle.rules.specs.declared.Ruling.the-variants as Ver
+use Rattle.sheet.specs.declared.unpack.Unpacked.{Unpacked}
+use Rattle.sheet.specs.declared.unpack.Unpacked.the-variants as Un
 use Rattle.codes.specs.declared.GateAnswer.{GateAnswer}
+use Rattle.codes.specs.declared.GateCheck.{GateCheck}
+use Rattle.codes.specs.declared.GateParts.{GateParts}
 use Rattle.codes.specs.declared.GateWritten.{GateWritten}
 use Rattle.codes.specs.declared.GateAddress.{GateAddress}
 use Rattle.codes.specs.declared.request.States.{States}
 use Rattle.codes.specs.declared.request.Target.{Target}
 use Rattle.codes.specs.Requests.{HostNumbers, numbersFit, hostBy, userBy, protocolOf, protocolBy, isPort, portBy}
-use Rattle.codes.specs.Answers.{refusalAnswer, wordAnswer, answerNumbers, byuidCode, portaclCode, gateWritten, gateAddress, addressNumbers}
+use Rattle.codes.specs.Answers.{refusalAnswer, wordAnswer, answerNumbers, byuidCode, portaclCode, gateCheck, gateParts, noParts, gateWritten, gateAddress, addressNumbers}
 
 -- ## Requests
 
@@ -44,6 +48,14 @@ portaclNumbers (P.Answered d) = wordAnswer (portaclCode d)
 unfoldable pub verdictNumbers : VerdictRuling → GateAnswer
 verdictNumbers (Ver.Refused r) = refusalAnswer r
 verdictNumbers (Ver.Answered a) = answerNumbers a
+
+unfoldable pub checkNumbers : Unpacked → GateCheck
+checkNumbers (Un.Refused r) = gateCheck (faultNumber (r .fault)) (r .section) (r .line)
+checkNumbers (Un.Parts p) = gateCheck 0 0 0
+
+unfoldable pub partsNumbers : Unpacked → GateParts
+partsNumbers (Un.Refused r) = gateParts (faultNumber (r .fault)) (r .section) (r .line) noParts
+partsNumbers (Un.Parts p) = gateParts 0 0 0 p
 
 unfoldable pub writtenNumbers : Written → GateWritten
 writtenNumbers (W.Refused r) = gateWritten (faultNumber (r .fault)) (r .section) (r .line) 0

@@ -1,17 +1,22 @@
 // What a call answers, as numbers.
 use crate::GateAddress;
 use crate::GateAnswer;
+use crate::GateCheck;
+use crate::GateParts;
 use crate::GateWritten;
 use address::Addr;
 use address::read::AddressRead;
 use section::Refusal;
 use section::Written;
+use sheet::Parts;
+use sheet::unpack::Unpacked;
 ghost use mathlib.Core.Path.{_≡_};
 ghost use Rattle.rules.specs.Search.{fileSection};
 ghost use Rattle.section.specs.declared.Written.the-variants as W;
 ghost use Rattle.address.specs.declared.read.AddressRead.the-variants as R;
-ghost use Rattle.codes.specs.Answers.{refusalAnswer, wordAnswer, verdictCode, answerNumbers, byuidCode, portaclCode, gateAddress, addressNumbers};
-ghost use Rattle.codes.specs.Code.{byuidNumbers, portaclNumbers, verdictNumbers, writtenNumbers, readNumbers};
+ghost use Rattle.sheet.specs.declared.unpack.Unpacked.the-variants as Un;
+ghost use Rattle.codes.specs.Answers.{refusalAnswer, wordAnswer, verdictCode, answerNumbers, byuidCode, portaclCode, gateParts, gateAddress, addressNumbers};
+ghost use Rattle.codes.specs.Code.{byuidNumbers, portaclNumbers, verdictNumbers, checkNumbers, partsNumbers, writtenNumbers, readNumbers};
 
 fn refused(r: Refusal) -> GateAnswer
     ensures { λ a. ⌜ a ≡ refusalAnswer r ⌝ }
@@ -127,6 +132,82 @@ pub fn verdict_numbers(r: rules::Ruling) -> GateAnswer
     match r {
         rules::Ruling::Refused(refusal) => refused(refusal),
         rules::Ruling::Answered(answer) => verdict_word(answer),
+    }
+}
+
+fn not_accepted(r: Refusal) -> GateCheck
+    ensures { λ a. ⌜ a ≡ checkNumbers (Un.Refused r) ⌝ }
+{
+    let fault = r.fault;
+    GateCheck {
+        number: section::fault_number(fault) as u32,
+        section: r.section as u32,
+        line: r.line as u64,
+    }
+}
+
+// Whether a sheet is accepted, as numbers.
+pub fn check_numbers(u: Unpacked) -> GateCheck
+    ensures { λ a. ⌜ a ≡ checkNumbers u ⌝ }
+{
+    match u {
+        Unpacked::Refused(refusal) => not_accepted(refusal),
+        Unpacked::Parts(_) => GateCheck {
+            number: 0,
+            section: 0,
+            line: 0,
+        },
+    }
+}
+
+fn not_unpacked(r: Refusal) -> GateParts
+    ensures { λ a. ⌜ a ≡ partsNumbers (Un.Refused r) ⌝ }
+{
+    let fault = r.fault;
+    GateParts {
+        number: section::fault_number(fault) as u32,
+        section: r.section as u32,
+        line: r.line as u64,
+        allow_place: 0,
+        allow_len: 0,
+        deny_place: 0,
+        deny_len: 0,
+        byuid_place: 0,
+        byuid_len: 0,
+        portacl_place: 0,
+        portacl_len: 0,
+    }
+}
+
+fn found_parts(p: Parts) -> GateParts
+    ensures { λ a. ⌜ a ≡ gateParts 0 0 0 p ⌝ }
+{
+    let allow = p.allow;
+    let deny = p.deny;
+    let byuid = p.byuid;
+    let portacl = p.portacl;
+    GateParts {
+        number: 0,
+        section: 0,
+        line: 0,
+        allow_place: allow.place as u64,
+        allow_len: allow.len as u64,
+        deny_place: deny.place as u64,
+        deny_len: deny.len as u64,
+        byuid_place: byuid.place as u64,
+        byuid_len: byuid.len as u64,
+        portacl_place: portacl.place as u64,
+        portacl_len: portacl.len as u64,
+    }
+}
+
+// The place and length of each text of a sheet, as numbers.
+pub fn parts_numbers(u: Unpacked) -> GateParts
+    ensures { λ a. ⌜ a ≡ partsNumbers u ⌝ }
+{
+    match u {
+        Unpacked::Refused(refusal) => not_unpacked(refusal),
+        Unpacked::Parts(parts) => found_parts(parts),
     }
 }
 

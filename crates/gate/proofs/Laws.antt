@@ -25,6 +25,7 @@ use Rattle.portacl.specs.declared.Ruling.{Ruling as PortaclRuling}
 use Rattle.portacl.specs.declared.Settings.{Settings}
 use Rattle.portacl.specs.Portacl as Portacl
 use Rattle.portacl.specs.Portacl.{decidePortacl}
+use Rattle.sheet.specs.Sheet.{decideSheet, decideByuidSheet, decidePortaclSheet}
 use Rattle.codes.specs.declared.GateAddress.{GateAddress}
 use Rattle.codes.specs.declared.GateAnswer.{GateAnswer}
 use Rattle.codes.specs.declared.GateWritten.{GateWritten}
@@ -46,10 +47,22 @@ module _ (d clientName serverName userName d' : List ℕ) (client server : HostN
       verdict-numbers _ o a e f
       ∙ ap (λ r. verdictAnswer (decide allow deny r)) (request-read d clientName serverName userName d' client server user x is-x is-d)
 
+  pub sheet-verdict-by : (sheet : List ℕ)
+      → o ≡ Search.rulingOf (decideSheet sheet (requestOf d' (endpoint (x .client) clientName) (endpoint (x .server) serverName) (x .user) userName))
+      → a ≡ verdictNumbers o
+      → a ≡ verdictAnswer (decideSheet sheet (request (requestNumbers d client clientName server serverName user userName)))
+  sheet-verdict-by sheet e f =
+      verdict-numbers _ o a e f
+      ∙ ap (λ r. verdictAnswer (decideSheet sheet r)) (request-read d clientName serverName userName d' client server user x is-x is-d)
+
 module _ (port kind high low uid p : ℕ) (b : Addr) (is-p : p ≡ portBy port) (is-b : b ≡ addressBy port kind high low) (o : ByuidRuling) (a : GateAnswer) where
   pub byuid-by : (text : List ℕ) → o ≡ Byuid.rulingOf (decideByuid text p b uid) → a ≡ byuidNumbers o
       → a ≡ byuidAnswer (decideByuid text (portBy port) (addressBy port kind high low) uid)
   byuid-by text e f = rw (← is-p, ← is-b) (byuid-numbers _ o a e f)
+
+  pub sheet-byuid-by : (sheet : List ℕ) → o ≡ Byuid.rulingOf (decideByuidSheet sheet p b uid) → a ≡ byuidNumbers o
+      → a ≡ byuidAnswer (decideByuidSheet sheet (portBy port) (addressBy port kind high low) uid)
+  sheet-byuid-by sheet e f = rw (← is-p, ← is-b) (byuid-numbers _ o a e f)
 
 module _ (uid protocol port : ℕ) (s : Settings) (groups groups' : List ℕ) (x : Target)
     (is-x : x ≡ targetOf protocol port) (is-groups : groups' ≡ (if x .fit then groups else replicate 17 0)) (o : PortaclRuling) (a : GateAnswer) where
@@ -59,6 +72,13 @@ module _ (uid protocol port : ℕ) (s : Settings) (groups groups' : List ℕ) (x
   portacl-by text e f =
       portacl-numbers _ o a e f
       ∙ ap (λ b. portaclAnswer (decidePortacl text s b)) (bind-read uid protocol port groups groups' x is-x is-groups)
+
+  pub sheet-portacl-by : (sheet : List ℕ)
+      → o ≡ Portacl.rulingOf (decidePortaclSheet sheet s (record { uid = uid; groups = groups'; protocol = x .protocol; port = x .port }))
+      → a ≡ portaclNumbers o → a ≡ portaclAnswer (decidePortaclSheet sheet s (bindBy uid groups protocol port))
+  sheet-portacl-by sheet e f =
+      portacl-numbers _ o a e f
+      ∙ ap (λ b. portaclAnswer (decidePortaclSheet sheet s b)) (bind-read uid protocol port groups groups' x is-x is-groups)
 
 -- ## Addresses
 

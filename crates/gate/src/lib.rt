@@ -1,9 +1,13 @@
 // The gate's calls for C: bytes as slices, all else as numbers; include/gate.h declares them, codes says what the numbers mean.
 //   gate_verdict, gate_byuid, gate_portacl == the decisions by texts handed in
+//   gate_sheet_verdict, gate_sheet_byuid, gate_sheet_portacl == the decisions by a sheet
+//   gate_check, gate_unpack, gate_pack     == sheets checked, unpacked and packed
 //   gate_read_address, gate_write_address  == addresses as text
 // A number outside its kinds is refused by 13, after every check of the texts.
 use codes::GateAddress;
 use codes::GateAnswer;
+use codes::GateCheck;
+use codes::GateParts;
 use codes::GateWritten;
 use portacl::Settings;
 use section::Fault;
@@ -15,8 +19,9 @@ ghost use Rattle.address.specs.Address.{readAddress};
 ghost use Rattle.rules.specs.Search.{decide};
 ghost use Rattle.byuid.specs.Byuid.{decideByuid};
 ghost use Rattle.portacl.specs.Portacl.{decidePortacl};
+ghost use Rattle.sheet.specs.Sheet.{texts, unpack, pack, decideSheet, decideByuidSheet, decidePortaclSheet};
 ghost use Rattle.codes.specs.Requests.{hostNumbers, requestNumbers, request, portBy, addressBy, settingsOf, bindBy, writeBy};
-ghost use Rattle.codes.specs.Answers.{verdictAnswer, byuidAnswer, portaclAnswer, writtenAnswer, addressAnswer};
+ghost use Rattle.codes.specs.Answers.{verdictAnswer, byuidAnswer, portaclAnswer, checkAnswer, partsAnswer, writtenAnswer, addressAnswer};
 
 // The verdict by two texts.
 #[no_mangle]
@@ -127,6 +132,143 @@ pub extern "C" fn gate_portacl(
         by,
         target.port,
     ))
+}
+
+// The verdict by a sheet; the raw command's place is in the sheet.
+#[no_mangle]
+pub extern "C" fn gate_sheet_verdict(
+    sheet: &[u8],
+    daemon: &[u8],
+    client_state: u32,
+    client_kind: u32,
+    client_high: u64,
+    client_low: u64,
+    client_name: &[u8],
+    server_state: u32,
+    server_kind: u32,
+    server_high: u64,
+    server_low: u64,
+    server_name: &[u8],
+    user: u32,
+    user_name: &[u8],
+) -> GateAnswer
+    ensures { λ r.
+        ⌜ r
+        ≡ verdictAnswer
+        (decideSheet (now (sheet .entry))
+        (request
+        (requestNumbers (now (daemon .entry)) (hostNumbers «client_state» «client_kind» «client_high» «client_low») (now («client_name» .entry))
+        (hostNumbers «server_state» «server_kind» «server_high» «server_low») (now («server_name» .entry)) user (now («user_name» .entry))))) ⌝ }
+{
+    let given = codes::request::read_states(
+        client_state,
+        client_kind,
+        client_high,
+        client_low,
+        server_state,
+        server_kind,
+        server_high,
+        server_low,
+        user,
+    );
+    let client = given.client;
+    let server = given.server;
+    let who = given.user;
+    codes::answer::verdict_numbers(sheet::decide::decide(
+        sheet,
+        codes::request::daemon_if(given.fit, daemon),
+        client,
+        client_name,
+        server,
+        server_name,
+        who,
+        user_name,
+    ))
+}
+
+// The byuid decision by a sheet.
+#[no_mangle]
+pub extern "C" fn gate_sheet_byuid(
+    sheet: &[u8],
+    port: u32,
+    kind: u32,
+    high: u64,
+    low: u64,
+    uid: u32,
+) -> GateAnswer
+    ensures { λ r. ⌜ r ≡ byuidAnswer (decideByuidSheet (now (sheet .entry)) (portBy port) (addressBy port kind high low) uid) ⌝ }
+{
+    let by = codes::request::port_by(port);
+    let at = codes::request::address_by(port, kind, high, low);
+    codes::answer::byuid_numbers(sheet::decide::decide_byuid(sheet, by, at, uid))
+}
+
+// The portacl decision by a sheet.
+#[no_mangle]
+pub extern "C" fn gate_sheet_portacl(
+    sheet: &[u8],
+    enabled: u32,
+    port_high: u32,
+    suser_exempt: u32,
+    autoport_exempt: u32,
+    uid: u32,
+    groups: &[u32],
+    protocol: u32,
+    port: u32,
+) -> GateAnswer
+    ensures { λ r.
+        ⌜ r
+        ≡ portaclAnswer
+        (decidePortaclSheet (now (sheet .entry)) (settingsOf enabled «port_high» «suser_exempt» «autoport_exempt») (bindBy uid (now (groups .entry)) protocol port)) ⌝ }
+{
+    let settings = Settings {
+        enabled,
+        port_high,
+        suser_exempt,
+        autoport_exempt,
+    };
+    let seventeen = [0u32; 17];
+    let bind = codes::request::read_target(protocol, port);
+    let over = bind.protocol;
+    codes::answer::portacl_numbers(sheet::decide::decide_portacl(
+        sheet,
+        settings,
+        uid,
+        codes::request::groups_if(bind.fit, groups, &seventeen),
+        over,
+        bind.port,
+    ))
+}
+
+// Whether a sheet is accepted.
+#[no_mangle]
+pub extern "C" fn gate_check(sheet: &[u8]) -> GateCheck
+    ensures { λ r. ⌜ r ≡ checkAnswer (unpack (now (sheet .entry))) ⌝ }
+{
+    codes::answer::check_numbers(sheet::unpack::unpack(sheet))
+}
+
+// The place and length of each text of a sheet.
+#[no_mangle]
+pub extern "C" fn gate_unpack(sheet: &[u8]) -> GateParts
+    ensures { λ r. ⌜ r ≡ partsAnswer (unpack (now (sheet .entry))) ⌝ }
+{
+    codes::answer::parts_numbers(sheet::unpack::unpack(sheet))
+}
+
+// Packs four texts into a sheet at the front of out; a refusal leaves out as it was.
+#[no_mangle]
+pub extern "C" fn gate_pack(
+    out: &mut [u8],
+    allow: &[u8],
+    deny: &[u8],
+    byuid: &[u8],
+    portacl: &[u8],
+) -> GateWritten
+    ensures answer { λ r. ⌜ r ≡ writtenAnswer (pack (texts (now (allow .entry)) (now (deny .entry)) (now (byuid .entry)) (now (portacl .entry))) (length (now (out .entry)))) ⌝ }
+    ensures holds { λ _. ⌜ now (out .exit) ≡ lentAfter (now (out .entry)) (pack (texts (now (allow .entry)) (now (deny .entry)) (now (byuid .entry)) (now (portacl .entry))) (length (now (out .entry)))) ⌝ }
+{
+    codes::answer::written_numbers(sheet::pack::pack(out, allow, deny, byuid, portacl))
 }
 
 // The address that a text writes.

@@ -1,0 +1,16 @@
+-- What the calls answered, together. Assumes nothing.
+use borrow.Author.Needs.{needs}
+use Rattle.gate.proofs.Laws.{sheet-portacl-by}
+use Rattle.gate.proofs.gate_sheet_portacl.Statement.{statement}
+use Rattle.gate.proofs.gate_sheet_portacl.Tie as tie
+
+pub gate-sheet-portacl-spec : {M : Type 1} → statement M
+gate-sheet-portacl-spec =
+    tie.close
+    (tie.spec
+    (λ c κs. search needs)
+    (λ c. search needs)
+    (λ c κs. search needs)
+    (λ c κs. search needs)
+    (λ c κs. search needs)
+    (λ c. search (sheet-portacl-by, needs)))

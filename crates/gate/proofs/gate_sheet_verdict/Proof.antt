@@ -1,0 +1,15 @@
+-- What the calls answered, together. Assumes nothing.
+use borrow.Author.Needs.{needs}
+use Rattle.gate.proofs.Laws.{sheet-verdict-by}
+use Rattle.gate.proofs.gate_sheet_verdict.Statement.{statement}
+use Rattle.gate.proofs.gate_sheet_verdict.Tie as tie
+
+pub gate-sheet-verdict-spec : {M : Type 1} → statement M
+gate-sheet-verdict-spec =
+    tie.close
+    (tie.spec
+    (λ c κs. search needs)
+    (λ c κs. search needs)
+    (λ c κs. search needs)
+    (λ c κs. search needs)
+    (λ c. search (sheet-verdict-by, needs)))
