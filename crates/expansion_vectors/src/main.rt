@@ -9,7 +9,7 @@ fn expanded(
     kind: u32,
     user: u32,
     user_name: &[u8],
-) -> gate::GateWritten {
+) -> codes::GateWritten {
     gate::gate_expand(
         out,
         command,
@@ -219,14 +219,14 @@ fn house_set() {
 }
 
 // P9 into the first n bytes of out; into all of them where it has fewer.
-fn in_room(out: &mut [u8], n: usize) -> gate::GateWritten {
+fn in_room(out: &mut [u8], n: usize) -> codes::GateWritten {
     if out.len() < n {
         return p9(out);
     }
     p9(&mut out[..n])
 }
 
-fn p9(out: &mut [u8]) -> gate::GateWritten {
+fn p9(out: &mut [u8]) -> codes::GateWritten {
     expanded(out, b"/bin/log %u", 2, 4, 2, b"a;b")
 }
 

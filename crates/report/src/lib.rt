@@ -137,7 +137,7 @@ fn word(w: u32) {
 }
 
 // A port decision.
-pub fn decision(a: gate::GateAnswer) {
+pub fn decision(a: codes::GateAnswer) {
     if a.number != 0 {
         refusal(a.number, a.section, a.line);
         return;
@@ -147,7 +147,7 @@ pub fn decision(a: gate::GateAnswer) {
 }
 
 // A verdict, with its file and line, and the raw command out of the deciding text.
-pub fn verdict<'a>(a: gate::GateAnswer, allow: &'a [u8], deny: &'a [u8]) {
+pub fn verdict<'a>(a: codes::GateAnswer, allow: &'a [u8], deny: &'a [u8]) {
     if a.file == 2 {
         sheet_verdict(a, deny);
         return;
@@ -156,7 +156,7 @@ pub fn verdict<'a>(a: gate::GateAnswer, allow: &'a [u8], deny: &'a [u8]) {
 }
 
 // The same with the bytes in which the command has its place.
-pub fn sheet_verdict(a: gate::GateAnswer, whole: &[u8]) {
+pub fn sheet_verdict(a: codes::GateAnswer, whole: &[u8]) {
     if a.number != 0 {
         refusal(a.number, a.section, a.line);
         return;
@@ -188,7 +188,7 @@ fn command(s: &[u8]) {
 }
 
 // What was written at the front of out.
-pub fn written(w: gate::GateWritten, out: &[u8]) {
+pub fn written(w: codes::GateWritten, out: &[u8]) {
     if w.number != 0 {
         refusal(w.number, w.section, w.line);
         return;

@@ -2,7 +2,7 @@
 // Each case prints its sentence and what the gate answers.
 
 // The sample's four texts, packed; it has 143 bytes, its counts are at 0, 57, 90 and 110.
-fn sample(out: &mut [u8]) -> gate::GateWritten {
+fn sample(out: &mut [u8]) -> codes::GateWritten {
     gate::gate_pack(
         out,
         b"sshd: .vans.example\nconsole: 10.20.30.: log %u at %h\n",
