@@ -1,69 +1,153 @@
 #!/usr/bin/env python3
-"""differential.py LIBRARY CASES [SEED]: the exported decisions beside tests/reference.py, on generated inputs.
+"""differential.py LIBRARY CASES [SEED]: every export of the gate beside tests/reference.py, on generated inputs.
 
-Inputs are rule-shaped, near misses and damaged texts; each answer is compared whole: number, section, line, word, file, line of the
-deciding rule, and the bytes of the raw command. Prints one line, and exits with 1 at the first difference, which it shows.
+Inputs are rule-shaped, near misses and damaged texts, sheets and commands, and requests with numbers outside their kinds. Each answer
+is compared whole, and every byte of the lent output, with some beyond it. Prints one line, and exits with 1 at the first difference,
+which it shows, or where some kind of answer never came up.
 """
 import ctypes
 import random
 import sys
 
 import reference as ref
+from reference import BAD
 
 U8P, SIZE, U32, U64 = ctypes.c_char_p, ctypes.c_size_t, ctypes.c_uint32, ctypes.c_uint64
 WORDS = {0: None, 1: "granted", 2: "denied", 3: "ask", 4: "no line", 5: "not ruled", 6: "exempt"}
+PARTS = ("allow", "deny", "byuid", "portacl")
 
 
-class Answer(ctypes.Structure):
-    _fields_ = [("number", U32), ("section", U32), ("line", U64), ("word", U32), ("file", U32), ("place", U64), ("len", U64)]
+def struct(**fields):
+    common = [("number", U32), ("section", U32), ("line", U64)]
+    return type("Answer", (ctypes.Structure,), {"_fields_": common + list(fields.items())})
+
+
+Answer = struct(word=U32, file=U32, place=U64, len=U64)
+Check = struct()
+Written = struct(count=U64)
+Parts = struct(**{f"{part}_{what}": U64 for part in PARTS for what in ("place", "len")})
+Address = struct(kind=U32, high=U64, low=U64)
 
 
 def load(path):
     lib = ctypes.CDLL(path)
-    text = [U8P, SIZE]
+    text, out = [U8P, SIZE], [ctypes.c_void_p, SIZE]
     host = [U32, U32, U64, U64] + text
-    lib.gate_verdict.argtypes = text * 3 + host * 2 + [U32] + text
-    lib.gate_byuid.argtypes = text + [U32, U32, U64, U64, U32]
-    lib.gate_portacl.argtypes = text + [U32] * 5 + [ctypes.POINTER(U32), SIZE] + [U32, U32]
-    for name in ("gate_verdict", "gate_byuid", "gate_portacl"):
-        getattr(lib, name).restype = Answer
+    request = text + host * 2 + [U32] + text
+    byuid = text + [U32, U32, U64, U64, U32]
+    portacl = text + [U32] * 5 + [ctypes.POINTER(U32), SIZE] + [U32, U32]
+    for name, arguments, answer in (
+            ("verdict", text * 2 + request, Answer), ("sheet_verdict", text + request, Answer),
+            ("byuid", byuid, Answer), ("sheet_byuid", byuid, Answer),
+            ("portacl", portacl, Answer), ("sheet_portacl", portacl, Answer),
+            ("check", text, Check), ("unpack", text, Parts), ("pack", out + text * 4, Written),
+            ("expand", out + text + request + [U32], Written),
+            ("read_address", text, Address), ("write_address", out + [U32, U64, U64], Written)):
+        function = getattr(lib, "gate_" + name)
+        function.argtypes, function.restype = arguments, answer
     return lib
 
 
-def host_args(host):
-    name, address = host
-    state = 0 if name is None else 1 if name is False else 2
-    kind, high, low = 0, 0, 0
-    if address is not None:
-        kind = int(address[0])
-        high, low = (0, address[1]) if kind == 4 else divmod(address[1], 1 << 64)
-    name = name if isinstance(name, bytes) else b""
-    return [state, kind, high, low, name, len(name)]
+# The exports, called as the reference is: refusals are (number, section, line)
+
+def refusal(a):
+    """of an answer whose number is not 0: all else is 0"""
+    rest = [getattr(a, name) for name, _ in a._fields_[3:]]
+    return ("refused, yet not all 0", rest) if any(rest) else (a.number, a.section, a.line)
 
 
-def verdict(lib, allow, deny, r):
-    user = r["user"]
-    state = 0 if user == "not fetched" else 1 if user is None else 2
-    user = user if isinstance(user, bytes) else b""
-    a = lib.gate_verdict(allow, len(allow), deny, len(deny), r["daemon"], len(r["daemon"]),
-                         *host_args(r["client"]), *host_args(r["server"]), state, user, len(user))
+def sized(text):
+    return [text, len(text)]
+
+
+def state_args(rng, value, absent, most):
+    """the number of a state, and the bytes beside it: some that are to be ignored where none are known"""
+    if isinstance(value, bytes):
+        return [2] + sized(value)
+    junk = rng.choice([b"", b"", b"junk", b"j" * most])
+    return [rng.choice([3, 4, 255, 2 ** 32 - 1]) if value == BAD else absent.index(value)] + sized(junk)
+
+
+def address_args(rng, address):
+    """kind, high and low; what a kind does not use is anything"""
+    anything = rng.choice([0, 0, rng.getrandbits(64)])
+    if address == BAD:
+        if rng.random() < 0.5:
+            return [4, anything, rng.choice([2 ** 32, 2 ** 64 - 1])]
+        return [rng.choice([1, 2, 3, 5, 7, 2 ** 32 - 1]), anything, 0]
+    if address is None:
+        return [0, anything, anything]
+    kind, n = address
+    return [4, anything, n] if kind == "4" else [6, *divmod(n, 1 << 64)]
+
+
+def host_args(rng, host):
+    state, *name = state_args(rng, host[0], [None, False], 300)
+    return [state] + address_args(rng, host[1]) + name
+
+
+def request_args(rng, r):
+    user = state_args(rng, r["user"], ["not fetched", None], 300)
+    return sized(r["daemon"]) + host_args(rng, r["client"]) + host_args(rng, r["server"]) + user
+
+
+def port_arg(rng, port):
+    return rng.choice([65536, 65537, 2 ** 32 - 1]) if port == BAD else port
+
+
+def verdict(rng, call, texts, whole, r):
+    """whole: what the file's number leads to, of which the command is a part"""
+    a = call(*(x for text in texts for x in sized(text)), *request_args(rng, r))
     if a.number:
-        return (a.number, a.section, a.line)
-    text = {0: b"", 1: allow, 2: deny}[a.file]
-    return (WORDS[a.word], a.file, a.line, text[a.place:a.place + a.len])
+        return refusal(a)
+    command = whole[a.file][a.place:a.place + a.len]
+    return (WORDS[a.word], a.file, a.line, a.place if command else None, command)
 
 
-def byuid(lib, text, port, address, uid):
-    kind, high, low = host_args((None, address))[1:4]
-    a = lib.gate_byuid(text, len(text), port, kind, high, low, uid)
-    return (a.number, a.section, a.line) if a.number else WORDS[a.word]
+def word(a):
+    if a.number:
+        return refusal(a)
+    rest = (a.section, a.line, a.file, a.place, a.len)
+    return ("more than a word", rest) if any(rest) else WORDS[a.word]
 
 
-def portacl(lib, text, settings, uid, groups, protocol, port):
+def byuid(rng, call, text, port, address, uid):
+    return word(call(*sized(text), port_arg(rng, port), *address_args(rng, address), uid))
+
+
+def portacl(rng, call, text, settings, uid, groups, protocol, port):
     array = (U32 * max(1, len(groups)))(*groups)
-    a = lib.gate_portacl(text, len(text), settings["enabled"], settings["port_high"], settings["suser_exempt"],
-                         settings["autoport_exempt"], uid, array, len(groups), {b"tcp": 6, b"udp": 17}[protocol], port)
-    return (a.number, a.section, a.line) if a.number else WORDS[a.word]
+    number = rng.choice([0, 1, 5, 7, 16, 18, 2 ** 32 - 1]) if protocol == BAD else {b"tcp": 6, b"udp": 17}[protocol]
+    return word(call(*sized(text), settings["enabled"], settings["port_high"], settings["suser_exempt"],
+                     settings["autoport_exempt"], uid, array, len(groups), number, port_arg(rng, port)))
+
+
+def check(call, sheet):
+    a = call(*sized(sheet))
+    return refusal(a) if a.number else "sheet ok"
+
+
+def unpack(call, sheet):
+    a = call(*sized(sheet))
+    return refusal(a) if a.number else [(getattr(a, part + "_place"), getattr(a, part + "_len")) for part in PARTS]
+
+
+def written(rng, room, call, *arguments):
+    """the bytes written at the front of a lent output; all others, and some beyond it, must stay"""
+    before = rng.randbytes(room + 8)
+    out = ctypes.create_string_buffer(before, room + 8)
+    a = call(out, room, *arguments)
+    count = 0 if a.number else a.count
+    if out.raw[count:] != before[count:]:
+        return ("bytes changed beyond", count)
+    return refusal(a) if a.number else out.raw[:count]
+
+
+def read_address(call, text):
+    a = call(*sized(text))
+    if a.number:
+        return refusal(a)
+    return ("4", a.low) if a.kind == 4 and a.high == 0 else (str(a.kind), (a.high << 64) + a.low)
 
 
 # Generated inputs
@@ -126,18 +210,28 @@ def hosts_line(rng):
     return line
 
 
+def joined_line(rng):
+    line = hosts_line(rng)
+    if rng.random() < 0.15:
+        at = rng.randrange(len(line) + 1)
+        line = line[:at] + b"\\\n" + line[at:]
+    if rng.random() < 0.02:
+        line += b" " * rng.randrange(1990, 2060)
+    return line
+
+
+def sound_lines(rng, most, known=[]):
+    """out of some thousands, found once"""
+    while len(known) < 5000:
+        line = joined_line(rng)
+        if not ref.hosts_fault(1, line + b"\n"):
+            known.append(line)
+    return [rng.choice(known) for _ in range(most)]
+
+
 def hosts_text(rng, sound):
-    lines, most = [], rng.choice([0, 1, 2, 3, 6])
-    while len(lines) < most:
-        line = hosts_line(rng)
-        if rng.random() < 0.15:
-            at = rng.randrange(len(line) + 1)
-            line = line[:at] + b"\\\n" + line[at:]
-        if rng.random() < 0.02:
-            line += b" " * rng.randrange(1990, 2060)
-        if sound and ref.hosts_fault(1, line + b"\n"):
-            continue
-        lines.append(line)
+    most = rng.choice([0, 1, 2, 3, 6])
+    lines = sound_lines(rng, most) if sound else [joined_line(rng) for _ in range(most)]
     text = b"".join(line + b"\n" for line in lines)
     if not sound and rng.random() < 0.15 and text:
         at = rng.randrange(len(text))
@@ -150,21 +244,23 @@ def hosts_text(rng, sound):
 def host(rng):
     name = rng.choice([None, False, rng.choice(NAMES), rng.choice(NAMES), rng.choice(NAMES)])
     address = rng.choice([None, ("4", rng.choice(SMALL)), ("4", rng.getrandbits(32)), ("6", rng.choice(WIDE)), ("6", rng.getrandbits(128))])
-    if rng.random() < 0.01:
-        name = rng.choice([b"", b"n" * 255, b"n" * 256])
+    if rng.random() < 0.015:
+        name = rng.choice([b"", b"n" * 255, b"n" * 256, BAD])
+    if rng.random() < 0.005:
+        address = BAD
     return name, address
 
 
 def request(rng):
     daemon = rng.choice(DAEMONS) if rng.random() < 0.99 else rng.choice([b"", b"d" * 64, b"d" * 65])
-    user = rng.choice(["not fetched", None, rng.choice(USERS)]) if rng.random() < 0.99 else rng.choice([b"", b"u" * 65])
+    user = rng.choice(["not fetched", None, rng.choice(USERS)]) if rng.random() < 0.99 else rng.choice([b"", b"u" * 64, b"u" * 65, BAD])
     return dict(daemon=daemon, client=host(rng), server=host(rng), user=user)
 
 
 def byuid_text(rng):
     def address():
         return rng.choice([b"10.0.0.0", b"10.0.0.0", b"10.0.0.1", b"0.0.0.0", b"0.0.0.0", b"::", b"::", b"255.255.255.255", b"::", b"::1", b"3ffe:505:2:1::9", b"3ffe:505:2:1::",
-                           b"010.0.0.1", b"10.0", b"::ffff:10.0.0.1", ref.write_address(("4", rng.getrandbits(32))), ref.write_address(("6", rng.getrandbits(128)))])
+                           b"010.0.0.1", b"10.0", b"::ffff:10.0.0.1", ref.address_text(("4", rng.getrandbits(32))), ref.address_text(("6", rng.getrandbits(128)))])
 
     def port():
         return rng.choice([b"80", b"80", b"80", b"0", b"1", b"1023", b"65535", b"65536", b"080", b"", b"512", b"%d" % rng.randrange(1200)])
@@ -198,34 +294,187 @@ def portacl_text(rng):
     return text
 
 
+def texts_of(rng):
+    """four texts for a sheet: mostly sound"""
+    sound = rng.random() < 0.85
+    acl = portacl_text(rng)
+    while sound and ref.portacl_fault(acl):
+        acl = portacl_text(rng)
+    return [hosts_text(rng, sound), hosts_text(rng, sound), byuid_text(rng), acl]
+
+
+def sheet_of(rng, texts):
+    """their sheet: whole, cut, too long, with another count or another byte"""
+    sheet, kind = ref.sheet_of(texts), rng.random()
+    if kind < 0.6:
+        return sheet
+    if kind < 0.7:
+        return sheet[:rng.randrange(len(sheet))]
+    if kind < 0.75:
+        return sheet + rng.randbytes(rng.choice([1, 1, 2, 4, 100]))
+    if kind < 0.9:
+        section = rng.randrange(4)
+        at = sum(4 + len(t) for t in texts[:section])
+        count, limit = len(texts[section]), ref.LIMITS[section + 1]
+        count = rng.choice([max(0, count - 1), count + 1, limit, limit + 1, 2 ** 32 - 1, count << 8 & 0xffffffff])
+        return sheet[:at] + count.to_bytes(4, "big") + sheet[at + 4:]
+    at = rng.randrange(len(sheet))
+    return sheet[:at] + bytes([rng.randrange(256)]) + sheet[at + 1:]
+
+
+def command_of(rng):
+    pieces = [rng.choice([b"%a", b"%A", b"%n", b"%N", b"%h", b"%H", b"%u", b"%c", b"%d", b"%s", b"%p", b"%%", b"u", b" ", b"\t", b";|&$(`)", b"/bin/log"])
+              for _ in range(rng.choice([0, 1, 1, 2, 3, 6, 12]))]
+    if rng.random() < 0.1:
+        pieces.insert(rng.randrange(len(pieces) + 1), rng.choice([b"%", b"%z", b"%U", b"%C", b"%\t", b"% ", b"%%%"]))
+    if rng.random() < 0.05:
+        pieces.insert(rng.randrange(len(pieces) + 1), bytes([rng.choice([0, 8, 10, 11, 13, 31, 127, 128, 255])]))
+    command = b"".join(pieces)
+    if rng.random() < 0.05:
+        command = command + rng.choice([b" ", b"x", b"%p"]) * 2048
+        command = command[:rng.choice([2046, 2047, 2048])]
+    for _ in range(rng.choice([0, 0, 0, 1, 2])):
+        at = rng.randrange(len(command) + 1)
+        command = command[:at] + rng.choice([b"\\\n", b"\\\n", b"\\\n\\\n", b"\\", b"\\\\\n"]) + command[at:]
+    return rng.choice([b"", b"", b" ", b"\t "]) + command + rng.choice([b"", b"", b" ", b" \t"])
+
+
+def expansion_request(rng):
+    """names of any bytes"""
+    r = request(rng)
+    if rng.random() < 0.3:
+        r["daemon"] = rng.randbytes(rng.choice([1, 8, 64]))
+        if isinstance(r["user"], bytes):
+            r["user"] = rng.randbytes(rng.choice([1, 8, 64]))
+        for end in ("client", "server"):
+            if isinstance(r[end][0], bytes):
+                r[end] = (rng.randbytes(rng.choice([1, 8, 255])), r[end][1])
+    return r
+
+
+def room_for(rng, result):
+    """about the length of the result, where there is one"""
+    n = rng.randrange(60) if ref.refused(result) else len(result)
+    return max(0, rng.choice([n, n, n + 1, n - 1, n + 20, 0, rng.randrange(n + 1)]))
+
+
+def address_of(rng):
+    return rng.choice([None, BAD, ("4", rng.choice(SMALL)), ("4", rng.getrandbits(32)), ("6", rng.choice(WIDE)), ("6", rng.getrandbits(128)),
+                       ("6", sum(rng.choice([0, 0, 1, 0x10, 0xffff, rng.getrandbits(16)]) << 16 * i for i in range(8)))])
+
+
+def address_text(rng):
+    kind, address = rng.random(), address_of(rng)
+    if kind < 0.3:
+        groups = [rng.choice([b"0", b"0", b"1", b"ffff", b"FfFf", b"0a", b"00000", b"", b"12.3.4.5"]) for _ in range(rng.choice([2, 4, 7, 8, 8, 8, 9]))]
+        return b":".join(groups)
+    text = b"10.0.0.1" if address == BAD else ref.address_text(address)
+    if kind < 0.6:
+        at = rng.randrange(len(text) + 1)
+        text = text[:at] + rng.choice([b"", b":", b".", b"0", b"f", b"%", b"/", b"\0", b" "]) + text[at + rng.randrange(2):]
+    return text
+
+
+# What each export is to be seen to answer
+
+FILES = {"4", "5", "6", "7", "8", "9", "10", "11"}
+SHEET = {"1", "2", "3", "12"} | FILES
+VERDICTS = {"granted", "denied", "ask", "13"}
+BYUID = {"granted", "no line", "not ruled", "13"}
+PORTACL = {"granted", "denied", "exempt", "not ruled", "13"}
+KINDS = {
+    "verdict": VERDICTS | FILES | {"2"}, "byuid": BYUID | {"2"}, "portacl": PORTACL | {"2", "12"},
+    "sheet_verdict": VERDICTS | SHEET, "sheet_byuid": BYUID | SHEET, "sheet_portacl": PORTACL | SHEET,
+    "check": SHEET | {"sheet ok"}, "unpack": SHEET | {"answered"}, "pack": {"answered", "2", "12", "14"} | FILES,
+    "expand": {"answered", "5", "6", "11", "13", "14"},
+    "read_address": {"4", "6", "13"}, "write_address": {"answered", "13", "14"},
+}
+
+
+def kind_of(answer):
+    return answer if isinstance(answer, str) else str(answer[0]) if isinstance(answer, tuple) else "answered"
+
+
 def main():
     lib, cases = load(sys.argv[1]), int(sys.argv[2])
     rng = random.Random(int(sys.argv[3]) if len(sys.argv) > 3 else 1)
-    seen = {}
+    seen = {name: set() for name in KINDS}
 
-    def compare(what, got, expected, *inputs):
-        seen[what, str(expected if isinstance(expected, str) else expected[0])] = seen.get((what, str(expected if isinstance(expected, str) else expected[0])), 0) + 1
+    def compare(name, got, expected, *inputs):
+        seen[name].add(kind_of(expected))
         if got != expected:
-            print(f"{what}: got {got}, expected {expected}")
+            print(f"{name}: got {got}, expected {expected}")
             for each in inputs:
                 print("   ", each)
             sys.exit(1)
 
-    for _ in range(cases):
+    def hosts_case():
         sound = rng.random() < 0.7
         allow, deny, r = hosts_text(rng, sound), hosts_text(rng, sound), request(rng)
         if rng.random() < 0.003:
             allow = (allow + b"\n" * 16385)[:rng.choice([16384, 16385])]
-        compare("verdict", verdict(lib, allow, deny, r), ref.verdict(allow, deny, r), allow, deny, r)
+        got = verdict(rng, lib.gate_verdict, [allow, deny], [b"", allow, deny], r)
+        compare("verdict", got, ref.verdict(allow, deny, r), allow, deny, r)
+
+    def byuid_request():
         address = rng.choice([host(rng)[1], ("4", 0x0a000000 + rng.randrange(3)), ("6", rng.randrange(3))])
-        case = (byuid_text(rng), rng.choice([0, 1, 80, 80, 80, 80, 80, 512, 1023, 1024]), address, rng.choice([0, 1, 432, 432, 432]))
-        compare("byuid", byuid(lib, *case), ref.byuid(*case), *case)
+        port = BAD if rng.random() < 0.02 else rng.choice([0, 1, 80, 80, 80, 80, 80, 512, 1023, 1024])
+        return port, address, rng.choice([0, 1, 432, 432, 432])
+
+    def portacl_request():
         settings = dict(enabled=rng.choice([0, 1, 1, 1, 2]), port_high=rng.choice([0, 79, 80, 1023, 1023, 65535, 2 ** 32 - 1]),
                         suser_exempt=rng.choice([0, 1, 7]), autoport_exempt=rng.choice([0, 1, 7]))
-        case = (portacl_text(rng), settings, rng.choice([0, 80, 432]), [rng.choice([0, 80, 432]) for _ in range(rng.choice([0, 1, 2, 16, 17]))],
-                rng.choice([b"tcp", b"udp"]), rng.choice([0, 80, 1023, 65535]))
-        compare("portacl", portacl(lib, *case), ref.portacl(*case), *case)
-    print(f"differential: {cases} cases of each decision agree; answers seen: {len(seen)} kinds")
+        groups = [rng.choice([0, 80, 432]) for _ in range(rng.choice([0, 1, 2, 16, 17]))]
+        protocol = BAD if rng.random() < 0.02 else rng.choice([b"tcp", b"udp"])
+        return settings, rng.choice([0, 80, 432]), groups, protocol, BAD if rng.random() < 0.02 else rng.choice([0, 80, 1023, 65535])
+
+    def port_cases():
+        case = (byuid_text(rng), *byuid_request())
+        compare("byuid", byuid(rng, lib.gate_byuid, *case), ref.byuid(*case), *case)
+        case = (portacl_text(rng), *portacl_request())
+        compare("portacl", portacl(rng, lib.gate_portacl, *case), ref.portacl(*case), *case)
+
+    def sheet_cases():
+        texts, r = texts_of(rng), request(rng)
+        sheet = sheet_of(rng, texts)
+        compare("check", check(lib.gate_check, sheet), ref.check(sheet), sheet)
+        compare("unpack", unpack(lib.gate_unpack, sheet), ref.unpack(sheet), sheet)
+        compare("sheet_verdict", verdict(rng, lib.gate_sheet_verdict, [sheet], [sheet] * 3, r), ref.sheet_verdict(sheet, r), sheet, r)
+        case = byuid_request()
+        compare("sheet_byuid", byuid(rng, lib.gate_sheet_byuid, sheet, *case), ref.sheet_byuid(sheet, *case), sheet, case)
+        case = portacl_request()
+        compare("sheet_portacl", portacl(rng, lib.gate_sheet_portacl, sheet, *case), ref.sheet_portacl(sheet, *case), sheet, case)
+        if rng.random() < 0.01:
+            section = rng.randrange(4)
+            texts[section] = (texts[section] + b"\n" * 16385)[:ref.LIMITS[section + 1] + rng.randrange(2)]
+        room = room_for(rng, ref.pack(texts, 1 << 32))
+        got = written(rng, room, lib.gate_pack, *(x for text in texts for x in sized(text)))
+        compare("pack", got, ref.pack(texts, room), texts, room)
+
+    def expand_case():
+        command, r, process = command_of(rng), expansion_request(rng), rng.choice([0, 9, 10, 4711, 2 ** 32 - 1, rng.getrandbits(32)])
+        room = room_for(rng, ref.expand(command, r, process, 1 << 32))
+        got = written(rng, room, lib.gate_expand, *sized(command), *request_args(rng, r), process)
+        compare("expand", got, ref.expand(command, r, process, room), command, r, process, room)
+
+    def address_cases():
+        text = address_text(rng)
+        compare("read_address", read_address(lib.gate_read_address, text), ref.read_address(text), text)
+        address = address_of(rng)
+        room = room_for(rng, ref.write_address(address, 39))
+        compare("write_address", written(rng, room, lib.gate_write_address, *address_args(rng, address)), ref.write_address(address, room), address, room)
+
+    for _ in range(cases):
+        hosts_case()
+        port_cases()
+        sheet_cases()
+        expand_case()
+        address_cases()
+    never = [f"{name} {kind}" for name in KINDS for kind in sorted(KINDS[name] - seen[name])]
+    if never:
+        print("differential: never seen:", ", ".join(never))
+        sys.exit(1)
+    print(f"differential: {cases} cases of each of {len(KINDS)} exports agree; every kind of answer was among them")
 
 
 main()

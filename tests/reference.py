@@ -2,19 +2,26 @@
 
 It shares nothing with the definitions in crates/*/specs and favours the plainest way to say a thing.
 Hosts are pairs (name, address): name is None (unknown), False (paranoid) or bytes; address is None, ("4", n) or ("6", n).
-Users are "not fetched", None (unknown) or bytes. Refusals are tuples (number, section, line).
+Users are "not fetched", None (unknown) or bytes. BAD in the place of a state, an address, a port or a protocol stands for what is
+outside its kinds. Refusals are tuples (number, section, line).
 """
+import functools
 import ipaddress
 import re
 
 LIMITS = {1: 16384, 2: 16384, 3: 8192, 4: 1024}
 BLANKS = b" \t"
 NAME = re.compile(rb"[A-Za-z0-9_.-]+\Z")
+OUTSIDE = re.compile(rb"[^\t -~]")
 FIELD = rb"(?:0|[1-9][0-9]{0,9})"
+BAD = "bad"
+
+# the same answer once more for the same bytes
+again = functools.lru_cache(maxsize=4096)
 
 
 def lower(text):
-    return bytes(b + 32 if 65 <= b <= 90 else b for b in text)
+    return text.lower()  # of bytes: ASCII letters alone
 
 
 def same(a, b):
@@ -36,6 +43,7 @@ def read4(text):
     return int.from_bytes(bytes(fields), "big")
 
 
+@again
 def read6(text):
     """As inet_pton: by Python's own reader, after ruling out what it takes besides (zones) or takes otherwise."""
     if not re.fullmatch(rb"[0-9A-Fa-f:.]*", text):
@@ -58,7 +66,7 @@ def read_address(text):
     return (13, 0, 0)
 
 
-def write_address(address):
+def address_text(address):
     if address is None:
         return b"unknown"
     kind, n = address
@@ -76,6 +84,15 @@ def write_address(address):
     if length < 2:
         return b":".join(text)
     return b":".join(text[:best]) + b"::" + b":".join(text[best + length:])
+
+
+def within(room, text):
+    return (14, 0, 0) if len(text) > room else text
+
+
+def write_address(address, room):
+    """a refusal, or the bytes written"""
+    return (13, 0, 0) if address == BAD else within(room, address_text(address))
 
 
 # Lines
@@ -157,6 +174,7 @@ def is_word(text, word):
     return same(text, word)
 
 
+@again
 def pattern(e):
     """what it matches: a function of a host, or None"""
     for w in WILD:
@@ -222,6 +240,7 @@ def plain(t):
     return bool(NAME.match(t)) and len(t) <= 64 and not any(same(t, w) for w in WILD)
 
 
+@again
 def daemon_element(e):
     name, host = halves(e)
     if not (same(name, b"ALL") or plain(name)):
@@ -232,6 +251,7 @@ def daemon_element(e):
     return lambda r: (same(name, b"ALL") or same(name, r["daemon"])) and of_host(r["server"])
 
 
+@again
 def client_element(e):
     user, host = halves(e)
     if host is None:
@@ -272,7 +292,7 @@ def line_faults(line):
     found = set()
     if not line.ended:
         found.add(4)
-    if not comment and any(not (b == 9 or 32 <= b <= 126) for b in text):
+    if not comment and OUTSIDE.search(text):
         found.add(5)
     if len(text) > 2047:
         found.add(6)
@@ -299,6 +319,7 @@ def line_faults(line):
     return found
 
 
+@again
 def hosts_fault(section, text):
     for line in lines(text):
         found = line_faults(line)
@@ -312,9 +333,9 @@ def over(section, text):
 
 
 def request_fault(r):
-    bad = not 1 <= len(r["daemon"]) <= 64
-    for host in (r["client"], r["server"]):
-        bad = bad or isinstance(host[0], bytes) and not 1 <= len(host[0]) <= 255
+    bad = not 1 <= len(r["daemon"]) <= 64 or r["user"] == BAD
+    for name, address in (r["client"], r["server"]):
+        bad = bad or name == BAD or address == BAD or isinstance(name, bytes) and not 1 <= len(name) <= 255
     bad = bad or isinstance(r["user"], bytes) and not 1 <= len(r["user"]) <= 64
     return (13, 0, 0) if bad else None
 
@@ -339,7 +360,7 @@ def list_matches(ws, look):
 
 
 def verdict(allow, deny, r):
-    """a refusal, or (word, file, line, raw command bytes)"""
+    """a refusal, or (word, file, line, place of the raw command in that file, its bytes); no place where there are none"""
     fault = over(1, allow) or over(2, deny) or hosts_fault(1, allow) or hosts_fault(2, deny) or request_fault(r)
     if fault:
         return fault
@@ -354,14 +375,16 @@ def verdict(allow, deny, r):
                 if not list_matches(clients, lambda w: client_element(w)(r)):
                     continue
             except Asks:
-                return ("ask", number, line.number, b"")
-            command = command or b""
-            return (word, number, line.number, command if trimmed(command) else b"")
-    return ("granted", 0, 0, b"")
+                return ("ask", number, line.number, None, b"")
+            if not trimmed(command or b""):
+                return (word, number, line.number, None, b"")
+            return (word, number, line.number, line.place + len(line.raw) - len(command), command)
+    return ("granted", 0, 0, None, b"")
 
 
 # Ports
 
+@again
 def byuid_line(line):
     """(kind, low, high, port low, port high) or None"""
     def ports(text):
@@ -397,7 +420,7 @@ def byuid_line(line):
 def byuid(text, port, address, uid):
     if over(3, text):
         return over(3, text)
-    if address is None:
+    if address is None or address == BAD or port == BAD:
         return (13, 0, 0)
     if not 1 <= port <= 1023 or uid == 0:
         return "not ruled"
@@ -415,13 +438,19 @@ def entry(text):
     return form.group(1), int(form.group(2)), form.group(3), int(form.group(4))
 
 
+def entries_of(text):
+    return [entry(e) for e in text.split(b",")] if text else []
+
+
+def portacl_fault(text):
+    entries = entries_of(text)
+    return (12, 4, entries.index(None) + 1) if None in entries else None
+
+
 def portacl(text, settings, uid, groups, protocol, port):
-    if over(4, text):
-        return over(4, text)
-    entries = [entry(e) for e in text.split(b",")] if text else []
-    if None in entries:
-        return (12, 4, entries.index(None) + 1)
-    if len(groups) > 16:
+    if over(4, text) or portacl_fault(text):
+        return over(4, text) or portacl_fault(text)
+    if len(groups) > 16 or protocol == BAD or port == BAD:
         return (13, 0, 0)
     if settings["enabled"] == 0:
         return "not ruled"
@@ -431,7 +460,126 @@ def portacl(text, settings, uid, groups, protocol, port):
         return "not ruled"
     if settings["suser_exempt"] and uid == 0:
         return "exempt"
-    for idtype, ident, of, at in entries:
+    for idtype, ident, of, at in entries_of(text):
         if of == protocol and at == port and (ident == uid if idtype == b"uid" else ident in groups):
             return "granted"
     return "denied"
+
+
+# Expansion
+
+HOUSE = frozenset(b"ABCDEFGHIJKLMNOPQRSTUVWXYZabcdefghijklmnopqrstuvwxyz0123456789@%-_=+:,./")
+
+
+def inserted(letter, r, process):
+    def name(host):
+        return b"unknown" if host[0] is None else b"paranoid" if host[0] is False else host[0]
+
+    def name_or_address(host):
+        return host[0] if isinstance(host[0], bytes) else address_text(host[1])
+
+    client, server, daemon = r["client"], r["server"], r["daemon"]
+    user = r["user"] if isinstance(r["user"], bytes) else None
+    unknown_server = not isinstance(server[0], bytes) and server[1] is None
+    return {
+        "a": address_text(client[1]),
+        "A": address_text(server[1]),
+        "n": name(client),
+        "N": name(server),
+        "h": name_or_address(client),
+        "H": name_or_address(server),
+        "u": b"unknown" if user is None else user,
+        "c": name_or_address(client) if user is None else user + b"@" + name_or_address(client),
+        "d": daemon,
+        "s": daemon if unknown_server else daemon + b"@" + name_or_address(server),
+        "p": b"%d" % process,
+        "%": b"%",
+    }[letter]
+
+
+def expand(command, r, process, room):
+    """a refusal, or the bytes written"""
+    joined = command.replace(b"\\\n", b"")
+    if OUTSIDE.search(joined):
+        return (5, 0, 0)
+    if len(joined) > 2047:
+        return (6, 0, 0)
+    if bad_percent(trimmed(command)):
+        return (11, 0, 0)
+    if request_fault(r):
+        return request_fault(r)
+
+    def piece(match):
+        return bytes(b if b in HOUSE else 95 for b in inserted(chr(match.group(1)[0]), r, process))
+
+    return within(room, re.sub(rb"%(.)", piece, trimmed(command), flags=re.S))
+
+
+# The station sheet
+
+def texts_fault(texts):
+    fault = None
+    for section, text in enumerate(texts, 1):
+        fault = fault or over(section, text)
+    return fault or hosts_fault(1, texts[0]) or hosts_fault(2, texts[1]) or portacl_fault(texts[3])
+
+
+@again
+def unpack(sheet):
+    """a refusal, or the (place, length) of each of the four texts"""
+    at, parts = 0, []
+    for section in LIMITS:
+        if len(sheet) < at + 4:
+            return (1, section, 0)
+        count = int.from_bytes(sheet[at:at + 4], "big")
+        if count > LIMITS[section]:
+            return (2, section, 0)
+        if len(sheet) < at + 4 + count:
+            return (1, section, 0)
+        parts.append((at + 4, count))
+        at += 4 + count
+    if at < len(sheet):
+        return (3, 0, 0)
+    return texts_fault([sheet[place:place + n] for place, n in parts]) or parts
+
+
+def sheet_of(texts):
+    return b"".join(len(t).to_bytes(4, "big") + t for t in texts)
+
+
+def pack(texts, room):
+    """a refusal, or the bytes written"""
+    return texts_fault(texts) or within(room, sheet_of(texts))
+
+
+def refused(answer):
+    return isinstance(answer, tuple) and len(answer) == 3
+
+
+def check(sheet):
+    return unpack(sheet) if refused(unpack(sheet)) else "sheet ok"
+
+
+def of_sheet(decision, sheet):
+    """decision, a function of the parts and the four texts, by a sheet"""
+    parts = unpack(sheet)
+    return parts if refused(parts) else decision(parts, [sheet[place:place + n] for place, n in parts])
+
+
+def sheet_verdict(sheet, r):
+    """as verdict, the place being one in the sheet"""
+    def decision(parts, texts):
+        answer = verdict(texts[0], texts[1], r)
+        if refused(answer) or answer[3] is None:
+            return answer
+        word, file, line, place, command = answer
+        return word, file, line, parts[file - 1][0] + place, command
+    return of_sheet(decision, sheet)
+
+
+def sheet_byuid(sheet, *request):
+    return of_sheet(lambda parts, texts: byuid(texts[2], *request), sheet)
+
+
+def sheet_portacl(sheet, *request):
+    return of_sheet(lambda parts, texts: portacl(texts[3], *request), sheet)

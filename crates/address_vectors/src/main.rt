@@ -1,28 +1,22 @@
 // Address texts: RFC 5952's examples, inet_pton's edge cases and near misses. Each case prints its text and what is read, and an
 // address that was read is written again.
-use address::read::AddressRead;
 
 fn show(text: &[u8]) {
     report::text(text);
     report::text(b" -> ");
-    match address::read::read_address(text) {
-        AddressRead::Refused(r) => report::refusal(r),
-        AddressRead::Address(a) => written(a),
+    let a = gate::gate_read_address(text);
+    if a.number != 0 {
+        report::refusal(a.number, a.section, a.line);
+        return;
     }
+    written(a.kind, a.high, a.low);
 }
 
-// The address a, written into as many bytes as the longest needs.
-fn written(a: address::Addr) {
+// The address, written into as many bytes as the longest needs.
+fn written(kind: u32, high: u64, low: u64) {
     let mut out = [46u8; 39];
-    let answer = address_format::write_address(&mut out, a);
-    shown(answer, &out);
-}
-
-fn shown(answer: section::Written, out: &[u8]) {
-    match answer {
-        section::Written::Refused(r) => report::refusal(r),
-        section::Written::Count(n) => report::line(out, n),
-    }
+    let answer = gate::gate_write_address(&mut out, kind, high, low);
+    report::written(answer, &out);
 }
 
 // IPv4: four fields, 0 to 255, in fewest digits.
@@ -123,25 +117,25 @@ fn near_misses_2() {
 }
 
 // Room for seven bytes, and for six.
-fn in_seven(a: address::Addr) {
+fn in_seven(kind: u32, high: u64, low: u64) {
     let mut out = [46u8; 7];
-    let answer = address_format::write_address(&mut out, a);
-    shown(answer, &out);
+    let answer = gate::gate_write_address(&mut out, kind, high, low);
+    report::written(answer, &out);
 }
 
-fn in_six(a: address::Addr) {
+fn in_six(kind: u32, high: u64, low: u64) {
     let mut out = [46u8; 6];
-    let answer = address_format::write_address(&mut out, a);
-    shown(answer, &out);
+    let answer = gate::gate_write_address(&mut out, kind, high, low);
+    report::written(answer, &out);
 }
 
 // Room: exactly enough, and one byte less; an unknown address; an output that is not filled.
 fn room() {
-    in_seven(address::Addr::V4(16909060));
-    in_six(address::Addr::V4(16909060));
-    in_seven(address::Addr::Unknown);
-    in_six(address::Addr::Unknown);
-    in_six(address::Addr::V6(0, 0));
+    in_seven(4, 0, 16909060);
+    in_six(4, 0, 16909060);
+    in_seven(0, 0, 0);
+    in_six(0, 0, 0);
+    in_six(6, 0, 0);
 }
 
 fn main() {

@@ -1,11 +1,10 @@
 // The examples of document 000, every number that a rule can be refused by, and what is easy to get wrong. Each case prints its
 // sentence and what the gate answers.
-use address::Addr;
-use elements::User;
-use patterns::Host;
-use patterns::Name;
+use report::Addr;
+use report::Name;
+use report::User;
 
-// The verdict on a client, for the daemon sshd at the server 192.0.2.1, of no known user.
+// The verdict for the daemon sshd at the server 192.0.2.1, on a client of no known user.
 fn client<'a>(
     sentence: &[u8],
     allow: &'a [u8],
@@ -15,39 +14,62 @@ fn client<'a>(
     addr: Addr,
 ) {
     report::sentence(sentence);
-    let client = Host { name, addr };
-    let answer = rules::decide(
+    let at = report::numbers(addr);
+    let state = report::name_state(name);
+    let answer = gate::gate_verdict(
         allow,
         deny,
         b"sshd",
-        client,
+        state,
+        at.kind,
+        at.high,
+        at.low,
         text,
-        server(),
+        0,
+        4,
+        0,
+        3221225985,
         b"",
-        User::Unknown,
+        1,
         b"",
     );
     report::verdict(answer, allow, deny);
 }
 
-// The same for another daemon.
+// The client wzv.win.tue.nl at 131.155.73.255, by an allow text alone.
+fn by_allow(sentence: &[u8], allow: &[u8]) {
+    daemon(sentence, allow, b"", b"sshd", b"wzv.win.tue.nl");
+}
+
+// The same with all others denied.
+fn else_denied(sentence: &[u8], allow: &[u8]) {
+    daemon(sentence, allow, b"ALL: ALL\n", b"sshd", b"wzv.win.tue.nl");
+}
+
+// The same for another daemon, on a client of a known name at 131.155.73.255.
 fn daemon<'a>(sentence: &[u8], allow: &'a [u8], deny: &'a [u8], daemon: &[u8], text: &[u8]) {
     report::sentence(sentence);
-    let answer = rules::decide(
+    let answer = gate::gate_verdict(
         allow,
         deny,
         daemon,
-        tue(),
+        2,
+        4,
+        0,
+        2207992319,
         text,
-        server(),
+        0,
+        4,
+        0,
+        3221225985,
         b"",
-        User::Unknown,
+        1,
         b"",
     );
     report::verdict(answer, allow, deny);
 }
 
-// The same for a user.
+// The same for sshd and a user.
 fn user<'a>(
     sentence: &[u8],
     allow: &'a [u8],
@@ -57,35 +79,30 @@ fn user<'a>(
     name: &[u8],
 ) {
     report::sentence(sentence);
-    let answer = rules::decide(allow, deny, b"sshd", tue(), text, server(), b"", user, name);
+    let who = report::user_state(user);
+    let answer = gate::gate_verdict(
+        allow,
+        deny,
+        b"sshd",
+        2,
+        4,
+        0,
+        2207992319,
+        text,
+        0,
+        4,
+        0,
+        3221225985,
+        b"",
+        who,
+        name,
+    );
     report::verdict(answer, allow, deny);
-}
-
-// A host of a known name, at 131.155.73.255.
-fn tue() -> Host {
-    Host {
-        name: Name::Known,
-        addr: Addr::V4(2207992319),
-    }
-}
-
-fn server() -> Host {
-    Host {
-        name: Name::Unknown,
-        addr: Addr::V4(3221225985),
-    }
 }
 
 // The pattern examples of document 000.
 fn patterns() {
-    client(
-        b"`.tue.nl' matches wzv.win.tue.nl",
-        b"ALL: .tue.nl\n",
-        b"ALL: ALL\n",
-        Name::Known,
-        b"wzv.win.tue.nl",
-        Addr::V4(2207992319),
-    );
+    else_denied(b"`.tue.nl' matches wzv.win.tue.nl", b"ALL: .tue.nl\n");
     client(
         b"`.tue.nl' does not match tue.nl",
         b"ALL: .tue.nl\n",
@@ -201,22 +218,11 @@ fn patterns_2() {
         b"10.0.0.1",
         Addr::V4(2207992319),
     );
-    client(
+    else_denied(
         b"a name matches an equal name, ignoring case",
         b"ALL: WZV.Win.TUE.nl\n",
-        b"ALL: ALL\n",
-        Name::Known,
-        b"wzv.win.tue.nl",
-        Addr::V4(2207992319),
     );
-    client(
-        b"a name does not match a longer one",
-        b"ALL: win.tue.nl\n",
-        b"ALL: ALL\n",
-        Name::Known,
-        b"wzv.win.tue.nl",
-        Addr::V4(2207992319),
-    );
+    else_denied(b"a name does not match a longer one", b"ALL: win.tue.nl\n");
 }
 
 // ALL, LOCAL, KNOWN, UNKNOWN, PARANOID.
@@ -229,14 +235,7 @@ fn wildcards() {
         b"van7",
         Addr::V4(2207992319),
     );
-    client(
-        b"LOCAL does not match a name with a dot",
-        b"ALL: LOCAL\n",
-        b"ALL: ALL\n",
-        Name::Known,
-        b"wzv.win.tue.nl",
-        Addr::V4(2207992319),
-    );
+    else_denied(b"LOCAL does not match a name with a dot", b"ALL: LOCAL\n");
     client(
         b"an unknown name is not LOCAL",
         b"ALL: LOCAL\n",
@@ -245,13 +244,9 @@ fn wildcards() {
         b"",
         Addr::V4(2207992319),
     );
-    client(
+    else_denied(
         b"KNOWN needs a known name and a known address",
         b"ALL: KNOWN\n",
-        b"ALL: ALL\n",
-        Name::Known,
-        b"wzv.win.tue.nl",
-        Addr::V4(2207992319),
     );
     client(
         b"KNOWN without an address does not match",
@@ -347,13 +342,9 @@ fn operators() {
         b"in.fingerd",
         b"a.other.domain",
     );
-    client(
+    else_denied(
         b"EXCEPT in any case of letters",
         b"ALL: ALL except wzv.win.tue.nl\n",
-        b"ALL: ALL\n",
-        Name::Known,
-        b"wzv.win.tue.nl",
-        Addr::V4(2207992319),
     );
     user(
         b"the right side is looked at only after the left matched",
@@ -375,13 +366,9 @@ fn operators() {
 
 // MOSTLY CLOSED and MOSTLY OPEN.
 fn closed_and_open() {
-    client(
+    else_denied(
         b"mostly closed, as printed: the netgroup is refused",
         b"ALL: LOCAL @some_netgroup\nALL: .foobar.edu EXCEPT terminalserver.foobar.edu\n",
-        b"ALL: ALL\n",
-        Name::Known,
-        b"wzv.win.tue.nl",
-        Addr::V4(2207992319),
     );
     client(
         b"mostly closed: a local host",
@@ -464,37 +451,15 @@ fn booby_traps() {
         b"wzv.win.tue.nl",
         Addr::V4(2207992319),
     );
-    client(
-        b"a command of blanks is none",
-        b"ALL: ALL: \t \n",
-        b"",
-        Name::Known,
-        b"wzv.win.tue.nl",
-        Addr::V4(2207992319),
-    );
-    client(
-        b"a colon in a command is its own",
-        b"ALL: ALL: a:b [c\n",
-        b"",
-        Name::Known,
-        b"wzv.win.tue.nl",
-        Addr::V4(2207992319),
-    );
-    client(
+    by_allow(b"a command of blanks is none", b"ALL: ALL: \t \n");
+    by_allow(b"a colon in a command is its own", b"ALL: ALL: a:b [c\n");
+    by_allow(
         b"a colon in brackets does not separate",
         b"ALL: [::1], ALL: x\n",
-        b"",
-        Name::Known,
-        b"wzv.win.tue.nl",
-        Addr::V4(2207992319),
     );
-    client(
+    by_allow(
         b"the line number of a rule after comments, blanks and continued lines",
         b"# a \\\n b\n\n \t\nsshd: \\\n ALL: c\n",
-        b"",
-        Name::Known,
-        b"wzv.win.tue.nl",
-        Addr::V4(2207992319),
     );
 }
 
@@ -575,14 +540,7 @@ fn asking() {
 }
 
 fn asking_2() {
-    client(
-        b"an unknown user is no named one",
-        b"ALL: fitter@.tue.nl\n",
-        b"ALL: ALL\n",
-        Name::Known,
-        b"wzv.win.tue.nl",
-        Addr::V4(2207992319),
-    );
+    else_denied(b"an unknown user is no named one", b"ALL: fitter@.tue.nl\n");
     user(
         b"KNOWN user",
         b"ALL: KNOWN@ALL\n",
@@ -591,50 +549,21 @@ fn asking_2() {
         User::Known,
         b"unknown",
     );
-    client(
-        b"UNKNOWN user",
-        b"ALL: UNKNOWN@ALL\n",
-        b"ALL: ALL\n",
-        Name::Known,
-        b"wzv.win.tue.nl",
-        Addr::V4(2207992319),
-    );
-    client(
-        b"ALL users, an unknown one too",
-        b"ALL: ALL@ALL\n",
-        b"ALL: ALL\n",
-        Name::Known,
-        b"wzv.win.tue.nl",
-        Addr::V4(2207992319),
-    );
+    else_denied(b"UNKNOWN user", b"ALL: UNKNOWN@ALL\n");
+    else_denied(b"ALL users, an unknown one too", b"ALL: ALL@ALL\n");
 }
 
 // daemon@host, the server's endpoint.
 fn servers() {
-    client(
+    else_denied(
         b"name@host against the server's address",
         b"sshd@192.0.2.1: ALL\n",
-        b"ALL: ALL\n",
-        Name::Known,
-        b"wzv.win.tue.nl",
-        Addr::V4(2207992319),
     );
-    client(
+    else_denied(
         b"name@host against another address",
         b"sshd@192.0.2.2: ALL\n",
-        b"ALL: ALL\n",
-        Name::Known,
-        b"wzv.win.tue.nl",
-        Addr::V4(2207992319),
     );
-    client(
-        b"ALL@host",
-        b"all@192.0.2.: ALL\n",
-        b"ALL: ALL\n",
-        Name::Known,
-        b"wzv.win.tue.nl",
-        Addr::V4(2207992319),
-    );
+    else_denied(b"ALL@host", b"all@192.0.2.: ALL\n");
     daemon(
         b"a daemon with a final dot",
         b"sshd.: ALL\n",
@@ -642,89 +571,22 @@ fn servers() {
         b"SSHD.",
         b"wzv.win.tue.nl",
     );
-    client(
-        b"a daemon is equal, ignoring case",
-        b"SSHD: ALL\n",
-        b"ALL: ALL\n",
-        Name::Known,
-        b"wzv.win.tue.nl",
-        Addr::V4(2207992319),
-    );
+    else_denied(b"a daemon is equal, ignoring case", b"SSHD: ALL\n");
 }
 
 // Numbers 4 to 6, and joining.
 fn refused_lines() {
-    client(
-        b"4: no ending newline",
-        b"ALL: ALL",
-        b"",
-        Name::Known,
-        b"wzv.win.tue.nl",
-        Addr::V4(2207992319),
-    );
-    client(
-        b"4: a comment without one",
-        b"# x",
-        b"",
-        Name::Known,
-        b"wzv.win.tue.nl",
-        Addr::V4(2207992319),
-    );
-    client(
-        b"4: dropped bytes make a last line",
-        b"ALL: ALL\n\\\n",
-        b"",
-        Name::Known,
-        b"wzv.win.tue.nl",
-        Addr::V4(2207992319),
-    );
-    client(
-        b"4 before 5",
-        b"\x01",
-        b"",
-        Name::Known,
-        b"wzv.win.tue.nl",
-        Addr::V4(2207992319),
-    );
-    client(
-        b"5: a carriage return",
-        b"ALL: ALL\r\n",
-        b"",
-        Name::Known,
-        b"wzv.win.tue.nl",
-        Addr::V4(2207992319),
-    );
-    client(
-        b"5: an otherwise empty line with a zero byte",
-        b"\x00\n",
-        b"",
-        Name::Known,
-        b"wzv.win.tue.nl",
-        Addr::V4(2207992319),
-    );
-    client(
-        b"5 is not for comments",
-        b"#\xff\n",
-        b"ALL: ALL\n",
-        Name::Known,
-        b"wzv.win.tue.nl",
-        Addr::V4(2207992319),
-    );
-    client(
-        b"5 before 7",
-        b"\x7f\n",
-        b"",
-        Name::Known,
-        b"wzv.win.tue.nl",
-        Addr::V4(2207992319),
-    );
-    client(
+    by_allow(b"4: no ending newline", b"ALL: ALL");
+    by_allow(b"4: a comment without one", b"# x");
+    by_allow(b"4: dropped bytes make a last line", b"ALL: ALL\n\\\n");
+    by_allow(b"4 before 5", b"\x01");
+    by_allow(b"5: a carriage return", b"ALL: ALL\r\n");
+    by_allow(b"5: an otherwise empty line with a zero byte", b"\x00\n");
+    else_denied(b"5 is not for comments", b"#\xff\n");
+    by_allow(b"5 before 7", b"\x7f\n");
+    by_allow(
         b"the lowest line decides: 10 on line 2 before 4 on line 3",
         b"\nALL: !\nALL",
-        b"",
-        Name::Known,
-        b"wzv.win.tue.nl",
-        Addr::V4(2207992319),
     );
 }
 
@@ -737,279 +599,64 @@ fn refused_lines_2() {
         b"wzv.win.tue.nl",
         Addr::V4(2207992319),
     );
-    client(
+    by_allow(
         b"a backslash that joins nothing is no element",
         b"ALL: \\\\\n\n\n",
-        b"",
-        Name::Known,
-        b"wzv.win.tue.nl",
-        Addr::V4(2207992319),
     );
 }
 
 // Numbers 7 and 8.
 fn refused_lists() {
-    client(
-        b"7: no separator",
-        b"x\n",
-        b"",
-        Name::Known,
-        b"wzv.win.tue.nl",
-        Addr::V4(2207992319),
-    );
-    client(
-        b"7: no client",
-        b"ALL:\n",
-        b"",
-        Name::Known,
-        b"wzv.win.tue.nl",
-        Addr::V4(2207992319),
-    );
-    client(
-        b"7: no daemon",
-        b": ALL\n",
-        b"",
-        Name::Known,
-        b"wzv.win.tue.nl",
-        Addr::V4(2207992319),
-    );
-    client(
-        b"7: only commas",
-        b", ,: ALL\n",
-        b"",
-        Name::Known,
-        b"wzv.win.tue.nl",
-        Addr::V4(2207992319),
-    );
-    client(
-        b"7: EXCEPT is no element",
-        b"ALL: EXCEPT\n",
-        b"",
-        Name::Known,
-        b"wzv.win.tue.nl",
-        Addr::V4(2207992319),
-    );
-    client(
+    by_allow(b"7: no separator", b"x\n");
+    by_allow(b"7: no client", b"ALL:\n");
+    by_allow(b"7: no daemon", b": ALL\n");
+    by_allow(b"7: only commas", b", ,: ALL\n");
+    by_allow(b"7: EXCEPT is no element", b"ALL: EXCEPT\n");
+    by_allow(
         b"7 in the client list before 10 in the daemon list",
         b"!: \n",
-        b"",
-        Name::Known,
-        b"wzv.win.tue.nl",
-        Addr::V4(2207992319),
     );
-    client(
-        b"7: an open bracket hides the separator",
-        b"[x: ALL\n",
-        b"",
-        Name::Known,
-        b"wzv.win.tue.nl",
-        Addr::V4(2207992319),
-    );
-    client(
-        b"8: EXCEPT first",
-        b"EXCEPT ALL: ALL\n",
-        b"",
-        Name::Known,
-        b"wzv.win.tue.nl",
-        Addr::V4(2207992319),
-    );
-    client(
-        b"8: EXCEPT last",
-        b"ALL: a EXCEPT\n",
-        b"",
-        Name::Known,
-        b"wzv.win.tue.nl",
-        Addr::V4(2207992319),
-    );
+    by_allow(b"7: an open bracket hides the separator", b"[x: ALL\n");
+    by_allow(b"8: EXCEPT first", b"EXCEPT ALL: ALL\n");
+    by_allow(b"8: EXCEPT last", b"ALL: a EXCEPT\n");
 }
 
 fn refused_lists_2() {
-    client(
-        b"8: two EXCEPTs",
-        b"ALL: a EXCEPT EXCEPT b\n",
-        b"",
-        Name::Known,
-        b"wzv.win.tue.nl",
-        Addr::V4(2207992319),
-    );
-    client(
-        b"8 before 9",
-        b"ALL: @x EXCEPT\n",
-        b"",
-        Name::Known,
-        b"wzv.win.tue.nl",
-        Addr::V4(2207992319),
-    );
+    by_allow(b"8: two EXCEPTs", b"ALL: a EXCEPT EXCEPT b\n");
+    by_allow(b"8 before 9", b"ALL: @x EXCEPT\n");
 }
 
 // Numbers 9 to 11.
 fn refused_elements() {
-    client(
-        b"9: a netgroup",
-        b"ALL: @x\n",
-        b"",
-        Name::Known,
-        b"wzv.win.tue.nl",
-        Addr::V4(2207992319),
-    );
-    client(
-        b"9: a file",
-        b"ALL: /etc/vans\n",
-        b"",
-        Name::Known,
-        b"wzv.win.tue.nl",
-        Addr::V4(2207992319),
-    );
-    client(
-        b"9: the half after @",
-        b"ALL: x@/y\n",
-        b"",
-        Name::Known,
-        b"wzv.win.tue.nl",
-        Addr::V4(2207992319),
-    );
-    client(
-        b"9: in daemons",
-        b"x@@y: ALL\n",
-        b"",
-        Name::Known,
-        b"wzv.win.tue.nl",
-        Addr::V4(2207992319),
-    );
-    client(
+    by_allow(b"9: a netgroup", b"ALL: @x\n");
+    by_allow(b"9: a file", b"ALL: /etc/vans\n");
+    by_allow(b"9: the half after @", b"ALL: x@/y\n");
+    by_allow(b"9: in daemons", b"x@@y: ALL\n");
+    by_allow(
         b"9 in the client list before 10 in the daemon list",
         b"!: @x\n",
-        b"",
-        Name::Known,
-        b"wzv.win.tue.nl",
-        Addr::V4(2207992319),
     );
-    client(
-        b"10: an empty half",
-        b"ALL: x@\n",
-        b"",
-        Name::Known,
-        b"wzv.win.tue.nl",
-        Addr::V4(2207992319),
-    );
-    client(
-        b"10: two halves too many",
-        b"ALL: a@b@c\n",
-        b"",
-        Name::Known,
-        b"wzv.win.tue.nl",
-        Addr::V4(2207992319),
-    );
-    client(
-        b"10: LOCAL as a user",
-        b"ALL: LOCAL@ALL\n",
-        b"",
-        Name::Known,
-        b"wzv.win.tue.nl",
-        Addr::V4(2207992319),
-    );
-    client(
-        b"10: KNOWN as a daemon",
-        b"KNOWN: ALL\n",
-        b"",
-        Name::Known,
-        b"wzv.win.tue.nl",
-        Addr::V4(2207992319),
-    );
+    by_allow(b"10: an empty half", b"ALL: x@\n");
+    by_allow(b"10: two halves too many", b"ALL: a@b@c\n");
+    by_allow(b"10: LOCAL as a user", b"ALL: LOCAL@ALL\n");
+    by_allow(b"10: KNOWN as a daemon", b"KNOWN: ALL\n");
 }
 
 fn refused_elements_2() {
-    client(
-        b"10: only digits is no name",
-        b"ALL: 10\n",
-        b"",
-        Name::Known,
-        b"wzv.win.tue.nl",
-        Addr::V4(2207992319),
-    );
-    client(
-        b"10: a leading zero",
-        b"ALL: 010.0.0.1\n",
-        b"",
-        Name::Known,
-        b"wzv.win.tue.nl",
-        Addr::V4(2207992319),
-    );
-    client(
-        b"10: net/mask by length",
-        b"ALL: 131.155.72.0/23\n",
-        b"",
-        Name::Known,
-        b"wzv.win.tue.nl",
-        Addr::V4(2207992319),
-    );
-    client(
-        b"10: a lone dot",
-        b"ALL: .\n",
-        b"",
-        Name::Known,
-        b"wzv.win.tue.nl",
-        Addr::V4(2207992319),
-    );
-    client(
-        b"10: a name with a final dot",
-        b"ALL: host.\n",
-        b"",
-        Name::Known,
-        b"wzv.win.tue.nl",
-        Addr::V4(2207992319),
-    );
-    client(
-        b"10: a length over 128",
-        b"ALL: [::1]/129\n",
-        b"",
-        Name::Known,
-        b"wzv.win.tue.nl",
-        Addr::V4(2207992319),
-    );
-    client(
-        b"10: an IPv4 address in brackets",
-        b"ALL: [1.2.3.4]\n",
-        b"",
-        Name::Known,
-        b"wzv.win.tue.nl",
-        Addr::V4(2207992319),
-    );
-    client(
-        b"10 before 11",
-        b"ALL: !: %z\n",
-        b"",
-        Name::Known,
-        b"wzv.win.tue.nl",
-        Addr::V4(2207992319),
-    );
-    client(
-        b"11: a percent at the end",
-        b"ALL: ALL: x % \n",
-        b"",
-        Name::Known,
-        b"wzv.win.tue.nl",
-        Addr::V4(2207992319),
-    );
+    by_allow(b"10: only digits is no name", b"ALL: 10\n");
+    by_allow(b"10: a leading zero", b"ALL: 010.0.0.1\n");
+    by_allow(b"10: net/mask by length", b"ALL: 131.155.72.0/23\n");
+    by_allow(b"10: a lone dot", b"ALL: .\n");
+    by_allow(b"10: a name with a final dot", b"ALL: host.\n");
+    by_allow(b"10: a length over 128", b"ALL: [::1]/129\n");
+    by_allow(b"10: an IPv4 address in brackets", b"ALL: [1.2.3.4]\n");
+    by_allow(b"10 before 11", b"ALL: !: %z\n");
+    by_allow(b"11: a percent at the end", b"ALL: ALL: x % \n");
 }
 
 fn refused_elements_3() {
-    client(
-        b"11: a letter of the other case",
-        b"ALL: ALL: %U\n",
-        b"",
-        Name::Known,
-        b"wzv.win.tue.nl",
-        Addr::V4(2207992319),
-    );
-    client(
-        b"%% takes the second percent",
-        b"ALL: ALL: %%z\n",
-        b"",
-        Name::Known,
-        b"wzv.win.tue.nl",
-        Addr::V4(2207992319),
-    );
+    by_allow(b"11: a letter of the other case", b"ALL: ALL: %U\n");
+    by_allow(b"%% takes the second percent", b"ALL: ALL: %%z\n");
 }
 
 // Continuation in the middle of things.
@@ -1022,14 +669,7 @@ fn continuation() {
         b"van7",
         Addr::V4(2207992319),
     );
-    client(
-        b"in an element",
-        b"ALL: .tu\\\ne.nl\n",
-        b"ALL: ALL\n",
-        Name::Known,
-        b"wzv.win.tue.nl",
-        Addr::V4(2207992319),
-    );
+    else_denied(b"in an element", b"ALL: .tu\\\ne.nl\n");
     client(
         b"in an address",
         b"ALL: 131.1\\\n55.73.255\n",
@@ -1046,45 +686,16 @@ fn continuation() {
         b"",
         Addr::V6(4611128587507073025, 9),
     );
-    client(
+    by_allow(
         b"in a command: the raw bytes keep it",
         b"ALL: ALL: a \\\n b\n",
-        b"",
-        Name::Known,
-        b"wzv.win.tue.nl",
-        Addr::V4(2207992319),
     );
-    client(
-        b"between percent and letter",
-        b"ALL: ALL: %\\\nu\n",
-        b"",
-        Name::Known,
-        b"wzv.win.tue.nl",
-        Addr::V4(2207992319),
-    );
-    client(
-        b"before a comment sign: still a comment",
-        b"\\\n# x\n",
-        b"ALL: ALL\n",
-        Name::Known,
-        b"wzv.win.tue.nl",
-        Addr::V4(2207992319),
-    );
-    client(
-        b"a comment goes on",
-        b"# x \\\nALL: ALL\n",
-        b"ALL: ALL\n",
-        Name::Known,
-        b"wzv.win.tue.nl",
-        Addr::V4(2207992319),
-    );
-    client(
+    by_allow(b"between percent and letter", b"ALL: ALL: %\\\nu\n");
+    else_denied(b"before a comment sign: still a comment", b"\\\n# x\n");
+    else_denied(b"a comment goes on", b"# x \\\nALL: ALL\n");
+    by_allow(
         b"two backslashes and two newlines leave a backslash",
         b"ALL: ALL\n# \\\\\n\nx\n",
-        b"",
-        Name::Known,
-        b"wzv.win.tue.nl",
-        Addr::V4(2207992319),
     );
 }
 

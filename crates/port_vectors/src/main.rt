@@ -1,28 +1,81 @@
 // The examples of documents 001 and 002, and near misses of every form of a byuid line and a portacl entry. Each case prints its
 // sentence and what is decided.
-use address::Addr;
-use portacl::Protocol;
-use portacl::Settings;
+use report::Addr;
+use report::Protocol;
 
-fn byuid(sentence: &[u8], text: &[u8], port: u16, addr: Addr, uid: u32) {
+// The four settings of mac_portacl.
+struct PortaclSettings {
+    enabled: u32,
+    port_high: u32,
+    suser_exempt: u32,
+    autoport_exempt: u32,
+}
+
+fn byuid(sentence: &[u8], text: &[u8], port: u32, addr: Addr, uid: u32) {
     report::sentence(sentence);
-    report::byuid(byuid::decide(text, port, addr, uid));
+    let at = report::numbers(addr);
+    report::decision(gate::gate_byuid(text, port, at.kind, at.high, at.low, uid));
+}
+
+// The uid 432 at 10.255.0.1, port 80.
+fn at_80(sentence: &[u8], text: &[u8]) {
+    byuid(sentence, text, 80, Addr::V4(184483841), 432);
 }
 
 // A bind under the settings that mac_portacl starts with.
-fn portacl(sentence: &[u8], text: &[u8], uid: u32, groups: &[u32], protocol: Protocol, port: u16) {
-    report::sentence(sentence);
-    report::portacl(portacl::decide(text, settings(1, 1023, 1, 1), uid, groups, protocol, port));
+fn portacl(sentence: &[u8], text: &[u8], uid: u32, groups: &[u32], protocol: Protocol, port: u32) {
+    bind(
+        sentence,
+        text,
+        settings(1, 1023, 1, 1),
+        uid,
+        groups,
+        protocol,
+        port,
+    );
+}
+
+// The uid 80 at tcp port 80.
+fn tcp_80(sentence: &[u8], text: &[u8]) {
+    portacl(sentence, text, 80, &[], Protocol::Tcp, 80);
 }
 
 // A tcp bind without groups under other settings.
-fn under(sentence: &[u8], text: &[u8], settings: Settings, uid: u32, port: u16) {
-    report::sentence(sentence);
-    report::portacl(portacl::decide(text, settings, uid, &[], Protocol::Tcp, port));
+fn under(sentence: &[u8], text: &[u8], settings: PortaclSettings, uid: u32, port: u32) {
+    bind(sentence, text, settings, uid, &[], Protocol::Tcp, port);
 }
 
-fn settings(enabled: u32, port_high: u32, suser_exempt: u32, autoport_exempt: u32) -> Settings {
-    Settings {
+fn bind(
+    sentence: &[u8],
+    text: &[u8],
+    s: PortaclSettings,
+    uid: u32,
+    groups: &[u32],
+    protocol: Protocol,
+    port: u32,
+) {
+    report::sentence(sentence);
+    let by = report::protocol_number(protocol);
+    report::decision(gate::gate_portacl(
+        text,
+        s.enabled,
+        s.port_high,
+        s.suser_exempt,
+        s.autoport_exempt,
+        uid,
+        groups,
+        by,
+        port,
+    ));
+}
+
+fn settings(
+    enabled: u32,
+    port_high: u32,
+    suser_exempt: u32,
+    autoport_exempt: u32,
+) -> PortaclSettings {
+    PortaclSettings {
         enabled,
         port_high,
         suser_exempt,
@@ -46,27 +99,12 @@ fn byuid_examples() {
         Addr::V6(2747196901735723023, 33),
         432,
     );
-    byuid(
-        b"::/0,80 grants no IPv4 address",
-        b"::/0,80\n",
-        80,
-        Addr::V4(184483841),
-        432,
-    );
-    byuid(
+    at_80(b"::/0,80 grants no IPv4 address", b"::/0,80\n");
+    at_80(
         b"a set bit beyond the length: the line is ignored",
         b"10.0.0.1/8,80\n",
-        80,
-        Addr::V4(184483841),
-        432,
     );
-    byuid(
-        b"10.0.0.0/8,80 grants 10.255.0.1",
-        b"10.0.0.0/8,80\n",
-        80,
-        Addr::V4(184483841),
-        432,
-    );
+    at_80(b"10.0.0.0/8,80 grants 10.255.0.1", b"10.0.0.0/8,80\n");
     byuid(
         b"another port",
         b"10.0.0.0/8,80\n",
@@ -74,97 +112,31 @@ fn byuid_examples() {
         Addr::V4(184483841),
         432,
     );
-    byuid(
-        b"a last line without a newline counts",
-        b"\n10.0.0.0/8,80",
-        80,
-        Addr::V4(184483841),
-        432,
-    );
+    at_80(b"a last line without a newline counts", b"\n10.0.0.0/8,80");
 }
 
 // The three forms of a line.
 fn byuid_forms() {
-    byuid(
+    at_80(
         b"an address range, at its first address",
         b"10.255.0.1-10.255.0.9,80\n",
-        80,
-        Addr::V4(184483841),
-        432,
     );
-    byuid(
+    at_80(
         b"an address range, at its last address",
         b"10.0.0.0-10.255.0.1,80\n",
-        80,
-        Addr::V4(184483841),
-        432,
     );
-    byuid(
-        b"beyond an address range",
-        b"10.0.0.0-10.255.0.0,80\n",
-        80,
-        Addr::V4(184483841),
-        432,
-    );
-    byuid(
-        b"a range is compared as numbers",
-        b"9.0.0.0-100.0.0.0,80\n",
-        80,
-        Addr::V4(184483841),
-        432,
-    );
-    byuid(
-        b"a port range, at its first port",
-        b"10.255.0.1,80-90\n",
-        80,
-        Addr::V4(184483841),
-        432,
-    );
-    byuid(
-        b"a port range, at its last port",
-        b"10.255.0.1,79-80\n",
-        80,
-        Addr::V4(184483841),
-        432,
-    );
-    byuid(
-        b"beyond a port range",
-        b"10.255.0.1,1-79\n",
-        80,
-        Addr::V4(184483841),
-        432,
-    );
-    byuid(
-        b"a lone address and port",
-        b"10.255.0.1,80\n",
-        80,
-        Addr::V4(184483841),
-        432,
-    );
-    byuid(
-        b"the colon form",
-        b"10.0.0.0/8:80,90\n",
-        80,
-        Addr::V4(184483841),
-        432,
-    );
+    at_80(b"beyond an address range", b"10.0.0.0-10.255.0.0,80\n");
+    at_80(b"a range is compared as numbers", b"9.0.0.0-100.0.0.0,80\n");
+    at_80(b"a port range, at its first port", b"10.255.0.1,80-90\n");
+    at_80(b"a port range, at its last port", b"10.255.0.1,79-80\n");
+    at_80(b"beyond a port range", b"10.255.0.1,1-79\n");
+    at_80(b"a lone address and port", b"10.255.0.1,80\n");
+    at_80(b"the colon form", b"10.0.0.0/8:80,90\n");
 }
 
 fn byuid_forms_2() {
-    byuid(
-        b"the colon form has two ports",
-        b"10.0.0.0/8:80\n",
-        80,
-        Addr::V4(184483841),
-        432,
-    );
-    byuid(
-        b"the colon form needs a length",
-        b"10.255.0.1:80,90\n",
-        80,
-        Addr::V4(184483841),
-        432,
-    );
+    at_80(b"the colon form has two ports", b"10.0.0.0/8:80\n");
+    at_80(b"the colon form needs a length", b"10.255.0.1:80,90\n");
     byuid(
         b"the colon form has no IPv6 address",
         b"::/0:80,90\n",
@@ -193,118 +165,37 @@ fn byuid_forms_2() {
         Addr::V6(2747196901735723023, 33),
         432,
     );
-    byuid(
+    at_80(
         b"an IPv4 tail in an IPv6 address is IPv6",
         b"::ffff:10.255.0.1,80\n",
-        80,
-        Addr::V4(184483841),
-        432,
     );
 }
 
 // Lines that are ignored.
 fn byuid_ignored() {
-    byuid(
+    at_80(
         b"a min over its max, of addresses",
         b"10.255.0.2-10.0.0.0,80\n",
-        80,
-        Addr::V4(184483841),
-        432,
     );
-    byuid(
-        b"a min over its max, of ports",
-        b"10.0.0.0/8,90-80\n",
-        80,
-        Addr::V4(184483841),
-        432,
-    );
-    byuid(
-        b"min and max of different kinds",
-        b"10.0.0.0-ffff::,80\n",
-        80,
-        Addr::V4(184483841),
-        432,
-    );
-    byuid(
-        b"a leading zero in an address",
-        b"010.0.0.0/8,80\n",
-        80,
-        Addr::V4(184483841),
-        432,
-    );
-    byuid(
-        b"a leading zero in a length",
-        b"10.0.0.0/08,80\n",
-        80,
-        Addr::V4(184483841),
-        432,
-    );
-    byuid(
-        b"a leading zero in a port",
-        b"10.0.0.0/8,080\n",
-        80,
-        Addr::V4(184483841),
-        432,
-    );
-    byuid(
-        b"a length over 32",
-        b"10.255.0.1/33,80\n",
-        80,
-        Addr::V4(184483841),
-        432,
-    );
-    byuid(
-        b"a port over 65535",
-        b"10.0.0.0/8,80-65536\n",
-        80,
-        Addr::V4(184483841),
-        432,
-    );
-    byuid(
-        b"a blank",
-        b"10.0.0.0/8, 80\n",
-        80,
-        Addr::V4(184483841),
-        432,
-    );
+    at_80(b"a min over its max, of ports", b"10.0.0.0/8,90-80\n");
+    at_80(b"min and max of different kinds", b"10.0.0.0-ffff::,80\n");
+    at_80(b"a leading zero in an address", b"010.0.0.0/8,80\n");
+    at_80(b"a leading zero in a length", b"10.0.0.0/08,80\n");
+    at_80(b"a leading zero in a port", b"10.0.0.0/8,080\n");
+    at_80(b"a length over 32", b"10.255.0.1/33,80\n");
+    at_80(b"a port over 65535", b"10.0.0.0/8,80-65536\n");
+    at_80(b"a blank", b"10.0.0.0/8, 80\n");
 }
 
 fn byuid_ignored_2() {
-    byuid(
-        b"a carriage return",
-        b"10.0.0.0/8,80\r\n",
-        80,
-        Addr::V4(184483841),
-        432,
-    );
-    byuid(
-        b"a comment is any other line",
-        b"#\n10.0.0.0/8,80\n",
-        80,
-        Addr::V4(184483841),
-        432,
-    );
-    byuid(
-        b"two ports too many",
-        b"10.0.0.0/8,70-80-90\n",
-        80,
-        Addr::V4(184483841),
-        432,
-    );
-    byuid(
+    at_80(b"a carriage return", b"10.0.0.0/8,80\r\n");
+    at_80(b"a comment is any other line", b"#\n10.0.0.0/8,80\n");
+    at_80(b"two ports too many", b"10.0.0.0/8,70-80-90\n");
+    at_80(
         b"the first line that matches grants, after others that do not",
         b"10.0.0.0/8,81\nx\n10.0.0.0/8,80\n",
-        80,
-        Addr::V4(184483841),
-        432,
     );
-    byuid(
-        b"a backslash joins nothing",
-        b"10.0.0.0\\\n/8,80\n",
-        80,
-        Addr::V4(184483841),
-        432,
-    );
+    at_80(b"a backslash joins nothing", b"10.0.0.0\\\n/8,80\n");
 }
 
 // What is ruled, and refusals.
@@ -351,13 +242,7 @@ fn byuid_ruled() {
         Addr::V4(184483841),
         0,
     );
-    byuid(
-        b"an empty text has no line",
-        b"",
-        80,
-        Addr::V4(184483841),
-        432,
-    );
+    at_80(b"an empty text has no line", b"");
     byuid(
         b"13: an unknown address",
         b"0.0.0.0/0,80\n",
@@ -370,14 +255,7 @@ fn byuid_ruled() {
 
 // The form of an entry, and P8.
 fn portacl_entries() {
-    portacl(
-        b"uid:80:tcp:80 grants uid 80",
-        b"uid:80:tcp:80",
-        80,
-        &[],
-        Protocol::Tcp,
-        80,
-    );
+    tcp_80(b"uid:80:tcp:80 grants uid 80", b"uid:80:tcp:80");
     portacl(
         b"uid:80:tcp:80 and udp",
         b"uid:80:tcp:80",
@@ -419,14 +297,7 @@ fn portacl_entries() {
         Protocol::Tcp,
         80,
     );
-    portacl(
-        b"the second entry",
-        b"uid:81:tcp:80,uid:80:tcp:80",
-        80,
-        &[],
-        Protocol::Tcp,
-        80,
-    );
+    tcp_80(b"the second entry", b"uid:81:tcp:80,uid:80:tcp:80");
     under(
         b"the largest id and port",
         b"uid:4294967295:tcp:65535",
@@ -442,105 +313,21 @@ fn portacl_entries_2() {
 
 // Number 12, with the number of the entry, 2 and 13.
 fn portacl_refused() {
-    portacl(
-        b"12: a trailing comma",
-        b"uid:80:tcp:80,",
-        80,
-        &[],
-        Protocol::Tcp,
-        80,
-    );
-    portacl(
-        b"12: upper case",
-        b"UID:80:tcp:80",
-        80,
-        &[],
-        Protocol::Tcp,
-        80,
-    );
-    portacl(
-        b"12: a blank",
-        b"uid:80:tcp:80, uid:81:tcp:80",
-        80,
-        &[],
-        Protocol::Tcp,
-        80,
-    );
-    portacl(
-        b"12: a newline",
-        b"uid:80:tcp:80\n",
-        80,
-        &[],
-        Protocol::Tcp,
-        80,
-    );
-    portacl(
-        b"12: a leading zero",
-        b"uid:080:tcp:80",
-        80,
-        &[],
-        Protocol::Tcp,
-        80,
-    );
-    portacl(
-        b"12: an id over 32 bits",
-        b"uid:4294967296:tcp:80",
-        80,
-        &[],
-        Protocol::Tcp,
-        80,
-    );
-    portacl(
-        b"12: a port over 16 bits",
-        b"uid:80:tcp:65536",
-        80,
-        &[],
-        Protocol::Tcp,
-        80,
-    );
-    portacl(
-        b"12: another protocol",
-        b"uid:80:sctp:80",
-        80,
-        &[],
-        Protocol::Tcp,
-        80,
-    );
-    portacl(
-        b"12: a field too few",
-        b"uid:80:tcp",
-        80,
-        &[],
-        Protocol::Tcp,
-        80,
-    );
+    tcp_80(b"12: a trailing comma", b"uid:80:tcp:80,");
+    tcp_80(b"12: upper case", b"UID:80:tcp:80");
+    tcp_80(b"12: a blank", b"uid:80:tcp:80, uid:81:tcp:80");
+    tcp_80(b"12: a newline", b"uid:80:tcp:80\n");
+    tcp_80(b"12: a leading zero", b"uid:080:tcp:80");
+    tcp_80(b"12: an id over 32 bits", b"uid:4294967296:tcp:80");
+    tcp_80(b"12: a port over 16 bits", b"uid:80:tcp:65536");
+    tcp_80(b"12: another protocol", b"uid:80:sctp:80");
+    tcp_80(b"12: a field too few", b"uid:80:tcp");
 }
 
 fn portacl_refused_2() {
-    portacl(
-        b"12: a field too many",
-        b"uid:80:tcp:80:1",
-        80,
-        &[],
-        Protocol::Tcp,
-        80,
-    );
-    portacl(
-        b"12: a name for an id",
-        b"uid:www:tcp:80",
-        80,
-        &[],
-        Protocol::Tcp,
-        80,
-    );
-    portacl(
-        b"12: the first bad entry decides",
-        b"uid:80:tcp:80,x,y",
-        80,
-        &[],
-        Protocol::Tcp,
-        80,
-    );
+    tcp_80(b"12: a field too many", b"uid:80:tcp:80:1");
+    tcp_80(b"12: a name for an id", b"uid:www:tcp:80");
+    tcp_80(b"12: the first bad entry decides", b"uid:80:tcp:80,x,y");
     under(
         b"12 comes before not ruled",
         b"x",
@@ -549,15 +336,15 @@ fn portacl_refused_2() {
         80,
     );
     portacl(b"12 comes before 13", b"x", 80, &[1; 17], Protocol::Tcp, 80);
-    report::sentence(b"13: 17 groups");
-    report::portacl(portacl::decide(
+    bind(
+        b"13: 17 groups",
         b"",
         settings(0, 1023, 1, 1),
         80,
         &[1; 17],
         Protocol::Tcp,
         80,
-    ));
+    );
     portacl(
         b"16 groups, the last one granted",
         b"gid:9:tcp:80",
@@ -646,23 +433,9 @@ fn limits() {
         432,
     );
     let long = [44u8; 1024];
-    portacl(
-        b"12: a portacl text of 1,024 commas",
-        &long,
-        80,
-        &[],
-        Protocol::Tcp,
-        80,
-    );
+    tcp_80(b"12: a portacl text of 1,024 commas", &long);
     let longer = [44u8; 1025];
-    portacl(
-        b"2: a portacl text of 1,025 bytes, before 12",
-        &longer,
-        80,
-        &[],
-        Protocol::Tcp,
-        80,
-    );
+    tcp_80(b"2: a portacl text of 1,025 bytes, before 12", &longer);
 }
 
 fn main() {

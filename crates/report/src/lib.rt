@@ -1,4 +1,4 @@
-// How the programs print what the gate answers, one line each.
+// What the programs share that call the gate's exports: how a case writes a request, and how an answer is printed, one line each.
 use libc::STDOUT_FILENO;
 
 pub fn text(s: &[u8]) {
@@ -29,82 +29,169 @@ fn front(s: &[u8], n: usize) -> &[u8] {
     &s[..n]
 }
 
-pub fn refusal(r: section::Refusal) {
-    let fault = r.fault;
+// The part of n bytes at a place; empty beyond the end.
+pub fn part(s: &[u8], place: u64, n: u64) -> &[u8] {
+    if (s.len() as u64) < place {
+        return &s[..0];
+    }
+    front(&s[place as usize..], n as usize)
+}
+
+// ## How a case writes a request
+
+pub enum Addr {
+    Unknown,
+    V4(u32),
+    V6(u64, u64),
+}
+
+pub enum Name {
+    Unknown,
+    Paranoid,
+    Known,
+}
+
+pub enum User {
+    NotFetched,
+    Unknown,
+    Known,
+}
+
+pub enum Protocol {
+    Tcp,
+    Udp,
+}
+
+// An address as the gate takes it.
+pub struct Address {
+    pub kind: u32,
+    pub high: u64,
+    pub low: u64,
+}
+
+pub fn numbers(a: Addr) -> Address {
+    match a {
+        Addr::Unknown => Address {
+            kind: 0,
+            high: 0,
+            low: 0,
+        },
+        Addr::V4(n) => Address {
+            kind: 4,
+            high: 0,
+            low: n as u64,
+        },
+        Addr::V6(high, low) => Address { kind: 6, high, low },
+    }
+}
+
+pub fn name_state(n: Name) -> u32 {
+    match n {
+        Name::Unknown => 0,
+        Name::Paranoid => 1,
+        Name::Known => 2,
+    }
+}
+
+pub fn user_state(u: User) -> u32 {
+    match u {
+        User::NotFetched => 0,
+        User::Unknown => 1,
+        User::Known => 2,
+    }
+}
+
+pub fn protocol_number(p: Protocol) -> u32 {
+    match p {
+        Protocol::Tcp => 6,
+        Protocol::Udp => 17,
+    }
+}
+
+// ## How an answer is printed
+
+pub fn refusal(n: u32, section: u32, line: u64) {
     text(b"refused ");
-    number(section::fault_number(fault) as u64);
+    number(n as u64);
     text(b" section ");
-    number(r.section as u64);
+    number(section as u64);
     text(b" line ");
-    number(r.line as u64);
+    number(line);
     text(b"\n");
 }
 
-pub fn byuid(r: byuid::Ruling) {
-    match r {
-        byuid::Ruling::Refused(refused) => refusal(refused),
-        byuid::Ruling::Answered(decision) => byuid_word(decision),
+fn word(w: u32) {
+    if w == 1 {
+        text(b"granted");
+    } else if w == 2 {
+        text(b"denied");
+    } else if w == 3 {
+        text(b"ask");
+    } else if w == 4 {
+        text(b"no line");
+    } else if w == 5 {
+        text(b"not ruled");
+    } else if w == 6 {
+        text(b"exempt");
     }
 }
 
-fn byuid_word(d: byuid::Decision) {
-    match d {
-        byuid::Decision::NotRuled => text(b"not ruled\n"),
-        byuid::Decision::Granted => text(b"granted\n"),
-        byuid::Decision::NoLine => text(b"no line\n"),
+// A port decision.
+pub fn decision(a: codes::GateAnswer) {
+    if a.number != 0 {
+        refusal(a.number, a.section, a.line);
+        return;
     }
+    word(a.word);
+    text(b"\n");
 }
 
-pub fn portacl(r: portacl::Ruling) {
-    match r {
-        portacl::Ruling::Refused(refused) => refusal(refused),
-        portacl::Ruling::Answered(decision) => portacl_word(decision),
+// A verdict, with its file and line, and the raw command out of the deciding text.
+pub fn verdict<'a>(a: codes::GateAnswer, allow: &'a [u8], deny: &'a [u8]) {
+    if a.file == 2 {
+        sheet_verdict(a, deny);
+        return;
     }
+    sheet_verdict(a, allow);
 }
 
-fn portacl_word(d: portacl::Decision) {
-    match d {
-        portacl::Decision::NotRuled => text(b"not ruled\n"),
-        portacl::Decision::Exempt => text(b"exempt\n"),
-        portacl::Decision::Granted => text(b"granted\n"),
-        portacl::Decision::Denied => text(b"denied\n"),
+// The same with the bytes in which the command has its place.
+pub fn sheet_verdict(a: codes::GateAnswer, whole: &[u8]) {
+    if a.number != 0 {
+        refusal(a.number, a.section, a.line);
+        return;
     }
+    word(a.word);
+    rule(a.file, a.line);
+    command(part(whole, a.place, a.len));
+    text(b"\n");
 }
 
-// A verdict, with its file and line, and the raw command out of the deciding file.
-pub fn verdict<'a>(r: rules::Ruling, allow: &'a [u8], deny: &'a [u8]) {
-    match r {
-        rules::Ruling::Refused(refused) => refusal(refused),
-        rules::Ruling::Answered(answer) => answered(answer, allow, deny),
+fn rule(file: u32, line: u64) {
+    if file == 0 {
+        text(b", no file");
+        return;
     }
+    if file == 1 {
+        text(b", allow line ");
+    } else {
+        text(b", deny line ");
+    }
+    number(line);
 }
 
-fn answered<'a>(a: rules::Answer, allow: &'a [u8], deny: &'a [u8]) {
-    let verdict = a.verdict;
-    verdict_word(verdict);
-    let file = a.file;
-    match file {
-        rules::File::Neither => text(b", no file"),
-        rules::File::Allow => place(b", allow line ", a.line),
-        rules::File::Deny => place(b", deny line ", a.line),
-    }
-    let command = rules::command_part(allow, deny, a);
-    if 0 < command.len() {
+fn command(s: &[u8]) {
+    if 0 < s.len() {
         text(b", command:");
-        text(command);
-    }
-    text(b"\n");
-}
-
-fn verdict_word(v: rules::Verdict) {
-    match v {
-        rules::Verdict::Granted => text(b"granted"),
-        rules::Verdict::Denied => text(b"denied"),
-        rules::Verdict::Ask => text(b"ask"),
+        text(s);
     }
 }
 
-fn place(file: &[u8], line: usize) {
-    text(file);
-    number(line as u64);
+// What was written at the front of out.
+pub fn written(w: codes::GateWritten, out: &[u8]) {
+    if w.number != 0 {
+        refusal(w.number, w.section, w.line);
+        return;
+    }
+    line(out, w.count as usize);
 }

@@ -1,0 +1,47 @@
+// checker FILE: checks a station sheet. Writes one line: `sheet ok`, or the refusal, as `refused 1 section 4 line 0`. A file that
+// can't be read gets a message on standard error instead.
+use libc::STDERR_FILENO;
+
+fn check(sheet: &[u8]) {
+    let c = gate::gate_check(sheet);
+    if c.number != 0 {
+        report::refusal(c.number, c.section, c.line);
+        return;
+    }
+    report::text(b"sheet ok\n");
+}
+
+// Whether reading stopped at the end of the file, and not at an error.
+fn at_end(fd: i32) -> bool {
+    let mut next = [0u8; 1];
+    libc::read(fd, &mut next) == 0
+}
+
+// A sheet has at most 42,000 bytes: a longer file is refused by its first 42,001, as it would be whole (law unpack-take of sheet).
+fn check_file(fd: i32, name: &[u8]) {
+    let mut sheet = [0u8; 42001];
+    let n = io::read_full(fd, &mut sheet);
+    if n < 42001 {
+        if !at_end(fd) {
+            os::fail(name);
+            return;
+        }
+    }
+    check(&sheet[..n]);
+}
+
+fn main() {
+    let mut name = io::buffer();
+    let length = os::arg(1, &mut name);
+    if os::errno() != 0 {
+        io::write_all(STDERR_FILENO, b"usage: checker FILE\n");
+        return;
+    }
+    let fd = os::open_read(&name[..length]);
+    if fd < 0 {
+        os::fail(&name[..length]);
+        return;
+    }
+    check_file(fd, &name[..length]);
+    libc::close(fd);
+}
