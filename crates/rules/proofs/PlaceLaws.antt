@@ -4,12 +4,12 @@
 --   search-within == the same of the search over both texts
 --   pass-search  == the pass over both texts finds what the search answers
 -- Assumes nothing.
-use Prim.Native.Nat.{ℕ, _+_, _-_, _≤_, _<_}
+use Prim.Native.Nat.{ℕ, _+_, _-_, _≤_}
 use native.Mathlib.Omega.{arith}
 use mathlib.Core.Bool.{Bool, true, false, not, _&&_, _||_}
 use mathlib.Core.List.{List, [], _∷_, _++_}
 use mathlib.Core.Option.{Option, none, some, Option·getD}
-use mathlib.Core.Path.{_≡_, refl, sym, ap, subst, _∙_}
+use mathlib.Core.Path.{_≡_, refl, subst, _∙_}
 use lib.ListN.{length, length-append}
 use Rattle.text.specs.Basics.{if_then_else_, _>>=_, _orElse_, isEmpty, first}
 use Rattle.text.specs.Text.{bytes, among, lastAmong, consFirst, consHead, split}

@@ -5,13 +5,13 @@
 use Prim.Native.Nat.{ℕ, _+_, _≤_, _<_}
 use native.Mathlib.Omega.{arith}
 use mathlib.Core.Bool.{Bool, true, false, not}
-use mathlib.Core.List.{List, []}
+use mathlib.Core.List.{List}
 use mathlib.Core.Option.{Option, none, some, Option·getD}
 use mathlib.Core.Path.{_≡_, refl, sym, ap, subst, _∙_}
 use borrow.Author.Tests.{le-ltb}
 use lib.ListN.{length, take, drop, length-drop}
 use lib.Seq.{length-take-le, drop-drop}
-use Rattle.text.specs.Basics.{_orElse_, given, first}
+use Rattle.text.specs.Basics.{_orElse_, given}
 use Rattle.section.specs.declared.Fault.the-variants as F
 use Rattle.section.specs.declared.Part.{Part}
 use Rattle.section.specs.declared.Refusal.{Refusal}
@@ -20,7 +20,7 @@ use Rattle.section.specs.Section as S
 use Rattle.section.specs.Section.{Section, part, overLimit}
 use Rattle.address.specs.declared.Addr.{Addr}
 use Rattle.elements.specs.Request.{Request, wellFormed}
-use Rattle.rules.specs.declared.Verdict.the-variants.{Granted, Denied}
+use Rattle.rules.specs.declared.Verdict.the-variants.{Granted}
 use Rattle.rules.specs.declared.File.{File}
 use Rattle.rules.specs.declared.File.the-variants.{Neither, Allow, Deny}
 use Rattle.rules.specs.declared.Answer.{Answer}

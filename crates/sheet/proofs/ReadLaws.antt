@@ -3,7 +3,7 @@
 use Prim.Native.Nat.{ℕ, _+_, _-_, _*_, _≤_, _<_}
 use native.Mathlib.Omega.{arith}
 use mathlib.Core.List.{List, [], _∷_}
-use mathlib.Core.Path.{_≡_, refl, sym, ap, _∙_}
+use mathlib.Core.Path.{_≡_, sym, ap, _∙_}
 use lib.ListN.{length, take, drop, getD, length-drop, drop-of-length-le}
 use borrow.Author.Tests.{le-ltb, lt-ltb}
 use Rattle.text.specs.Number.{fromDigits}
@@ -22,7 +22,7 @@ use Rattle.sheet.specs.declared.frame.Framed.{Framed}
 use Rattle.sheet.specs.declared.frame.Framed.the-variants as Fr
 use Rattle.sheet.specs.Sheet.{sectionAt, partEnd, frame}
 use Rattle.sheet.specs.Code.{sectionOf, sectionReadOf, framedOf, fromDeny, fromByuid, fromPortacl, toEnd}
-use Rattle.sheet.proofs.FrameLaws.{SectionAt, sectionAt-answered}
+use Rattle.sheet.proofs.FrameLaws.{sectionAt-answered}
 
 -- ## One section
 
@@ -48,8 +48,8 @@ module _ (sheet : List ℕ) (c : Cursor) (rest : List ℕ) (is-rest : rest ≡ d
   count-absent h x is-x = rw (← is-rest, lt-ltb (length rest) 4 h) is-x
 
   module _ (four : 4 ≤ length rest) where
-    pub count-place : (m : ℕ) → length sheet < m → c .at + 4 < m
-    count-place m h = omega (arith, length-drop (c .at) sheet, ap length is-rest)
+    pub count-place : (m k : ℕ) → k ≤ 4 → length sheet < m → c .at + k < m
+    count-place m k less h = omega (arith, length-drop (c .at) sheet, ap length is-rest)
 
     module _ (n : ℕ) (is-n : n ≡ fromDigits 256 0 (take 4 rest)) where
       pub count-over : c .limit < n → (x : SectionRead) → x ≡ sectionReadOf (refused (refusal F.OverLimit (c .order) 0))
