@@ -92,13 +92,13 @@ fn put_expansion<'a>(
     ensures written { λ _. ⌜ now (out .exit) ≡ putAt (now (out .entry)) 0 (expansionBy (texts (now («client_address» .entry)) (now («client_name» .entry)) (now («client_host» .entry)) (now («server_address» .entry)) (now («server_name» .entry)) (now («server_host» .entry)) «user_known» (now (user .entry)) «server_known» (now (daemon .entry)) (now (process .entry)) (now (percent .entry))) (now (t .entry))) ⌝ }
 {
     let mut n = 0;
-    let mut i = 0;
-    while i < t.len() {
-        if t[i] == 37 {
+    let mut j = 0;
+    while j < t.len() {
+        if t[j] == 37 {
             n = put_inserted(
                 out,
                 n,
-                byte_at(t, i + 1),
+                byte_at(t, j + 1),
                 client_address,
                 client_name,
                 client_host,
@@ -112,11 +112,11 @@ fn put_expansion<'a>(
                 process,
                 percent,
             );
-            i += 2;
+            j += 2;
         } else {
-            out[n] = t[i];
+            out[n] = t[j];
             n += 1;
-            i += 1;
+            j += 1;
         }
     }
     n
