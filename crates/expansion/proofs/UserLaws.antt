@@ -14,6 +14,11 @@ use Rattle.elements.specs.declared.User.{User}
 use Rattle.elements.specs.Request.{Request, wellFormed, withUser}
 use Rattle.expansion.specs.Expand.{inserted, pieceText, expansion, usesUser, expand}
 
+-- "So `%%u` uses neither."
+pub percent-percent-u : usesUser (bytes "%%u") ≡ false
+unfolding usesUser trimmed join skipBlanks pieces any
+percent-percent-u = refl
+
 module _ (r : Request) (u u′ : User) (t t′ : List ℕ) (n : ℕ) where
   inserted-same : (y : ℕ) → among "uc" y ≡ false → inserted (withUser r u t) n y ≡ inserted (withUser r u′ t′) n y
   unfolding inserted first any
@@ -39,8 +44,3 @@ module _ (r : Request) (u u′ : User) (t t′ : List ℕ) (n : ℕ) where
       → expand c (withUser r u t) n room ≡ expand c (withUser r u′ t′) n room
   unfolding expand
   expand-same c room e h = rw (e, expansion-same c h)
-
--- "So `%%u` uses neither."
-pub percent-percent-u : usesUser (bytes "%%u") ≡ false
-unfolding usesUser trimmed join skipBlanks pieces any
-percent-percent-u = refl

@@ -39,8 +39,12 @@ fn expansion_length<'a>(
     process: &'a [u8],
     percent: &'a [u8],
 ) -> usize
-    requires { ⌜ (length (now t) ≤ 2047) × Short (texts (now «client_address») (now «client_name») (now «client_host») (now «server_address») (now «server_name») (now «server_host») «user_known» (now user) «server_known» (now daemon) (now process) (now percent)) ⌝ }
-    ensures { λ r. ⌜ r ≡ length (expansionBy (texts (now («client_address» .entry)) (now («client_name» .entry)) (now («client_host» .entry)) (now («server_address» .entry)) (now («server_name» .entry)) (now («server_host» .entry)) «user_known» (now (user .entry)) «server_known» (now (daemon .entry)) (now (process .entry)) (now (percent .entry))) (now (t .entry))) ⌝ }
+    requires { ⌜ (length (now t) ≤ 2047) × Short
+        (texts (now «client_address») (now «client_name») (now «client_host») (now «server_address») (now «server_name») (now «server_host») «user_known» (now user) «server_known» (now daemon) (now process) (now percent)) ⌝ }
+    ensures { λ r.
+        ⌜ r ≡ length (expansionBy
+        (texts (now («client_address» .entry)) (now («client_name» .entry)) (now («client_host» .entry)) (now («server_address» .entry)) (now («server_name» .entry)) (now («server_host» .entry)) «user_known» (now (user .entry)) «server_known» (now (daemon .entry)) (now (process .entry)) (now (percent .entry)))
+        (now (t .entry))) ⌝ }
 {
     let mut n = 0;
     let mut i = 0;
@@ -87,9 +91,17 @@ fn put_expansion<'a>(
     process: &'a [u8],
     percent: &'a [u8],
 ) -> usize
-    requires { ⌜ length (expansionBy (texts (now «client_address») (now «client_name») (now «client_host») (now «server_address») (now «server_name») (now «server_host») «user_known» (now user) «server_known» (now daemon) (now process) (now percent)) (now t)) ≤ length (now out) ⌝ }
-    ensures count { λ r. ⌜ r ≡ length (expansionBy (texts (now («client_address» .entry)) (now («client_name» .entry)) (now («client_host» .entry)) (now («server_address» .entry)) (now («server_name» .entry)) (now («server_host» .entry)) «user_known» (now (user .entry)) «server_known» (now (daemon .entry)) (now (process .entry)) (now (percent .entry))) (now (t .entry))) ⌝ }
-    ensures written { λ _. ⌜ now (out .exit) ≡ putAt (now (out .entry)) 0 (expansionBy (texts (now («client_address» .entry)) (now («client_name» .entry)) (now («client_host» .entry)) (now («server_address» .entry)) (now («server_name» .entry)) (now («server_host» .entry)) «user_known» (now (user .entry)) «server_known» (now (daemon .entry)) (now (process .entry)) (now (percent .entry))) (now (t .entry))) ⌝ }
+    requires { ⌜ length (expansionBy
+        (texts (now «client_address») (now «client_name») (now «client_host») (now «server_address») (now «server_name») (now «server_host») «user_known» (now user) «server_known» (now daemon) (now process) (now percent))
+        (now t)) ≤ length (now out) ⌝ }
+    ensures count { λ r.
+        ⌜ r ≡ length (expansionBy
+        (texts (now («client_address» .entry)) (now («client_name» .entry)) (now («client_host» .entry)) (now («server_address» .entry)) (now («server_name» .entry)) (now («server_host» .entry)) «user_known» (now (user .entry)) «server_known» (now (daemon .entry)) (now (process .entry)) (now (percent .entry)))
+        (now (t .entry))) ⌝ }
+    ensures written { λ _.
+        ⌜ now (out .exit) ≡ putAt (now (out .entry)) 0 (expansionBy
+        (texts (now («client_address» .entry)) (now («client_name» .entry)) (now («client_host» .entry)) (now («server_address» .entry)) (now («server_name» .entry)) (now («server_host» .entry)) «user_known» (now (user .entry)) «server_known» (now (daemon .entry)) (now (process .entry)) (now (percent .entry)))
+        (now (t .entry))) ⌝ }
 {
     let mut n = 0;
     let mut j = 0;
@@ -139,9 +151,16 @@ pub fn write_expansion<'a>(
     process: &'a [u8],
     percent: &'a [u8],
 ) -> Written
-    requires { ⌜ (length (now t) ≤ 2047) × Short (texts (now «client_address») (now «client_name») (now «client_host») (now «server_address») (now «server_name») (now «server_host») «user_known» (now user) «server_known» (now daemon) (now process) (now percent)) ⌝ }
-    ensures answer { λ r. ⌜ r ≡ writtenOf (withinRoom (length (now (out .entry))) (expansionBy (texts (now («client_address» .entry)) (now («client_name» .entry)) (now («client_host» .entry)) (now («server_address» .entry)) (now («server_name» .entry)) (now («server_host» .entry)) «user_known» (now (user .entry)) «server_known» (now (daemon .entry)) (now (process .entry)) (now (percent .entry))) (now (t .entry)))) ⌝ }
-    ensures holds { λ _. ⌜ now (out .exit) ≡ lentAfter (now (out .entry)) (withinRoom (length (now (out .entry))) (expansionBy (texts (now («client_address» .entry)) (now («client_name» .entry)) (now («client_host» .entry)) (now («server_address» .entry)) (now («server_name» .entry)) (now («server_host» .entry)) «user_known» (now (user .entry)) «server_known» (now (daemon .entry)) (now (process .entry)) (now (percent .entry))) (now (t .entry)))) ⌝ }
+    requires { ⌜ (length (now t) ≤ 2047) × Short
+        (texts (now «client_address») (now «client_name») (now «client_host») (now «server_address») (now «server_name») (now «server_host») «user_known» (now user) «server_known» (now daemon) (now process) (now percent)) ⌝ }
+    ensures answer { λ r.
+        ⌜ r ≡ writtenOf (withinRoom (length (now (out .entry))) (expansionBy
+        (texts (now («client_address» .entry)) (now («client_name» .entry)) (now («client_host» .entry)) (now («server_address» .entry)) (now («server_name» .entry)) (now («server_host» .entry)) «user_known» (now (user .entry)) «server_known» (now (daemon .entry)) (now (process .entry)) (now (percent .entry)))
+        (now (t .entry)))) ⌝ }
+    ensures holds { λ _.
+        ⌜ now (out .exit) ≡ lentAfter (now (out .entry)) (withinRoom (length (now (out .entry))) (expansionBy
+        (texts (now («client_address» .entry)) (now («client_name» .entry)) (now («client_host» .entry)) (now («server_address» .entry)) (now («server_name» .entry)) (now («server_host» .entry)) «user_known» (now (user .entry)) «server_known» (now (daemon .entry)) (now (process .entry)) (now (percent .entry)))
+        (now (t .entry)))) ⌝ }
 {
     let n = expansion_length(
         t,
