@@ -6,12 +6,18 @@ use mathlib.Core.List.{List, [], _∷_, flatMap}
 use mathlib.Core.Path.{_≡_, refl, ap}
 use lib.Dec.{eqb}
 use Rattle.text.specs.Basics.{first, any}
-use Rattle.text.specs.Text.{among}
+use Rattle.text.specs.Text.{bytes, among}
 use Rattle.text.proofs.BasicLaws.{or-false}
-use Rattle.lines.specs.Command.{Piece, literal, directive, pieces, isDirective, trimmed}
+use Rattle.lines.specs.Line.{join}
+use Rattle.lines.specs.Command.{Piece, literal, directive, pieces, isDirective, skipBlanks, trimmed}
 use Rattle.elements.specs.declared.User.{User}
 use Rattle.elements.specs.Request.{Request, wellFormed, withUser}
 use Rattle.expansion.specs.Expand.{inserted, pieceText, expansion, usesUser, expand}
+
+-- "So `%%u` uses neither."
+pub percent-percent-u : usesUser (bytes "%%u") ≡ false
+unfolding usesUser trimmed join skipBlanks pieces any
+percent-percent-u = refl
 
 module _ (r : Request) (u u′ : User) (t t′ : List ℕ) (n : ℕ) where
   inserted-same : (y : ℕ) → among "uc" y ≡ false → inserted (withUser r u t) n y ≡ inserted (withUser r u′ t′) n y

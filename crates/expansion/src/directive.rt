@@ -195,8 +195,12 @@ pub fn inserted_length<'a>(
     process: &'a [u8],
     percent: &'a [u8],
 ) -> usize
-    requires { ⌜ Short (texts (now «client_address») (now «client_name») (now «client_host») (now «server_address») (now «server_name») (now «server_host») «user_known» (now user) «server_known» (now daemon) (now process) (now percent)) ⌝ }
-    ensures length { λ r. ⌜ r ≡ length (map safeByte (insertedBy (texts (now («client_address» .entry)) (now («client_name» .entry)) (now («client_host» .entry)) (now («server_address» .entry)) (now («server_name» .entry)) (now («server_host» .entry)) «user_known» (now (user .entry)) «server_known» (now (daemon .entry)) (now (process .entry)) (now (percent .entry))) y)) ⌝ }
+    requires { ⌜ Short
+        (texts (now «client_address») (now «client_name») (now «client_host») (now «server_address») (now «server_name») (now «server_host») «user_known» (now user) «server_known» (now daemon) (now process) (now percent)) ⌝ }
+    ensures length { λ r.
+        ⌜ r ≡ length (map safeByte (insertedBy
+        (texts (now («client_address» .entry)) (now («client_name» .entry)) (now («client_host» .entry)) (now («server_address» .entry)) (now («server_name» .entry)) (now («server_host» .entry)) «user_known» (now (user .entry)) «server_known» (now (daemon .entry)) (now (process .entry)) (now (percent .entry)))
+        y)) ⌝ }
     ensures within { λ r. ⌜ r ≤ 320 ⌝ }
 {
     let text = directive_text(
@@ -239,9 +243,17 @@ pub fn put_inserted<'a>(
     process: &'a [u8],
     percent: &'a [u8],
 ) -> usize
-    requires { ⌜ at + length (map safeByte (insertedBy (texts (now «client_address») (now «client_name») (now «client_host») (now «server_address») (now «server_name») (now «server_host») «user_known» (now user) «server_known» (now daemon) (now process) (now percent)) y)) ≤ length (now out) ⌝ }
-    ensures next { λ r. ⌜ r ≡ at + length (map safeByte (insertedBy (texts (now («client_address» .entry)) (now («client_name» .entry)) (now («client_host» .entry)) (now («server_address» .entry)) (now («server_name» .entry)) (now («server_host» .entry)) «user_known» (now (user .entry)) «server_known» (now (daemon .entry)) (now (process .entry)) (now (percent .entry))) y)) ⌝ }
-    ensures written { λ _. ⌜ now (out .exit) ≡ putAt (now (out .entry)) at (map safeByte (insertedBy (texts (now («client_address» .entry)) (now («client_name» .entry)) (now («client_host» .entry)) (now («server_address» .entry)) (now («server_name» .entry)) (now («server_host» .entry)) «user_known» (now (user .entry)) «server_known» (now (daemon .entry)) (now (process .entry)) (now (percent .entry))) y)) ⌝ }
+    requires { ⌜ at + length (map safeByte (insertedBy
+        (texts (now «client_address») (now «client_name») (now «client_host») (now «server_address») (now «server_name») (now «server_host») «user_known» (now user) «server_known» (now daemon) (now process) (now percent))
+        y)) ≤ length (now out) ⌝ }
+    ensures next { λ r.
+        ⌜ r ≡ at + length (map safeByte (insertedBy
+        (texts (now («client_address» .entry)) (now («client_name» .entry)) (now («client_host» .entry)) (now («server_address» .entry)) (now («server_name» .entry)) (now («server_host» .entry)) «user_known» (now (user .entry)) «server_known» (now (daemon .entry)) (now (process .entry)) (now (percent .entry)))
+        y)) ⌝ }
+    ensures written { λ _.
+        ⌜ now (out .exit) ≡ putAt (now (out .entry)) at (map safeByte (insertedBy
+        (texts (now («client_address» .entry)) (now («client_name» .entry)) (now («client_host» .entry)) (now («server_address» .entry)) (now («server_name» .entry)) (now («server_host» .entry)) «user_known» (now (user .entry)) «server_known» (now (daemon .entry)) (now (process .entry)) (now (percent .entry)))
+        y)) ⌝ }
 {
     let text = directive_text(
         y,

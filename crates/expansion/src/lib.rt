@@ -73,9 +73,16 @@ fn expand_texts<'a>(
     user_name: &'a [u8],
     process: &'a [u8],
 ) -> Written
-    requires { ⌜ (length (now t) ≤ 2047) × Short (textsWith (requestOf (now daemon) (endpoint client (now «client_name»)) (endpoint server (now «server_name»)) user (now «user_name»)) (now «client_address») (now «server_address») (now process)) ⌝ }
-    ensures answer { λ r. ⌜ r ≡ writtenOf (withinRoom (length (now (out .entry))) (expansionBy (textsWith (requestOf (now (daemon .entry)) (endpoint client (now («client_name» .entry))) (endpoint server (now («server_name» .entry))) user (now («user_name» .entry))) (now («client_address» .entry)) (now («server_address» .entry)) (now (process .entry))) (now (t .entry)))) ⌝ }
-    ensures holds { λ _. ⌜ now (out .exit) ≡ lentAfter (now (out .entry)) (withinRoom (length (now (out .entry))) (expansionBy (textsWith (requestOf (now (daemon .entry)) (endpoint client (now («client_name» .entry))) (endpoint server (now («server_name» .entry))) user (now («user_name» .entry))) (now («client_address» .entry)) (now («server_address» .entry)) (now (process .entry))) (now (t .entry)))) ⌝ }
+    requires { ⌜ (length (now t) ≤ 2047) × Short
+        (textsWith (requestOf (now daemon) (endpoint client (now «client_name»)) (endpoint server (now «server_name»)) user (now «user_name»)) (now «client_address») (now «server_address») (now process)) ⌝ }
+    ensures answer { λ r.
+        ⌜ r ≡ writtenOf (withinRoom (length (now (out .entry))) (expansionBy
+        (textsWith (requestOf (now (daemon .entry)) (endpoint client (now («client_name» .entry))) (endpoint server (now («server_name» .entry))) user (now («user_name» .entry))) (now («client_address» .entry)) (now («server_address» .entry)) (now (process .entry)))
+        (now (t .entry)))) ⌝ }
+    ensures holds { λ _.
+        ⌜ now (out .exit) ≡ lentAfter (now (out .entry)) (withinRoom (length (now (out .entry))) (expansionBy
+        (textsWith (requestOf (now (daemon .entry)) (endpoint client (now («client_name» .entry))) (endpoint server (now («server_name» .entry))) user (now («user_name» .entry))) (now («client_address» .entry)) (now («server_address» .entry)) (now (process .entry)))
+        (now (t .entry)))) ⌝ }
 {
     let client_text = name_text(client, client_name, b"unknown", b"paranoid");
     let client_host = host_text(client, client_name, client_address);
@@ -113,9 +120,17 @@ fn expand_request<'a>(
     user_name: &'a [u8],
     process: u32,
 ) -> Written
-    requires { ⌜ (length (now t) ≤ 2047) × (wellFormed (requestOf (now daemon) (endpoint client (now «client_name»)) (endpoint server (now «server_name»)) user (now «user_name»)) ≡ true) ⌝ }
-    ensures answer { λ r. ⌜ r ≡ writtenOf (withinRoom (length (now (out .entry))) (expansionBy (textsOf (requestOf (now (daemon .entry)) (endpoint client (now («client_name» .entry))) (endpoint server (now («server_name» .entry))) user (now («user_name» .entry))) process) (now (t .entry)))) ⌝ }
-    ensures holds { λ _. ⌜ now (out .exit) ≡ lentAfter (now (out .entry)) (withinRoom (length (now (out .entry))) (expansionBy (textsOf (requestOf (now (daemon .entry)) (endpoint client (now («client_name» .entry))) (endpoint server (now («server_name» .entry))) user (now («user_name» .entry))) process) (now (t .entry)))) ⌝ }
+    requires { ⌜ (length (now t) ≤ 2047) × (wellFormed
+        (requestOf (now daemon) (endpoint client (now «client_name»)) (endpoint server (now «server_name»)) user (now «user_name»))
+        ≡ true) ⌝ }
+    ensures answer { λ r.
+        ⌜ r ≡ writtenOf (withinRoom (length (now (out .entry))) (expansionBy
+        (textsOf (requestOf (now (daemon .entry)) (endpoint client (now («client_name» .entry))) (endpoint server (now («server_name» .entry))) user (now («user_name» .entry))) process)
+        (now (t .entry)))) ⌝ }
+    ensures holds { λ _.
+        ⌜ now (out .exit) ≡ lentAfter (now (out .entry)) (withinRoom (length (now (out .entry))) (expansionBy
+        (textsOf (requestOf (now (daemon .entry)) (endpoint client (now («client_name» .entry))) (endpoint server (now («server_name» .entry))) user (now («user_name» .entry))) process)
+        (now (t .entry)))) ⌝ }
 {
     let client_addr = client.addr;
     let mut client_buffer = [0u8; 39];
@@ -155,8 +170,14 @@ fn expand_trimmed<'a>(
     process: u32,
 ) -> Written
     requires { ⌜ length (now t) ≤ 2047 ⌝ }
-    ensures answer { λ r. ⌜ r ≡ writtenOf (expandTrimmed (now (t .entry)) (requestOf (now (daemon .entry)) (endpoint client (now («client_name» .entry))) (endpoint server (now («server_name» .entry))) user (now («user_name» .entry))) process (length (now (out .entry)))) ⌝ }
-    ensures holds { λ _. ⌜ now (out .exit) ≡ lentAfter (now (out .entry)) (expandTrimmed (now (t .entry)) (requestOf (now (daemon .entry)) (endpoint client (now («client_name» .entry))) (endpoint server (now («server_name» .entry))) user (now («user_name» .entry))) process (length (now (out .entry)))) ⌝ }
+    ensures answer { λ r.
+        ⌜ r ≡ writtenOf (expandTrimmed (now (t .entry))
+        (requestOf (now (daemon .entry)) (endpoint client (now («client_name» .entry))) (endpoint server (now («server_name» .entry))) user (now («user_name» .entry)))
+        process (length (now (out .entry)))) ⌝ }
+    ensures holds { λ _.
+        ⌜ now (out .exit) ≡ lentAfter (now (out .entry)) (expandTrimmed (now (t .entry))
+        (requestOf (now (daemon .entry)) (endpoint client (now («client_name» .entry))) (endpoint server (now («server_name» .entry))) user (now («user_name» .entry)))
+        process (length (now (out .entry)))) ⌝ }
 {
     if has_bad_percent(t) {
         return Written::Refused(section::placeless(Fault::BadPercent));
@@ -200,8 +221,14 @@ fn expand_line<'a>(
     process: u32,
 ) -> Written
     requires { ⌜ length (join (now command)) ≤ 2047 ⌝ }
-    ensures answer { λ r. ⌜ r ≡ writtenOf (expandTrimmed (trimmed (now (command .entry))) (requestOf (now (daemon .entry)) (endpoint client (now («client_name» .entry))) (endpoint server (now («server_name» .entry))) user (now («user_name» .entry))) process (length (now (out .entry)))) ⌝ }
-    ensures holds { λ _. ⌜ now (out .exit) ≡ lentAfter (now (out .entry)) (expandTrimmed (trimmed (now (command .entry))) (requestOf (now (daemon .entry)) (endpoint client (now («client_name» .entry))) (endpoint server (now («server_name» .entry))) user (now («user_name» .entry))) process (length (now (out .entry)))) ⌝ }
+    ensures answer { λ r.
+        ⌜ r ≡ writtenOf (expandTrimmed (trimmed (now (command .entry)))
+        (requestOf (now (daemon .entry)) (endpoint client (now («client_name» .entry))) (endpoint server (now («server_name» .entry))) user (now («user_name» .entry)))
+        process (length (now (out .entry)))) ⌝ }
+    ensures holds { λ _.
+        ⌜ now (out .exit) ≡ lentAfter (now (out .entry)) (expandTrimmed (trimmed (now (command .entry)))
+        (requestOf (now (daemon .entry)) (endpoint client (now («client_name» .entry))) (endpoint server (now («server_name» .entry))) user (now («user_name» .entry)))
+        process (length (now (out .entry)))) ⌝ }
 {
     let mut line = [0u8; 2047];
     let n = join_into(&mut line, command);
@@ -233,8 +260,14 @@ pub fn expand<'a>(
     user_name: &'a [u8],
     process: u32,
 ) -> Written
-    ensures answer { λ r. ⌜ r ≡ writtenOf (expandBy (now (command .entry)) (requestOf (now (daemon .entry)) (endpoint client (now («client_name» .entry))) (endpoint server (now («server_name» .entry))) user (now («user_name» .entry))) process (length (now (out .entry)))) ⌝ }
-    ensures holds { λ _. ⌜ now (out .exit) ≡ lentAfter (now (out .entry)) (expandBy (now (command .entry)) (requestOf (now (daemon .entry)) (endpoint client (now («client_name» .entry))) (endpoint server (now («server_name» .entry))) user (now («user_name» .entry))) process (length (now (out .entry)))) ⌝ }
+    ensures answer { λ r.
+        ⌜ r ≡ writtenOf (expandBy (now (command .entry))
+        (requestOf (now (daemon .entry)) (endpoint client (now («client_name» .entry))) (endpoint server (now («server_name» .entry))) user (now («user_name» .entry)))
+        process (length (now (out .entry)))) ⌝ }
+    ensures holds { λ _.
+        ⌜ now (out .exit) ≡ lentAfter (now (out .entry)) (expandBy (now (command .entry))
+        (requestOf (now (daemon .entry)) (endpoint client (now («client_name» .entry))) (endpoint server (now («server_name» .entry))) user (now («user_name» .entry)))
+        process (length (now (out .entry)))) ⌝ }
 {
     let measured = joined(command);
     let len = measured.len;

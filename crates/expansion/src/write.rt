@@ -39,8 +39,12 @@ fn expansion_length<'a>(
     process: &'a [u8],
     percent: &'a [u8],
 ) -> usize
-    requires { ⌜ (length (now t) ≤ 2047) × Short (texts (now «client_address») (now «client_name») (now «client_host») (now «server_address») (now «server_name») (now «server_host») «user_known» (now user) «server_known» (now daemon) (now process) (now percent)) ⌝ }
-    ensures { λ r. ⌜ r ≡ length (expansionBy (texts (now («client_address» .entry)) (now («client_name» .entry)) (now («client_host» .entry)) (now («server_address» .entry)) (now («server_name» .entry)) (now («server_host» .entry)) «user_known» (now (user .entry)) «server_known» (now (daemon .entry)) (now (process .entry)) (now (percent .entry))) (now (t .entry))) ⌝ }
+    requires { ⌜ (length (now t) ≤ 2047) × Short
+        (texts (now «client_address») (now «client_name») (now «client_host») (now «server_address») (now «server_name») (now «server_host») «user_known» (now user) «server_known» (now daemon) (now process) (now percent)) ⌝ }
+    ensures { λ r.
+        ⌜ r ≡ length (expansionBy
+        (texts (now («client_address» .entry)) (now («client_name» .entry)) (now («client_host» .entry)) (now («server_address» .entry)) (now («server_name» .entry)) (now («server_host» .entry)) «user_known» (now (user .entry)) «server_known» (now (daemon .entry)) (now (process .entry)) (now (percent .entry)))
+        (now (t .entry))) ⌝ }
 {
     let mut n = 0;
     let mut i = 0;
@@ -87,18 +91,26 @@ fn put_expansion<'a>(
     process: &'a [u8],
     percent: &'a [u8],
 ) -> usize
-    requires { ⌜ length (expansionBy (texts (now «client_address») (now «client_name») (now «client_host») (now «server_address») (now «server_name») (now «server_host») «user_known» (now user) «server_known» (now daemon) (now process) (now percent)) (now t)) ≤ length (now out) ⌝ }
-    ensures count { λ r. ⌜ r ≡ length (expansionBy (texts (now («client_address» .entry)) (now («client_name» .entry)) (now («client_host» .entry)) (now («server_address» .entry)) (now («server_name» .entry)) (now («server_host» .entry)) «user_known» (now (user .entry)) «server_known» (now (daemon .entry)) (now (process .entry)) (now (percent .entry))) (now (t .entry))) ⌝ }
-    ensures written { λ _. ⌜ now (out .exit) ≡ putAt (now (out .entry)) 0 (expansionBy (texts (now («client_address» .entry)) (now («client_name» .entry)) (now («client_host» .entry)) (now («server_address» .entry)) (now («server_name» .entry)) (now («server_host» .entry)) «user_known» (now (user .entry)) «server_known» (now (daemon .entry)) (now (process .entry)) (now (percent .entry))) (now (t .entry))) ⌝ }
+    requires { ⌜ length (expansionBy
+        (texts (now «client_address») (now «client_name») (now «client_host») (now «server_address») (now «server_name») (now «server_host») «user_known» (now user) «server_known» (now daemon) (now process) (now percent))
+        (now t)) ≤ length (now out) ⌝ }
+    ensures count { λ r.
+        ⌜ r ≡ length (expansionBy
+        (texts (now («client_address» .entry)) (now («client_name» .entry)) (now («client_host» .entry)) (now («server_address» .entry)) (now («server_name» .entry)) (now («server_host» .entry)) «user_known» (now (user .entry)) «server_known» (now (daemon .entry)) (now (process .entry)) (now (percent .entry)))
+        (now (t .entry))) ⌝ }
+    ensures written { λ _.
+        ⌜ now (out .exit) ≡ putAt (now (out .entry)) 0 (expansionBy
+        (texts (now («client_address» .entry)) (now («client_name» .entry)) (now («client_host» .entry)) (now («server_address» .entry)) (now («server_name» .entry)) (now («server_host» .entry)) «user_known» (now (user .entry)) «server_known» (now (daemon .entry)) (now (process .entry)) (now (percent .entry)))
+        (now (t .entry))) ⌝ }
 {
     let mut n = 0;
-    let mut i = 0;
-    while i < t.len() {
-        if t[i] == 37 {
+    let mut j = 0;
+    while j < t.len() {
+        if t[j] == 37 {
             n = put_inserted(
                 out,
                 n,
-                byte_at(t, i + 1),
+                byte_at(t, j + 1),
                 client_address,
                 client_name,
                 client_host,
@@ -112,11 +124,11 @@ fn put_expansion<'a>(
                 process,
                 percent,
             );
-            i += 2;
+            j += 2;
         } else {
-            out[n] = t[i];
+            out[n] = t[j];
             n += 1;
-            i += 1;
+            j += 1;
         }
     }
     n
@@ -139,9 +151,16 @@ pub fn write_expansion<'a>(
     process: &'a [u8],
     percent: &'a [u8],
 ) -> Written
-    requires { ⌜ (length (now t) ≤ 2047) × Short (texts (now «client_address») (now «client_name») (now «client_host») (now «server_address») (now «server_name») (now «server_host») «user_known» (now user) «server_known» (now daemon) (now process) (now percent)) ⌝ }
-    ensures answer { λ r. ⌜ r ≡ writtenOf (withinRoom (length (now (out .entry))) (expansionBy (texts (now («client_address» .entry)) (now («client_name» .entry)) (now («client_host» .entry)) (now («server_address» .entry)) (now («server_name» .entry)) (now («server_host» .entry)) «user_known» (now (user .entry)) «server_known» (now (daemon .entry)) (now (process .entry)) (now (percent .entry))) (now (t .entry)))) ⌝ }
-    ensures holds { λ _. ⌜ now (out .exit) ≡ lentAfter (now (out .entry)) (withinRoom (length (now (out .entry))) (expansionBy (texts (now («client_address» .entry)) (now («client_name» .entry)) (now («client_host» .entry)) (now («server_address» .entry)) (now («server_name» .entry)) (now («server_host» .entry)) «user_known» (now (user .entry)) «server_known» (now (daemon .entry)) (now (process .entry)) (now (percent .entry))) (now (t .entry)))) ⌝ }
+    requires { ⌜ (length (now t) ≤ 2047) × Short
+        (texts (now «client_address») (now «client_name») (now «client_host») (now «server_address») (now «server_name») (now «server_host») «user_known» (now user) «server_known» (now daemon) (now process) (now percent)) ⌝ }
+    ensures answer { λ r.
+        ⌜ r ≡ writtenOf (withinRoom (length (now (out .entry))) (expansionBy
+        (texts (now («client_address» .entry)) (now («client_name» .entry)) (now («client_host» .entry)) (now («server_address» .entry)) (now («server_name» .entry)) (now («server_host» .entry)) «user_known» (now (user .entry)) «server_known» (now (daemon .entry)) (now (process .entry)) (now (percent .entry)))
+        (now (t .entry)))) ⌝ }
+    ensures holds { λ _.
+        ⌜ now (out .exit) ≡ lentAfter (now (out .entry)) (withinRoom (length (now (out .entry))) (expansionBy
+        (texts (now («client_address» .entry)) (now («client_name» .entry)) (now («client_host» .entry)) (now («server_address» .entry)) (now («server_name» .entry)) (now («server_host» .entry)) «user_known» (now (user .entry)) «server_known» (now (daemon .entry)) (now (process .entry)) (now (percent .entry)))
+        (now (t .entry)))) ⌝ }
 {
     let n = expansion_length(
         t,

@@ -1,4 +1,4 @@
--- `write::put_expansion` meets its contract. The loop's invariant is Expanded: the pieces before the place i are written, n bytes.
+-- `write::put_expansion` meets its contract. The loop's invariant is Expanded: the pieces before the place j are written, n bytes.
 -- The measure is what is left of the command. Assumes nothing.
 use Prim.Native.Nat.{_-_, _+_}
 use borrow.Author.Needs.{needs}
@@ -10,11 +10,11 @@ use Rattle.expansion.proofs.write.put_expansion.Statement.{statement}
 use Rattle.expansion.proofs.write.put_expansion.Tie as tie
 
 abbrev Inv-loop : tie.InvT-loop
-Inv-loop out₀ t client-address client-name client-host server-address server-name server-host user-known user server-known daemon process percent n₀ i₀ out n i =
-    Expanded (texts client-address client-name client-host server-address server-name server-host user-known user server-known daemon process percent) t out₀ out n i
+Inv-loop out₀ t client-address client-name client-host server-address server-name server-host user-known user server-known daemon process percent n₀ j₀ out n j =
+    Expanded (texts client-address client-name client-host server-address server-name server-host user-known user server-known daemon process percent) t out₀ out n j
 
 abbrev μ-loop : tie.MeasureT-loop
-μ-loop out₀ t client-address client-name client-host server-address server-name server-host user-known user server-known daemon process percent n₀ i₀ out n i = length t + 1 - i
+μ-loop out₀ t client-address client-name client-host server-address server-name server-host user-known user server-known daemon process percent n₀ j₀ out n j = length t + 1 - j
 
 pub put-expansion-spec : {M : Type 1} → statement M
 put-expansion-spec =
