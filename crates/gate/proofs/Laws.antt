@@ -18,6 +18,7 @@ use Rattle.elements.specs.Request.{endpoint, requestOf}
 use Rattle.rules.specs.declared.Ruling.{Ruling as VerdictRuling}
 use Rattle.rules.specs.Search as Search
 use Rattle.rules.specs.Search.{decide}
+use Rattle.expansion.specs.Expand.{expand}
 use Rattle.byuid.specs.declared.Ruling.{Ruling as ByuidRuling}
 use Rattle.byuid.specs.Byuid as Byuid
 use Rattle.byuid.specs.Byuid.{decideByuid}
@@ -109,3 +110,22 @@ module _ (kind high low : ℕ) (out : List ℕ) (b : Bool) (is-b : b ≡ isSome 
 
   pub write-kept : b ≡ false → out ≡ lentAfter out (writeBy kind high low (length out))
   write-kept e = ap (lentAfter out) (write-unknown e (placeless F.BadRequest) refl)
+
+-- ## Expansion
+
+module _ (d clientName serverName userName d' : List ℕ) (client server : HostNumbers) (user : ℕ) (x : States)
+    (is-x : x ≡ statesOf client server user) (is-d : d' ≡ (if x .fit then d else [])) (command out : List ℕ) (process : ℕ) where
+  expand-read : expand command (requestOf d' (endpoint (x .client) clientName) (endpoint (x .server) serverName) (x .user) userName) process (length out)
+      ≡ expand command (request (requestNumbers d client clientName server serverName user userName)) process (length out)
+  expand-read = ap (λ r. expand command r process (length out)) (request-read d clientName serverName userName d' client server user x is-x is-d)
+
+  pub expand-answer : (w : Written) (a : GateWritten)
+      → w ≡ writtenOf (expand command (requestOf d' (endpoint (x .client) clientName) (endpoint (x .server) serverName) (x .user) userName) process (length out))
+      → a ≡ writtenNumbers w
+      → a ≡ writtenAnswer (expand command (request (requestNumbers d client clientName server serverName user userName)) process (length out))
+  expand-answer w a e f = written-numbers _ w a e f ∙ ap writtenAnswer expand-read
+
+  pub expand-holds : (out' : List ℕ)
+      → out' ≡ lentAfter out (expand command (requestOf d' (endpoint (x .client) clientName) (endpoint (x .server) serverName) (x .user) userName) process (length out))
+      → out' ≡ lentAfter out (expand command (request (requestNumbers d client clientName server serverName user userName)) process (length out))
+  expand-holds out' e = e ∙ ap (lentAfter out) expand-read

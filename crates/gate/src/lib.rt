@@ -2,6 +2,7 @@
 //   gate_verdict, gate_byuid, gate_portacl == the decisions by texts handed in
 //   gate_sheet_verdict, gate_sheet_byuid, gate_sheet_portacl == the decisions by a sheet
 //   gate_check, gate_unpack, gate_pack     == sheets checked, unpacked and packed
+//   gate_expand                            == a command expanded
 //   gate_read_address, gate_write_address  == addresses as text
 // A number outside its kinds is refused by 13, after every check of the texts.
 use codes::GateAddress;
@@ -17,6 +18,7 @@ ghost use lib.ListN.{length};
 ghost use Rattle.section.specs.Refusal.{lentAfter};
 ghost use Rattle.address.specs.Address.{readAddress};
 ghost use Rattle.rules.specs.Search.{decide};
+ghost use Rattle.expansion.specs.Expand.{expand};
 ghost use Rattle.byuid.specs.Byuid.{decideByuid};
 ghost use Rattle.portacl.specs.Portacl.{decidePortacl};
 ghost use Rattle.sheet.specs.Sheet.{texts, unpack, pack, decideSheet, decideByuidSheet, decidePortaclSheet};
@@ -269,6 +271,71 @@ pub extern "C" fn gate_pack(
     ensures holds { λ _. ⌜ now (out .exit) ≡ lentAfter (now (out .entry)) (pack (texts (now (allow .entry)) (now (deny .entry)) (now (byuid .entry)) (now (portacl .entry))) (length (now (out .entry)))) ⌝ }
 {
     codes::answer::written_numbers(sheet::pack::pack(out, allow, deny, byuid, portacl))
+}
+
+// Expands a command for a request at the front of out; a refusal leaves out as it was.
+#[no_mangle]
+pub extern "C" fn gate_expand<'a>(
+    out: &mut [u8],
+    command: &'a [u8],
+    daemon: &'a [u8],
+    client_state: u32,
+    client_kind: u32,
+    client_high: u64,
+    client_low: u64,
+    client_name: &'a [u8],
+    server_state: u32,
+    server_kind: u32,
+    server_high: u64,
+    server_low: u64,
+    server_name: &'a [u8],
+    user: u32,
+    user_name: &'a [u8],
+    process: u32,
+) -> GateWritten
+    ensures answer { λ r.
+        ⌜ r
+        ≡ writtenAnswer
+        (expand (now (command .entry))
+        (request
+        (requestNumbers (now (daemon .entry)) (hostNumbers «client_state» «client_kind» «client_high» «client_low») (now («client_name» .entry))
+        (hostNumbers «server_state» «server_kind» «server_high» «server_low») (now («server_name» .entry)) user (now («user_name» .entry))))
+        process (length (now (out .entry)))) ⌝ }
+    ensures holds { λ _.
+        ⌜ now (out .exit)
+        ≡ lentAfter (now (out .entry))
+        (expand (now (command .entry))
+        (request
+        (requestNumbers (now (daemon .entry)) (hostNumbers «client_state» «client_kind» «client_high» «client_low») (now («client_name» .entry))
+        (hostNumbers «server_state» «server_kind» «server_high» «server_low») (now («server_name» .entry)) user (now («user_name» .entry))))
+        process (length (now (out .entry)))) ⌝ }
+{
+    let read = codes::request::read_states(
+        client_state,
+        client_kind,
+        client_high,
+        client_low,
+        server_state,
+        server_kind,
+        server_high,
+        server_low,
+        user,
+    );
+    let client = read.client;
+    let server = read.server;
+    let who = read.user;
+    codes::answer::written_numbers(expansion::expand(
+        out,
+        command,
+        codes::request::daemon_if(read.fit, daemon),
+        client,
+        client_name,
+        server,
+        server_name,
+        who,
+        user_name,
+        process,
+    ))
 }
 
 // The address that a text writes.

@@ -51,7 +51,7 @@ use Rattle.sheet.specs.declared.unpack.Unpacked.{Unpacked}
 use Rattle.sheet.specs.declared.unpack.Unpacked.the-variants as Un
 use Rattle.sheet.specs.Sheet.{texts, textAt, textsAt, textsFault, frame, unpack, filePlace, inSheet, decideSheet, decideByuidSheet, decidePortaclSheet}
 use Rattle.sheet.specs.Code.{checkedOf, framedOf, unpackedOf, decidedBy}
-use Rattle.sheet.proofs.FrameLaws.{SectionAt, Framed, frame-answered, take-drop-take}
+use Rattle.sheet.proofs.FrameLaws.{SectionAt, frame-answered, refusing-answered, take-drop-take}
 
 -- ## Unpacking
 
@@ -208,6 +208,10 @@ module _ {s : Section} {at : ℕ} {sheet : List ℕ} {q : Part} (f : SectionAt s
   within-limit : overLimit s (textAt sheet q) ≡ none
   within-limit = rw (length-text, le-ltb (s .limit) (q .len) (f .limit))
 
+-- a part of a part
+in-part : (sheet : List ℕ) (p q : Part) → q .place + q .len ≤ p .len → textAt (textAt sheet p) q ≡ textAt sheet (part (p .place + q .place) (q .len))
+in-part sheet p q h = take-drop-take (q .len) (q .place) (p .len) (drop (p .place) sheet) h ∙ ap (take (q .len)) (drop-drop (q .place) (p .place) sheet)
+
 module _ (sheet : List ℕ) (p : Parts) (framed : frame sheet ≡ answered p) (r : Request) where
   by-frame : decideSheet sheet r ≡ orRefused (textsFault (textsAt sheet p)) (decide (textAt sheet (p .allow)) (textAt sheet (p .deny)) r >>= λ a. answered (inSheet p a))
   unfolding decideSheet unpack
@@ -251,6 +255,34 @@ module _ (sheet : List ℕ) (p : Parts) (framed : frame sheet ≡ answered p) (r
 
       pub command-fits : (m : ℕ) → length sheet < m → filePlace p (b .file) + b .command .place < m
       command-fits m h = omega (arith, command-place)
+
+answered-search : (a d : List ℕ) (r : Request) (b : Answer) → decide a d r ≡ answered b → search a d r ≡ b
+unfolding decide
+answered-search a d r b e =
+    refusing-answered
+    (overLimit S.allow a orElse overLimit S.deny d orElse hostsFault S.allow a orElse hostsFault S.deny d
+    orElse given (not (wellFormed r)) (placeless F.BadRequest))
+    (search a d r) b e .1
+
+-- the command's bytes in the sheet are those in the file that decided
+pub command-bytes : (sheet : List ℕ) (p : Parts) → frame sheet ≡ answered p → (r : Request) (b : Answer)
+    → decide (textAt sheet (p .allow)) (textAt sheet (p .deny)) r ≡ answered b
+    → textAt sheet (inSheet p b .command) ≡ commandBytes (textAt sheet (p .allow)) (textAt sheet (p .deny)) b
+command-bytes sheet p framed r b e =
+    by (b .file)
+    (subst (λ (x : Answer). x .command .place + x .command .len ≤ fileLength (textAt sheet (p .allow)) (textAt sheet (p .deny)) (x .file))
+    (answered-search (textAt sheet (p .allow)) (textAt sheet (p .deny)) r b e) (search-within (textAt sheet (p .allow)) (textAt sheet (p .deny)) r))
+  where
+    by : (f : File) → b .command .place + b .command .len ≤ fileLength (textAt sheet (p .allow)) (textAt sheet (p .deny)) f
+        → take (b .command .len) (drop (filePlace p f + b .command .place) sheet)
+        ≡ commandBytes (textAt sheet (p .allow)) (textAt sheet (p .deny)) (answer (b .verdict) f (b .line) (b .command))
+    by Neither w = let h : b .command .len ≡ 0 = omega arith in rw h
+    by Allow w =
+        let f = frame-answered sheet p framed in
+        sym (in-part sheet (p .allow) (b .command) (omega (arith, length-text (f .allow))))
+    by Deny w =
+        let f = frame-answered sheet p framed in
+        sym (in-part sheet (p .deny) (b .command) (omega (arith, length-text (f .deny))))
 
 pub decide-unframed : (sheet : List ℕ) (x : FramedRead) → x ≡ framedOf (frame sheet) → (r : Request) (g : Refusal) → x ≡ Fr.Refused g
     → Rul.Refused g ≡ rulingOf (decideSheet sheet r)

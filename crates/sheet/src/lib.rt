@@ -1,4 +1,8 @@
 // The station sheet: four texts in one, packed and unpacked.
+//   texts  == the checks of four texts
+//   frame  == where the texts of a sheet stand, by the counts alone
+//   unpack == the frame and the checks
+//   decide == the decisions by a sheet
 pub mod decide;
 pub mod frame;
 pub mod pack;

@@ -51,7 +51,7 @@ fn check_hosts(text: &[u8], order: u8) -> Checked
 }
 
 // The check of the entries of a portacl text.
-pub fn check_portacl(text: &[u8]) -> Checked
+fn check_portacl(text: &[u8]) -> Checked
     ensures { λ r. ⌜ r ≡ checkedOf (portaclFault (now (text .entry))) ⌝ }
 {
     match portacl::check(text) {

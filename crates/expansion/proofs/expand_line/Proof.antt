@@ -1,0 +1,20 @@
+-- `expand_line` meets its contract: the joined command stands at the front of the buffer, and is trimmed there. Assumes nothing.
+use mathlib.Core.Path.{sym}
+use borrow.Author.Needs.{needs}
+use lib.Seq.{length-take-le}
+use Rattle.expansion.proofs.CallLaws.{line-within, line-short, line-gave}
+use Rattle.expansion.proofs.expand_line.Statement.{statement}
+use Rattle.expansion.proofs.expand_line.Tie as tie
+
+pub expand-line-spec : {M : Type 1} → statement M
+expand-line-spec =
+    tie.close
+    (tie.spec
+    (λ c. search needs)
+    (λ c κs. search needs)
+    (λ c. search needs)
+    (λ c. let j = c .before .before .join-into in sym (length-take-le _ _ (line-within _ _ _ _ (j .ensures .0) (j .ensures .1))))
+    (λ c κs. search needs)
+    (λ c κs. let j = c .before .before .before .before .join-into in line-short _ _ _ _ (j .ensures .0) (j .ensures .1) _ (c .before .trim .ensures) (c .before .before .before .before .before .before .before .before .before .before .before .before .pre))
+    (λ c. search needs)
+    (λ c. let j = c .before .before .before .before .before .before .before .join-into in line-gave _ _ _ _ (j .ensures .0) (j .ensures .1) _ (c .before .before .before .before .trim .ensures) _ _ (c .before .before .before .before .before .before .before .before .before .before .before .before .before .before .before .args .out .now) _ _ (c .before .before .expand-trimmed .ensures)))

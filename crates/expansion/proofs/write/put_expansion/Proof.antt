@@ -1,0 +1,42 @@
+-- `write::put_expansion` meets its contract. The loop's invariant is Expanded: the pieces before the place i are written, n bytes.
+-- The measure is what is left of the command. Assumes nothing.
+use Prim.Native.Nat.{_-_, _+_}
+use borrow.Author.Needs.{needs}
+use native.Mathlib.Omega.{arith}
+use lib.ListN.{length}
+use Rattle.expansion.specs.Code.{texts}
+use Rattle.expansion.proofs.PieceLaws.{Expanded, expanded-start, expanded-end, literal-room, expanded-literal, directive-room, expanded-directive}
+use Rattle.expansion.proofs.write.put_expansion.Statement.{statement}
+use Rattle.expansion.proofs.write.put_expansion.Tie as tie
+
+abbrev Inv-loop : tie.InvT-loop
+Inv-loop out₀ t client-address client-name client-host server-address server-name server-host user-known user server-known daemon process percent n₀ i₀ out n i =
+    Expanded (texts client-address client-name client-host server-address server-name server-host user-known user server-known daemon process percent) t out₀ out n i
+
+abbrev μ-loop : tie.MeasureT-loop
+μ-loop out₀ t client-address client-name client-host server-address server-name server-host user-known user server-known daemon process percent n₀ i₀ out n i = length t + 1 - i
+
+pub put-expansion-spec : {M : Type 1} → statement M
+put-expansion-spec =
+    tie.close
+    (tie.spec
+    Inv-loop
+    μ-loop
+    (λ c. search (expanded-start, needs))
+    (λ c. search needs)
+    (λ c. search needs)
+    (λ c κs. search needs)
+    (λ c κs. let l = c .before .before .before .before .before in
+    directive-room _ _ _ _ _ _ (l .loop .inv) (l .before .before .before .before .before .before .before .before .before .before .before .before .before .pre) (c .before .before .before .before .loop-test .taken) (c .before .before .if1 .taken) _ (c .byte-at .ensures))
+    (λ c. search needs)
+    (λ c. search needs)
+    (λ c. let l = c .before .before .before .before .before .before .before .before in
+    expanded-directive _ _ _ _ _ _ (l .loop .inv) (l .before .before .before .before .before .before .before .before .before .before .before .before .before .pre) (c .before .before .before .before .before .before .before .loop-test .taken) (c .before .before .before .before .before .if1 .taken) _ (c .before .before .before .byte-at .ensures) _ _ (c .before .before .put-inserted .ensures) (c .before .before .put-inserted .kept .0))
+    (λ c. search needs)
+    (λ c. let l = c .before .before .before .before in literal-room _ _ _ _ _ _ (l .loop .inv) (l .before .before .before .before .before .before .before .before .before .before .before .before .before .pre) (c .before .before .before .loop-test .taken) (c .before .if1 .left))
+    (λ c. let l = c .before .before .before .before in omega (arith, literal-room _ _ _ _ _ _ (l .loop .inv) (l .before .before .before .before .before .before .before .before .before .before .before .before .before .pre) (c .before .before .before .loop-test .taken) (c .before .if1 .left)))
+    (λ c. search needs)
+    (λ c. search needs)
+    (λ c. let l = c .before .before .before .before in expanded-literal _ _ _ _ _ _ (l .loop .inv) (l .before .before .before .before .before .before .before .before .before .before .before .before .before .pre) (c .before .before .before .loop-test .taken) (c .before .if1 .left))
+    (λ c. c .before .loop .inv .long)
+    (λ c. expanded-end _ _ _ _ _ _ (c .before .loop .inv) (c .loop-test .left)))
