@@ -20,6 +20,7 @@ use Rattle.sheet.specs.declared.Parts.{Parts}
 use Rattle.sheet.specs.Sheet.{Texts, textsAt, textsFault, unpack, sheetOf, pack, decideSheet, decideByuidSheet, decidePortaclSheet}
 use Rattle.sheet.proofs.FrameLaws.{frame-cut, textsFault-none, partsOf, sheetOf-inTurn, framed-partsOf, textsAt-partsOf, sheetOf-textsAt, unpack-answered, answered-unpack, pack-answered, answered-pack}
 use Rattle.codes.specs.Answers.{verdictAnswer, byuidAnswer, portaclAnswer, checkAnswer, partsAnswer, writtenAnswer}
+use Rattle.sheet.proofs.LongSheetLaws.{unpack-take}
 use Rattle.claims.specs.Claims.{AreBytes, CutShort, Longest, UnpackPack, PackUnpack, textsOf}
 use Rattle.claims.proofs.AnswerLaws.{accepted-parts, parts-accepted, written-answered, front-answered}
 
@@ -99,4 +100,5 @@ longest = record {
   reached =
       let h = packed-parts longestTexts 42000 (sheetOf longestTexts) (answered-pack longestTexts 42000 longestTexts-sound (omega (arith, longest-length))) in
       (sheetOf longestTexts, longest-bytes, parts-accepted (sheetOf longestTexts) (partsOf longestTexts) (h .0), longest-length);
+  enough = λ sheet. ap checkAnswer (unpack-take sheet);
 }

@@ -54,6 +54,8 @@ CutShort = (sheet : List ℕ) (n : ℕ) → Accepted sheet → n < length sheet 
 pub record Longest : Type 0 where
   pub at-most : (sheet : List ℕ) → Accepted sheet → length sheet ≤ 42000
   pub reached : (sheet : List ℕ) × AreBytes sheet × Accepted sheet × (length sheet ≡ 42000)
+  -- so a reader may stop after one byte more
+  pub enough : (sheet : List ℕ) → checkAnswer (unpack (take 42001 sheet)) ≡ checkAnswer (unpack sheet)
 
 -- ## Demand 2
 
