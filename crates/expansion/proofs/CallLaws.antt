@@ -3,7 +3,7 @@
 use Prim.Native.Nat.{ℕ, _+_, _<_, _≤_}
 use native.Mathlib.Omega.{arith}
 use mathlib.Core.Bool.{Bool, true, false, not, _||_}
-use mathlib.Core.List.{List, [], _∷_, _++_, map, flatMap, reverse}
+use mathlib.Core.List.{List, [], _∷_, _++_, flatMap, reverse}
 use mathlib.Core.Path.{_≡_, refl, sym, ap, subst, _∙_}
 use borrow.Author.Tests.{lt-ltb, le-ltb, not-true, not-false}
 use lib.ListN.{length, take, drop, length-append, length-reverse}
@@ -24,10 +24,10 @@ use Rattle.lines.specs.declared.line.JoinedText.{JoinedText}
 use Rattle.lines.specs.Line.{join, hasBadByte}
 use Rattle.lines.specs.Command.{Piece, literal, directive, pieces, skipBlanks, trimmed, hasBadPercent}
 use Rattle.lines.specs.Parts.{trimBlanks, anyBadPercent}
-use Rattle.lines.proofs.CommandLaws.{trimmed-join, hasBadPercent-trimmed}
+use Rattle.lines.proofs.CommandLaws.{trimmed-join}
 use Rattle.patterns.specs.Host.{nameKnown, addrKnown}
 use Rattle.elements.specs.Request.{Request, wellFormed}
-use Rattle.expansion.specs.Expand.{nameText, safeByte, pieceText, expansion, expand}
+use Rattle.expansion.specs.Expand.{nameText, pieceText, expansion, expand}
 use Rattle.expansion.specs.Code.{Texts, texts, userState, textsWith, textsOf, pieceBy, expansionBy, Short, expandTrimmed}
 use Rattle.expansion.proofs.TextLaws.{insertedBy-request, wellFormed-short}
 

@@ -14,11 +14,9 @@ use lib.Seq.{paste-suc}
 use types.Run.{OneOf}
 use Rattle.text.specs.Basics.{if_then_else_, first, any}
 use Rattle.text.specs.Text.{bytes, inRange}
-use Rattle.text.specs.Number.{decimal}
 use Rattle.text.proofs.BasicLaws.{and-true}
 use Rattle.text.proofs.Numeral.{length-numeral}
 use Rattle.text.proofs.PasteLaws.{Pasted, pasted-all}
-use Rattle.address.specs.Address.{addrText}
 use Rattle.address_format.proofs.WriteLaws.{length-addrText}
 use Rattle.address_format.proofs.WriteText.{Wrote, front-room, rest-room, rest-all, byte-room, byte-all}
 use Rattle.patterns.specs.declared.Name.{Name}

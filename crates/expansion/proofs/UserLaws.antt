@@ -1,9 +1,9 @@
 -- Demand 3, second half: a command that uses neither %u nor %c expands alike for two users.
 -- Assumes nothing.
 use Prim.Native.Nat.{ℕ}
-use mathlib.Core.Bool.{Bool, true, false, not, _&&_, _||_}
+use mathlib.Core.Bool.{false, _||_}
 use mathlib.Core.List.{List, [], _∷_, flatMap}
-use mathlib.Core.Path.{_≡_, refl, ap}
+use mathlib.Core.Path.{_≡_, refl}
 use lib.Dec.{eqb}
 use Rattle.text.specs.Basics.{first, any}
 use Rattle.text.specs.Text.{bytes, among}

@@ -1,4 +1,4 @@
-// Expansion of a rule's command.
+// Expansion of a rule's command into a lent output.
 //   expand(out, command, ..) == writes what the command expands to for a request at the front of out, or refuses
 //   is_safe(b)   == b is a letter, a digit or one of the marks of the house set
 //   safe_byte(b) == b as it is inserted

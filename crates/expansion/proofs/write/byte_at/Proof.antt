@@ -1,5 +1,4 @@
 -- `write::byte_at` meets its contract, by the test. Assumes nothing.
-use mathlib.Core.Path.{sym}
 use borrow.Author.Needs.{needs}
 use Rattle.expansion.proofs.PieceLaws.{getD-past}
 use Rattle.expansion.proofs.write.byte_at.Statement.{statement}
