@@ -1,14 +1,14 @@
 -- What an answer of number 0 says of the outcome.
 -- Assumes nothing.
 use Prim.Native.Nat.{ℕ}
-use mathlib.Core.List.{List, _++_}
+use mathlib.Core.List.{List}
 use mathlib.Core.Path.{_≡_, refl, ap}
 use native.Mathlib.Omega.{arith}
-use lib.ListN.{length, take, drop}
+use lib.ListN.{length, drop}
 use lib.Seq.{take-at}
 use Rattle.section.specs.declared.Fault.{Fault}
 use Rattle.section.specs.declared.Fault.the-variants as F
-use Rattle.section.specs.Refusal.{Outcome, refused, answered, faultNumber, lentAfter}
+use Rattle.section.specs.Refusal.{Outcome, refused, answered, faultNumber}
 use Rattle.sheet.specs.declared.Parts.{Parts}
 use Rattle.sheet.specs.Sheet.{unpack}
 use Rattle.codes.specs.declared.GateCheck.{GateCheck}

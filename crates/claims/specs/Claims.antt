@@ -2,8 +2,8 @@
 -- proofs/Claims.antt proves them all.
 -- Assumes nothing: these are statements.
 use Prim.Native.Nat.{ℕ, _≤_, _<_, _^_}
-use mathlib.Core.Bool.{Bool, true, false}
-use mathlib.Core.List.{List, []}
+use mathlib.Core.Bool.{true, false}
+use mathlib.Core.List.{List}
 use mathlib.Core.Path.{_≡_}
 use lib.ListN.{length, take}
 use lib.Dec.{ltb, eqb}
