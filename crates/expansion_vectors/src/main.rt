@@ -2,13 +2,13 @@
 // Each case prints its sentence and what is written, or the refusal.
 
 // A command expanded for the daemon in.tftpd, with both hosts in one state of name and of address.
-fn expanded(
+fn expanded<'a>(
     out: &mut [u8],
-    command: &[u8],
+    command: &'a [u8],
     name: u32,
     kind: u32,
     user: u32,
-    user_name: &[u8],
+    user_name: &'a [u8],
 ) -> codes::GateWritten {
     gate::gate_expand(
         out,
@@ -31,7 +31,7 @@ fn expanded(
 }
 
 // For hosts of known names and IPv4 addresses.
-fn show(sentence: &[u8], command: &[u8], user: u32, user_name: &[u8]) {
+fn show<'a>(sentence: &[u8], command: &'a [u8], user: u32, user_name: &'a [u8]) {
     report::sentence(sentence);
     let mut out = [46u8; 330];
     let w = expanded(&mut out, command, 2, 4, user, user_name);
