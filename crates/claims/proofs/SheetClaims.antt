@@ -17,7 +17,8 @@ use Rattle.lines.specs.Line.{join, logicalLines, lines, hasBadByte}
 use Rattle.rules.specs.Check.{lineFault, hostsFault}
 use Rattle.portacl.specs.Portacl.{readEntry, entries, entryFault, portaclFault}
 use Rattle.sheet.specs.declared.Parts.{Parts}
-use Rattle.sheet.specs.Sheet.{Texts, textsAt, textsFault, unpack, sheetOf, pack, decideSheet, decideByuidSheet, decidePortaclSheet}
+use Rattle.sheet.specs.Sheet.{Texts, textsAt, textsFault, unpack, sheetOf, pack}
+use Rattle.station.specs.Station.{decideSheet, decideByuidSheet, decidePortaclSheet}
 use Rattle.sheet.proofs.FrameLaws.{frame-cut, textsFault-none, partsOf, sheetOf-inTurn, framed-partsOf, textsAt-partsOf, sheetOf-textsAt, unpack-answered, answered-unpack, pack-answered, answered-pack}
 use Rattle.codes.specs.Answers.{verdictAnswer, byuidAnswer, portaclAnswer, checkAnswer, partsAnswer, writtenAnswer}
 use Rattle.sheet.proofs.LongSheetLaws.{unpack-take}

@@ -20,7 +20,8 @@ use Rattle.rules.proofs.UserLaws.{QuietVerdict, QuietOutcome, decide-same}
 use Rattle.expansion.specs.Expand.{expand}
 use Rattle.expansion.proofs.UserLaws.{expand-same}
 use Rattle.sheet.specs.declared.Parts.{Parts}
-use Rattle.sheet.specs.Sheet.{textAt, unpack, inSheet, decideSheet}
+use Rattle.sheet.specs.Sheet.{textAt, unpack}
+use Rattle.station.specs.Station.{inSheet, decideSheet}
 use Rattle.codes.specs.Requests.{userState, userBy, RequestNumbers, numbersFit, request}
 use Rattle.codes.specs.Answers.{verdictCode, verdictAnswer}
 use Rattle.claims.specs.Claims.{withUser, Permitted, named, unknown, Decided, granted, denied, SameFor, byTexts, bySheet, deciding, rawCommand, NameCannotMatter}

@@ -17,7 +17,8 @@ use Rattle.rules.specs.Search.{decide}
 use Rattle.expansion.specs.Expand.{usesUser, expand}
 use Rattle.portacl.specs.declared.Settings.{Settings}
 use Rattle.portacl.specs.Portacl.{Bind}
-use Rattle.sheet.specs.Sheet.{Texts, texts, textAt, unpack, pack, decideSheet, decideByuidSheet, decidePortaclSheet}
+use Rattle.sheet.specs.Sheet.{Texts, texts, textAt, unpack, pack}
+use Rattle.station.specs.Station.{decideSheet, decideByuidSheet, decidePortaclSheet}
 use Rattle.codes.specs.declared.GateAnswer.{GateAnswer}
 use Rattle.codes.specs.declared.GateParts.{GateParts}
 use Rattle.codes.specs.Requests.{RequestNumbers, requestNumbers, request, portBy, addressBy, writeBy}

@@ -27,7 +27,7 @@ use Rattle.portacl.specs.declared.Ruling.{Ruling as PortaclRuling}
 use Rattle.portacl.specs.declared.Settings.{Settings}
 use Rattle.portacl.specs.Portacl as Portacl
 use Rattle.portacl.specs.Portacl.{decidePortacl}
-use Rattle.sheet.specs.Sheet.{decideSheet, decideByuidSheet, decidePortaclSheet}
+use Rattle.station.specs.Station.{decideSheet, decideByuidSheet, decidePortaclSheet}
 use Rattle.codes.specs.declared.GateAddress.{GateAddress}
 use Rattle.codes.specs.declared.GateAnswer.{GateAnswer}
 use Rattle.codes.specs.declared.GateWritten.{GateWritten}

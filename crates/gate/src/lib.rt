@@ -21,7 +21,8 @@ ghost use Rattle.rules.specs.Search.{decide};
 ghost use Rattle.expansion.specs.Expand.{expand};
 ghost use Rattle.byuid.specs.Byuid.{decideByuid};
 ghost use Rattle.portacl.specs.Portacl.{decidePortacl};
-ghost use Rattle.sheet.specs.Sheet.{texts, unpack, pack, decideSheet, decideByuidSheet, decidePortaclSheet};
+ghost use Rattle.sheet.specs.Sheet.{texts, unpack, pack};
+ghost use Rattle.station.specs.Station.{decideSheet, decideByuidSheet, decidePortaclSheet};
 ghost use Rattle.codes.specs.Requests.{hostNumbers, requestNumbers, request, portBy, addressBy, settingsOf, bindBy, writeBy};
 ghost use Rattle.codes.specs.Answers.{verdictAnswer, byuidAnswer, portaclAnswer, checkAnswer, partsAnswer, writtenAnswer, addressAnswer};
 
@@ -176,7 +177,7 @@ pub extern "C" fn gate_sheet_verdict(
     let client = given.client;
     let server = given.server;
     let who = given.user;
-    codes::answer::verdict_numbers(sheet::decide::decide(
+    codes::answer::verdict_numbers(station::decide(
         sheet,
         codes::request::daemon_if(given.fit, daemon),
         client,
@@ -202,7 +203,7 @@ pub extern "C" fn gate_sheet_byuid(
 {
     let by = codes::request::port_by(port);
     let at = codes::request::address_by(port, kind, high, low);
-    codes::answer::byuid_numbers(sheet::decide::decide_byuid(sheet, by, at, uid))
+    codes::answer::byuid_numbers(station::decide_byuid(sheet, by, at, uid))
 }
 
 // The portacl decision by a sheet.
@@ -232,7 +233,7 @@ pub extern "C" fn gate_sheet_portacl(
     let seventeen = [0u32; 17];
     let bind = codes::request::read_target(protocol, port);
     let over = bind.protocol;
-    codes::answer::portacl_numbers(sheet::decide::decide_portacl(
+    codes::answer::portacl_numbers(station::decide_portacl(
         sheet,
         settings,
         uid,

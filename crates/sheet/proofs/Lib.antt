@@ -1,4 +1,4 @@
-pub mod DecideLaws
+pub mod UnpackLaws
 pub mod FrameLaws
 pub mod ReadLaws
 pub mod TextsLaws

@@ -3,7 +3,6 @@
 --   limitsFault ts, contentsFault allow deny portacl == the two halves of textsFault
 --   sectionOf c      == the section of a cursor
 --   fromDeny sheet a, fromByuid sheet a d, fromPortacl sheet a d b, toEnd sheet p == what is left of frame, once the parts before are read
---   decidedBy allow deny portacl r == the ruling by texts that are within their limits, the command not yet placed in the sheet
 -- Assumes nothing: these are definitions.
 use Prim.Native.Nat.{ℕ}
 use mathlib.Core.List.{List}
@@ -18,10 +17,7 @@ use Rattle.section.specs.declared.Refusal.{Refusal}
 use Rattle.section.specs.Refusal.{Outcome, refused, answered, _>>=_, placeless, refusing}
 use Rattle.section.specs.Section as S
 use Rattle.section.specs.Section.{Section, overLimit}
-use Rattle.elements.specs.Request.{Request, wellFormed}
-use Rattle.rules.specs.declared.Ruling.{Ruling}
 use Rattle.rules.specs.Check.{hostsFault}
-use Rattle.rules.specs.FileCode.{passOf, onward, passBoth, rulingBy}
 use Rattle.portacl.specs.Portacl.{portaclFault}
 use Rattle.sheet.specs.declared.Parts.{Parts}
 use Rattle.sheet.specs.declared.texts.Checked.{Checked}
@@ -84,6 +80,3 @@ fromDeny sheet a = do
 abbrev pub unpackedOf : Outcome Parts → Unpacked
 unpackedOf (refused r) = U.Refused r
 unpackedOf (answered p) = U.Parts p
-
-unfoldable pub decidedBy : List ℕ → List ℕ → List ℕ → Request → Ruling
-decidedBy allow deny portacl r = rulingBy (onward (passBoth r allow deny) (passOf (portaclFault portacl) none)) (wellFormed r)

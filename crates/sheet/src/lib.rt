@@ -3,8 +3,6 @@
 //   frame  == where the texts of a sheet stand, by the counts alone
 //   unpack == the frame and the checks
 //   pack   == the sheet of four texts
-//   decide == the decisions by a sheet
-pub mod decide;
 pub mod frame;
 pub mod pack;
 pub mod texts;

@@ -1,7 +1,7 @@
 -- `sheet::unpack::check_parts` meets its contract.
 -- Assumes nothing.
 use borrow.Author.Needs.{needs}
-use Rattle.sheet.proofs.DecideLaws.{texts-in-sheet}
+use Rattle.sheet.proofs.UnpackLaws.{texts-in-sheet}
 use Rattle.sheet.proofs.unpack.check_parts.Statement.{statement}
 use Rattle.sheet.proofs.unpack.check_parts.Tie as tie
 

@@ -1,7 +1,7 @@
 -- `sheet::unpack::unpack` meets its contract: the frame, then the texts.
 -- Assumes nothing.
 use borrow.Author.Needs.{needs}
-use Rattle.sheet.proofs.DecideLaws.{unframed, unpack-refused, unpack-parts}
+use Rattle.sheet.proofs.UnpackLaws.{unframed, unpack-refused, unpack-parts}
 use Rattle.sheet.proofs.unpack.unpack.Statement.{statement}
 use Rattle.sheet.proofs.unpack.unpack.Tie as tie
 

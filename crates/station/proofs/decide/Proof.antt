@@ -1,0 +1,18 @@
+-- `station::decide` meets its contract.
+-- Assumes nothing.
+use borrow.Author.Needs.{needs}
+use Rattle.sheet.proofs.UnpackLaws.{is-framed}
+use Rattle.station.proofs.DecideLaws.{decide-unframed}
+use Rattle.station.proofs.decide.Statement.{statement}
+use Rattle.station.proofs.decide.Tie as tie
+
+pub decide-spec : {M : Type 1} → statement M
+decide-spec =
+    tie.close
+    (tie.spec
+    (λ c κs. search needs)
+    (λ c. search needs)
+    (λ c. search needs)
+    (λ c κs. search (is-framed, needs))
+    (λ c. search (decide-unframed, needs))
+    (λ c. search needs))

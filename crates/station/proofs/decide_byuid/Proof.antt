@@ -1,0 +1,18 @@
+-- `station::decide_byuid` meets its contract.
+-- Assumes nothing.
+use borrow.Author.Needs.{needs}
+use Rattle.station.proofs.DecideLaws.{byuid-refused, byuid-decided}
+use Rattle.station.proofs.decide_byuid.Statement.{statement}
+use Rattle.station.proofs.decide_byuid.Tie as tie
+
+pub decide-byuid-spec : {M : Type 1} → statement M
+decide-byuid-spec =
+    tie.close
+    (tie.spec
+    (λ c κs. search needs)
+    (λ c. search needs)
+    (λ c. search needs)
+    (λ c κs. search needs)
+    (λ c κs. search needs)
+    (λ c. search (byuid-refused, needs))
+    (λ c. search (byuid-decided, needs)))

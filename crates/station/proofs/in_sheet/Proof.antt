@@ -1,0 +1,13 @@
+-- `station::in_sheet` meets its contract.
+-- Assumes nothing.
+use borrow.Author.Needs.{needs}
+use Rattle.station.proofs.in_sheet.Statement.{statement}
+use Rattle.station.proofs.in_sheet.Tie as tie
+
+pub in-sheet-spec : {M : Type 1} → statement M
+in-sheet-spec =
+    tie.close
+    (tie.spec
+    (λ c κs. search needs)
+    (λ c. search needs)
+    (λ c. cc))

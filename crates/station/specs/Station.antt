@@ -1,0 +1,46 @@
+-- Document 01, "The station sheet" and the order of refusals: the decisions by a whole sheet.
+--   decideSheet, decideByuidSheet, decidePortaclSheet == every check of the sheet, then the decision by its texts
+-- Assumes nothing: these are definitions.
+use Prim.Native.Nat.{ℕ, _+_}
+use mathlib.Core.List.{List}
+use Rattle.section.specs.Refusal.{Outcome, answered, _>>=_}
+use Rattle.section.specs.Section.{part}
+use Rattle.address.specs.declared.Addr.{Addr}
+use Rattle.elements.specs.Request.{Request}
+use Rattle.rules.specs.declared.Answer.{Answer}
+use Rattle.rules.specs.declared.File.{File}
+use Rattle.rules.specs.declared.File.the-variants.{Neither, Allow, Deny}
+use Rattle.rules.specs.Search.{answer, decide}
+use Rattle.byuid.specs.declared.Decision.{Decision as ByuidDecision}
+use Rattle.byuid.specs.Byuid.{decideByuid}
+use Rattle.portacl.specs.declared.Decision.{Decision as PortaclDecision}
+use Rattle.portacl.specs.declared.Settings.{Settings}
+use Rattle.portacl.specs.Portacl.{Bind, decidePortacl}
+use Rattle.sheet.specs.declared.Parts.{Parts}
+use Rattle.sheet.specs.Sheet.{textAt, unpack}
+
+abbrev pub filePlace : Parts → File → ℕ
+filePlace p Neither = 0
+filePlace p Allow = p .allow .place
+filePlace p Deny = p .deny .place
+
+-- "The verdict hands back the raw command as a part of the allow file or of the deny file": as that part of the sheet, so
+-- that its bytes are found by textAt
+abbrev pub inSheet : Parts → Answer → Answer
+inSheet p a = answer (a .verdict) (a .file) (a .line) (part (filePlace p (a .file) + a .command .place) (a .command .len))
+
+unfoldable pub decideSheet : List ℕ → Request → Outcome Answer
+decideSheet sheet r = do
+  p ← unpack sheet
+  a ← decide (textAt sheet (p .allow)) (textAt sheet (p .deny)) r
+  answered (inSheet p a)
+
+unfoldable pub decideByuidSheet : List ℕ → ℕ → Addr → ℕ → Outcome ByuidDecision
+decideByuidSheet sheet port a uid = do
+  p ← unpack sheet
+  decideByuid (textAt sheet (p .byuid)) port a uid
+
+unfoldable pub decidePortaclSheet : List ℕ → Settings → Bind → Outcome PortaclDecision
+decidePortaclSheet sheet s b = do
+  p ← unpack sheet
+  decidePortacl (textAt sheet (p .portacl)) s b
