@@ -1,8 +1,8 @@
 // What the numbers of a request stand for; a number outside its kinds stands for what is refused by 13.
 use address::Addr;
+use elements::User;
 use patterns::Host;
 use patterns::Name;
-use elements::User;
 use portacl::Protocol;
 ghost use mathlib.Core.Path.{_≡_};
 ghost use mathlib.Core.List.{[]};

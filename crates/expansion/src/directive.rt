@@ -4,9 +4,9 @@
 //   put_inserted(out, at, y, ..) == writes them, the unsafe ones as underscores
 use crate::safe_byte;
 use address::Addr;
+use elements::User;
 use patterns::Host;
 use patterns::Name;
-use elements::User;
 ghost use mathlib.Core.Path.{_≡_};
 ghost use mathlib.Core.Bool.{true, false, _&&_, _||_};
 ghost use mathlib.Core.List.{_++_, map};
