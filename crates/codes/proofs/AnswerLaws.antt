@@ -4,9 +4,11 @@ use Prim.Native.Nat.{ℕ}
 use mathlib.Core.List.{List}
 use mathlib.Core.Path.{_≡_}
 use Rattle.section.specs.declared.Written.{Written}
+use Rattle.section.specs.declared.Refusal.{Refusal}
 use Rattle.section.specs.Refusal.{Outcome, refused, answered, writtenOf}
 use Rattle.address.specs.declared.Addr.{Addr}
 use Rattle.address.specs.declared.read.AddressRead.{AddressRead}
+use Rattle.address.specs.declared.read.AddressRead.the-variants as R
 use Rattle.address.specs.Address.{asRead}
 use Rattle.rules.specs.declared.Answer.{Answer}
 use Rattle.rules.specs.declared.Ruling.{Ruling as VerdictRuling}
@@ -14,9 +16,11 @@ use Rattle.rules.specs.declared.Ruling.the-variants as Ver
 use Rattle.rules.specs.Search as Search
 use Rattle.byuid.specs.declared.Decision.{Decision as ByuidDecision}
 use Rattle.byuid.specs.declared.Ruling.{Ruling as ByuidRuling}
+use Rattle.byuid.specs.declared.Ruling.the-variants as B
 use Rattle.byuid.specs.Byuid as Byuid
 use Rattle.portacl.specs.declared.Decision.{Decision as PortaclDecision}
 use Rattle.portacl.specs.declared.Ruling.{Ruling as PortaclRuling}
+use Rattle.portacl.specs.declared.Ruling.the-variants as P
 use Rattle.portacl.specs.Portacl as Portacl
 use Rattle.sheet.specs.declared.Parts.{Parts}
 use Rattle.sheet.specs.declared.unpack.Unpacked.{Unpacked}
@@ -27,7 +31,7 @@ use Rattle.codes.specs.declared.GateCheck.{GateCheck}
 use Rattle.codes.specs.declared.GateParts.{GateParts}
 use Rattle.codes.specs.declared.GateWritten.{GateWritten}
 use Rattle.codes.specs.declared.GateAddress.{GateAddress}
-use Rattle.codes.specs.Answers.{answerNumbers, verdictAnswer, byuidAnswer, portaclAnswer, gateParts, checkAnswer, partsAnswer, writtenAnswer, addressAnswer}
+use Rattle.codes.specs.Answers.{refusalAnswer, wordAnswer, byuidCode, portaclCode, addressNumbers, answerNumbers, verdictAnswer, byuidAnswer, portaclAnswer, gateParts, checkAnswer, partsAnswer, writtenAnswer, addressAnswer}
 use Rattle.codes.specs.Code.{byuidNumbers, portaclNumbers, verdictNumbers, checkNumbers, partsNumbers, writtenNumbers, readNumbers}
 
 pub byuid-numbers : (o : Outcome ByuidDecision) (x : ByuidRuling) (a : GateAnswer) → x ≡ Byuid.rulingOf o → a ≡ byuidNumbers x → a ≡ byuidAnswer o
@@ -72,3 +76,33 @@ pub read-numbers : (o : Outcome Addr) (x : AddressRead) (a : GateAddress) → x 
 unfolding readNumbers addressAnswer
 read-numbers (refused r) x a e f = rw e at f
 read-numbers (answered b) x a e f = rw e at f
+
+pub byuid-refused : (x : ByuidRuling) (r : Refusal) (a : GateAnswer) → x ≡ B.Refused r → a ≡ refusalAnswer r → a ≡ byuidNumbers x
+unfolding byuidNumbers
+byuid-refused x r a e f = rw e f
+
+pub byuid-answered : (x : ByuidRuling) (d : ByuidDecision) (k : ℕ) (a : GateAnswer) → x ≡ B.Answered d → k ≡ byuidCode d → a ≡ wordAnswer k → a ≡ byuidNumbers x
+unfolding byuidNumbers
+byuid-answered x d k a e g f = rw e (rw g at f)
+
+pub portacl-refused : (x : PortaclRuling) (r : Refusal) (a : GateAnswer) → x ≡ P.Refused r → a ≡ refusalAnswer r → a ≡ portaclNumbers x
+unfolding portaclNumbers
+portacl-refused x r a e f = rw e f
+
+pub portacl-answered : (x : PortaclRuling) (d : PortaclDecision) (k : ℕ) (a : GateAnswer) → x ≡ P.Answered d → k ≡ portaclCode d → a ≡ wordAnswer k → a ≡ portaclNumbers x
+unfolding portaclNumbers
+portacl-answered x d k a e g f = rw e (rw g at f)
+
+pub verdict-refused : (x : VerdictRuling) (r : Refusal) (a : GateAnswer) → x ≡ Ver.Refused r → a ≡ refusalAnswer r → a ≡ verdictNumbers x
+unfolding verdictNumbers
+verdict-refused x r a e f = rw e f
+
+pub parts-refused : (x : Unpacked) (r : Refusal) (a : GateParts) → x ≡ Un.Refused r → a ≡ partsNumbers (Un.Refused r) → a ≡ partsNumbers x
+parts-refused x r a e f = rw e f
+
+pub read-refused : (x : AddressRead) (r : Refusal) (a : GateAddress) → x ≡ R.Refused r → a ≡ readNumbers (R.Refused r) → a ≡ readNumbers x
+read-refused x r a e f = rw e f
+
+pub read-found : (x : AddressRead) (b : Addr) (a : GateAddress) → x ≡ R.Address b → a ≡ addressNumbers b → a ≡ readNumbers x
+unfolding readNumbers
+read-found x b a e f = rw e f

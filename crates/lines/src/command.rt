@@ -59,18 +59,7 @@ pub fn trim(s: &[u8]) -> &[u8]
 pub fn is_directive(b: u8) -> bool
     ensures { λ r. ⌜ r ≡ among "aAnNhHucdsp%" b ⌝ }
 {
-    (b == 97)
-        | (b == 65)
-        | (b == 110)
-        | (b == 78)
-        | (b == 104)
-        | (b == 72)
-        | (b == 117)
-        | (b == 99)
-        | (b == 100)
-        | (b == 115)
-        | (b == 112)
-        | (b == 37)
+    (b == 97) | ((b == 65) | ((b == 110) | ((b == 78) | ((b == 104) | ((b == 72) | ((b == 117) | ((b == 99) | ((b == 100) | ((b == 115) | ((b == 112) | (b == 37)))))))))))
 }
 
 // Whether a percent of s stands at its end or takes a byte that none may.

@@ -15,8 +15,7 @@ abbrev μ-loop : tie.MeasureT-loop
 
 pub any-grants-spec : {M : Type 1} → statement M
 any-grants-spec =
-    tie.close
-    (tie.spec
+    let facts = tie.spec
     Inv-loop
     μ-loop
     (λ c. search (lines-start, needs))
@@ -33,4 +32,5 @@ any-grants-spec =
     (λ c. search needs)
     (λ c. search needs)
     (λ c. search (lines-more, needs))
-    (λ c. search (lines-none, needs)))
+    (λ c. search (lines-none, needs)) in
+    tie.close facts

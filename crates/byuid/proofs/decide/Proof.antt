@@ -6,8 +6,7 @@ use Rattle.byuid.proofs.decide.Tie as tie
 
 pub decide-spec : {M : Type 1} → statement M
 decide-spec =
-    tie.close
-    (tie.spec
+    let facts = tie.spec
     (λ c κs. search needs)
     (λ c κs. search needs)
     (λ c. search (over-limit, needs))
@@ -19,4 +18,5 @@ decide-spec =
     (λ c κs. search needs)
     (λ c. search (unknown-address, needs))
     (λ c. search (answered-v4, needs))
-    (λ c. search (answered-v6, needs)))
+    (λ c. search (answered-v6, needs)) in
+    tie.close facts

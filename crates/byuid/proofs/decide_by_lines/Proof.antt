@@ -6,9 +6,9 @@ use Rattle.byuid.proofs.decide_by_lines.Tie as tie
 
 pub decide-by-lines-spec : {M : Type 1} → statement M
 decide-by-lines-spec =
-    tie.close
-    (tie.spec
+    let facts = tie.spec
     (λ c. search (not-ruled, needs))
     (λ c κs. search needs)
     (λ c. search (granted, needs))
-    (λ c. search (no-line, needs)))
+    (λ c. search (no-line, needs)) in
+    tie.close facts

@@ -7,12 +7,12 @@ use Rattle.portacl.proofs.check.Tie as tie
 
 pub check-spec : {M : Type 1} → statement M
 check-spec =
-    tie.close
-    (tie.spec
+    let facts = tie.spec
     (λ c. search needs)
     (λ c κs. search needs)
     (λ c. search needs)
     (λ c κs. search needs)
     (λ c. search needs)
     (λ c. search (check-bad, needs))
-    (λ c. search (check-sound, needs)))
+    (λ c. search (check-sound, needs)) in
+    tie.close facts

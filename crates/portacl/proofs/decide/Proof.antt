@@ -7,8 +7,7 @@ use Rattle.portacl.proofs.decide.Tie as tie
 
 pub decide-spec : {M : Type 1} → statement M
 decide-spec =
-    tie.close
-    (tie.spec
+    let facts = tie.spec
     (λ c κs. search needs)
     (λ c κs. search needs)
     (λ c. search (decide-over, needs))
@@ -24,4 +23,5 @@ decide-spec =
     (λ c. search needs)
     (λ c κs. search needs)
     (λ c. search (decide-bad, needs))
-    (λ c. search (decide-answer, needs)))
+    (λ c. search (decide-answer, needs)) in
+    tie.close facts

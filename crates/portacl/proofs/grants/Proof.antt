@@ -15,9 +15,9 @@ returns-2 c = rw (← (c .before .before .same-protocol .ensures), c .if1 .left)
 
 pub grants-spec : {M : Type 1} → statement M
 grants-spec =
-    tie.close
-    (tie.spec
+    let facts = tie.spec
     (λ c κs. search needs)
     (λ c κs. search needs)
     returns
-    returns-2)
+    returns-2 in
+    tie.close facts

@@ -13,8 +13,8 @@ returns-2 c = rw (c .if1 .left) (sym (or-false _))
 
 pub is-own-spec : {M : Type 1} → statement M
 is-own-spec =
-    tie.close
-    (tie.spec
+    let facts = tie.spec
     (λ c κs. search needs)
     (λ c. rw (c .before .if1 .taken) (c .is-among .ensures))
-    returns-2)
+    returns-2 in
+    tie.close facts

@@ -28,8 +28,7 @@ returns-4 c = search (word-neither ("uid", false) ("gid", true) idData, needs)
 
 pub read-entry-spec : {M : Type 1} → statement M
 read-entry-spec =
-    tie.close
-    (tie.spec
+    let facts = tie.spec
     (λ c κs. search needs)
     returns
     (λ c. search needs)
@@ -49,4 +48,5 @@ read-entry-spec =
     (λ c. search needs)
     (λ c κs. search needs)
     returns-3
-    returns-4)
+    returns-4 in
+    tie.close facts

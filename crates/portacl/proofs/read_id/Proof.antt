@@ -29,8 +29,7 @@ returns-3 c =
 
 pub read-id-spec : {M : Type 1} → statement M
 read-id-spec =
-    tie.close
-    (tie.spec
+    let facts = tie.spec
     (λ c κs. search needs)
     returns
     (λ c. search needs)
@@ -43,4 +42,5 @@ read-id-spec =
     (λ c. search needs)
     (λ c κs. search needs)
     returns-2
-    returns-3)
+    returns-3 in
+    tie.close facts

@@ -36,8 +36,7 @@ returns-4 c =
 
 pub read-protocol-spec : {M : Type 1} → statement M
 read-protocol-spec =
-    tie.close
-    (tie.spec
+    let facts = tie.spec
     (λ c κs. search needs)
     returns
     (λ c. search needs)
@@ -57,4 +56,5 @@ read-protocol-spec =
     (λ c. search needs)
     (λ c κs. search needs)
     returns-3
-    returns-4)
+    returns-4 in
+    tie.close facts

@@ -16,8 +16,7 @@ abbrev μ-loop : tie.MeasureT-loop
 
 pub walk-entries-spec : {M : Type 1} → statement M
 walk-entries-spec =
-    tie.close
-    (tie.spec
+    let facts = tie.spec
     Inv-loop
     μ-loop
     (λ c. search (walk-empty, needs))
@@ -39,4 +38,5 @@ walk-entries-spec =
     (λ c. search needs)
     (λ c. search needs)
     (λ c. search (walking-on, needs))
-    (λ c. search (walking-end, needs)))
+    (λ c. search (walking-end, needs)) in
+    tie.close facts

@@ -15,12 +15,12 @@ returns-2 c =
 
 pub ends-with-fold-spec : {M : Type 1} → statement M
 ends-with-fold-spec =
-    tie.close
-    (tie.spec
+    let facts = tie.spec
     (λ c. rw (le-ltb _ _ (c .if1 .taken)))
     (λ c. search needs)
     (λ c. search needs)
     (λ c. search needs)
     (λ c. search needs)
     (λ c κs. search needs)
-    returns-2)
+    returns-2 in
+    tie.close facts

@@ -22,8 +22,7 @@ loop-again c =
 
 pub equal-fold-spec : {M : Type 1} → statement M
 equal-fold-spec =
-    tie.close
-    (tie.spec
+    let facts = tie.spec
     Inv-loop
     μ-loop
     (λ c. sym (equalFold-lengths _ _ (c .if1 .taken)))
@@ -36,4 +35,5 @@ equal-fold-spec =
     (λ c. search needs)
     (λ c. search needs)
     loop-again
-    (λ c. search (all-agree equalFold-by, needs)))
+    (λ c. search (all-agree equalFold-by, needs)) in
+    tie.close facts

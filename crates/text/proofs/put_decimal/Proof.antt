@@ -13,8 +13,7 @@ abbrev μ-loop : tie.MeasureT-loop
 
 pub put-decimal-spec : {M : Type 1} → statement M
 put-decimal-spec =
-    tie.close
-    (tie.spec
+    let facts = tie.spec
     Inv-loop
     μ-loop
     (λ c κs. search needs)
@@ -28,4 +27,5 @@ put-decimal-spec =
     (λ c. search (written-step, needs))
     (λ c. search needs)
     (λ c. search needs)
-    (λ c. search (written-all, needs)))
+    (λ c. search (written-all, needs)) in
+    tie.close facts

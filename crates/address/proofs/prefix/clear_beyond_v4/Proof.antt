@@ -11,4 +11,6 @@ returns : tie.Need-returns
 returns c = c .clear-word .ensures ∙ ap (λ (k : ℕ). eqb (c .before .args .n % 2 ^ k) 0) (omega arith)
 
 pub clear-beyond-v4-spec : {M : Type 1} → statement M
-clear-beyond-v4-spec = tie.close (tie.spec (λ c. search needs) (λ c κs. search needs) returns)
+clear-beyond-v4-spec =
+    let facts = tie.spec (λ c. search needs) (λ c κs. search needs) returns in
+    tie.close facts

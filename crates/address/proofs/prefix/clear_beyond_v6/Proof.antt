@@ -16,4 +16,6 @@ returns-3 : tie.Need-returns-3
 returns-3 c = c .clear-word2 .ensures ∙ sym (clear-high 64 _ (search needs) _ _ (search needs) (c .before .if2 .left))
 
 pub clear-beyond-v6-spec : {M : Type 1} → statement M
-clear-beyond-v6-spec = tie.close (tie.spec (λ c κs. search needs) returns returns-2 (λ c κs. search needs) returns-3)
+clear-beyond-v6-spec =
+    let facts = tie.spec (λ c κs. search needs) returns returns-2 (λ c κs. search needs) returns-3 in
+    tie.close facts

@@ -8,4 +8,6 @@ returns : tie.Need-returns
 returns c = clear-mask 64 _ _ (c .before .pre) (c .mask-beyond .ensures) _
 
 pub clear-word-spec : {M : Type 1} → statement M
-clear-word-spec = tie.close (tie.spec (λ c κs. search needs) returns)
+clear-word-spec =
+    let facts = tie.spec (λ c κs. search needs) returns in
+    tie.close facts

@@ -17,4 +17,5 @@ returns-3 c = c .same-word2 .ensures ∙ sym (samePrefix-low 64 _ (search needs)
 
 pub same-prefix-v6-spec : {M : Type 1} → statement M
 same-prefix-v6-spec =
-    tie.close (tie.spec (λ c κs. search needs) returns returns-2 (λ c. search needs) (λ c κs. search needs) returns-3)
+    let facts = tie.spec (λ c κs. search needs) returns returns-2 (λ c. search needs) (λ c κs. search needs) returns-3 in
+    tie.close facts

@@ -8,4 +8,6 @@ returns : tie.Need-returns
 returns c = samePrefix-mask 64 _ _ (c .before .pre) (c .mask-beyond .ensures) _ _ (search needs) (search needs)
 
 pub same-word-spec : {M : Type 1} → statement M
-same-word-spec = tie.close (tie.spec (λ c κs. search needs) returns)
+same-word-spec =
+    let facts = tie.spec (λ c κs. search needs) returns in
+    tie.close facts

@@ -11,8 +11,7 @@ slice-aggregate-read-group c = sym (length-take-le _ _ (search needs))
 
 pub first-group-spec : {M : Type 1} → statement M
 first-group-spec =
-    tie.close
-    (tie.spec
+    let facts = tie.spec
     (λ c κs. search needs)
     (λ c. search (group-last, needs))
     slice-aggregate-read-group
@@ -21,4 +20,5 @@ first-group-spec =
     (λ c. search needs)
     (λ c. search needs)
     (λ c. search (group-nothing, needs))
-    (λ c. search (group-more, needs)))
+    (λ c. search (group-more, needs)) in
+    tie.close facts

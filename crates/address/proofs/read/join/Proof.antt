@@ -6,11 +6,11 @@ use Rattle.address.proofs.read.join.Tie as tie
 
 pub join-spec : {M : Type 1} → statement M
 join-spec =
-    tie.close
-    (tie.spec
+    let facts = tie.spec
     (λ c. search needs)
     (λ c κs. search needs)
     (λ c. record { fits = search (join-high, needs) })
     (λ c. record { fits = search (join-low, needs) })
     (λ c. search (join-value, needs))
-    (λ c. search (join-over, needs)))
+    (λ c. search (join-over, needs)) in
+    tie.close facts

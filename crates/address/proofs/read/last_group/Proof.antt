@@ -6,8 +6,7 @@ use Rattle.address.proofs.read.last_group.Tie as tie
 
 pub last-group-spec : {M : Type 1} → statement M
 last-group-spec =
-    tie.close
-    (tie.spec
+    let facts = tie.spec
     (λ c κs. search needs)
     (λ c. search needs)
     (λ c κs. search needs)
@@ -16,4 +15,5 @@ last-group-spec =
     (λ c κs. search (row-room, group-lt, needs))
     (λ c. search (last-tail, needs))
     (λ c. search (last-nothing, needs))
-    (λ c. search (last-value, needs)))
+    (λ c. search (last-value, needs)) in
+    tie.close facts

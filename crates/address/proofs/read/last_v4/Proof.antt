@@ -6,8 +6,7 @@ use Rattle.address.proofs.read.last_v4.Tie as tie
 
 pub last-v4-spec : {M : Type 1} → statement M
 last-v4-spec =
-    tie.close
-    (tie.spec
+    let facts = tie.spec
     (λ c κs. search needs)
     (λ c. search needs)
     (λ c. search needs)
@@ -15,4 +14,5 @@ last-v4-spec =
     (λ c κs. search (row-room-v4, needs))
     (λ c. search (tail-nothing, needs))
     (λ c. search (tail-full, needs))
-    (λ c. search (tail-value, needs)))
+    (λ c. search (tail-value, needs)) in
+    tie.close facts

@@ -14,8 +14,7 @@ abbrev μ-loop : tie.MeasureT-loop
 
 pub pad-spec : {M : Type 1} → statement M
 pad-spec =
-    tie.close
-    (tie.spec
+    let facts = tie.spec
     Inv-loop
     μ-loop
     (λ c. search (padded-start, needs))
@@ -23,4 +22,5 @@ pad-spec =
     (λ c. search needs)
     (λ c. search needs)
     (λ c. search (padded-step, needs))
-    (λ c. search (padded-end, needs)))
+    (λ c. search (padded-end, needs)) in
+    tie.close facts

@@ -6,8 +6,7 @@ use Rattle.address.proofs.read.read_address.Tie as tie
 
 pub read-address-spec : {M : Type 1} → statement M
 read-address-spec =
-    tie.close
-    (tie.spec
+    let facts = tie.spec
     (λ c κs. search needs)
     (λ c. search needs)
     (λ c κs. search needs)
@@ -17,4 +16,5 @@ read-address-spec =
     (λ c. search needs)
     (λ c. search (address-none, needs))
     (λ c. search (address-v6, needs))
-    (λ c. search (address-v4, needs)))
+    (λ c. search (address-v4, needs)) in
+    tie.close facts

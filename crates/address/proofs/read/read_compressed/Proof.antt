@@ -18,8 +18,7 @@ join-requires c κs =
 
 pub read-compressed-spec : {M : Type 1} → statement M
 read-compressed-spec =
-    tie.close
-    (tie.spec
+    let facts = tie.spec
     slice-aggregate-read-groups
     (λ c κs. search needs)
     (λ c. search needs)
@@ -34,4 +33,5 @@ read-compressed-spec =
     join-requires
     (λ c. search (sides-left, needs))
     (λ c. search (sides-right, needs))
-    (λ c. search (sides-join, needs)))
+    (λ c. search (sides-join, needs)) in
+    tie.close facts

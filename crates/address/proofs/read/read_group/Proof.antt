@@ -19,8 +19,7 @@ mul-n c = omega (arith, hex-mul _ _ _ (c .before .before .before .before .loop .
 
 pub read-group-spec : {M : Type 1} → statement M
 read-group-spec =
-    tie.close
-    (tie.spec
+    let facts = tie.spec
     Inv-loop
     μ-loop
     (λ c. search (group-empty, needs))
@@ -34,4 +33,5 @@ read-group-spec =
     (λ c. search needs)
     (λ c. search needs)
     (λ c. search (hex-step, needs))
-    (λ c. search (hex-done, needs)))
+    (λ c. search (hex-done, needs)) in
+    tie.close facts

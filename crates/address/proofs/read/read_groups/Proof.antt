@@ -14,8 +14,7 @@ abbrev μ-loop : tie.MeasureT-loop
 
 pub read-groups-spec : {M : Type 1} → statement M
 read-groups-spec =
-    tie.close
-    (tie.spec
+    let facts = tie.spec
     Inv-loop
     μ-loop
     (λ c. search (no-groups, needs))
@@ -38,4 +37,5 @@ read-groups-spec =
     (λ c. record { fits = search (row-at, needs) })
     (λ c. search needs)
     (λ c. search (row-step, needs))
-    (λ c. search (row-many, needs)))
+    (λ c. search (row-many, needs)) in
+    tie.close facts

@@ -21,8 +21,7 @@ mul-n c = omega (arith, fields-room _ _ _ _ (c .before .before .before .before .
 
 pub read-v4-spec : {M : Type 1} → statement M
 read-v4-spec =
-    tie.close
-    (tie.spec
+    let facts = tie.spec
     Inv-loop
     μ-loop
     (λ c. search (fields-start, needs))
@@ -44,4 +43,5 @@ read-v4-spec =
     (λ c. search needs)
     (λ c. search needs)
     (λ c. search (fields-more, needs))
-    (λ c. search (fields-many, needs)))
+    (λ c. search (fields-many, needs)) in
+    tie.close facts

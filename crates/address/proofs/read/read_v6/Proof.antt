@@ -6,8 +6,7 @@ use Rattle.address.proofs.read.read_v6.Tie as tie
 
 pub read-v6-spec : {M : Type 1} → statement M
 read-v6-spec =
-    tie.close
-    (tie.spec
+    let facts = tie.spec
     (λ c κs. search needs)
     (λ c κs. search (v6-two, needs))
     (λ c. search (v6-compressed, needs))
@@ -16,4 +15,5 @@ read-v6-spec =
     (λ c. search needs)
     (λ c. search (v6-nothing, needs))
     (λ c. search (v6-eight, needs))
-    (λ c. search (v6-fewer, needs)))
+    (λ c. search (v6-fewer, needs)) in
+    tie.close facts

@@ -6,11 +6,11 @@ use Rattle.byuid.proofs.line.addresses_hold.Tie as tie
 
 pub addresses-hold-spec : {M : Type 1} → statement M
 addresses-hold-spec =
-    tie.close
-    (tie.spec
+    let facts = tie.spec
     (λ c κs. search needs)
     (λ c. search needs)
     (λ c κs. search needs)
     (λ c. search needs)
     (λ c. search (or-nothing, needs))
-    (λ c. search (or-is, needs)))
+    (λ c. search (or-is, needs)) in
+    tie.close facts

@@ -6,8 +6,7 @@ use Rattle.byuid.proofs.line.between.Tie as tie
 
 pub between-spec : {M : Type 1} → statement M
 between-spec =
-    tie.close
-    (tie.spec
+    let facts = tie.spec
     (λ c. search needs)
     (λ c. search needs)
     (λ c. search needs)
@@ -16,4 +15,5 @@ between-spec =
     (λ c κs. search needs)
     (λ c. search needs)
     (λ c. search needs)
-    (λ c. search (between-value, needs)))
+    (λ c. search (between-value, needs)) in
+    tie.close facts

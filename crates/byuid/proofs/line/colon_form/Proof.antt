@@ -11,8 +11,7 @@ slice-aggregate-net-holds c = sym (length-take-le _ _ (search needs))
 
 pub colon-form-spec : {M : Type 1} → statement M
 colon-form-spec =
-    tie.close
-    (tie.spec
+    let facts = tie.spec
     (λ c κs. search needs)
     slice-aggregate-net-holds
     (λ c κs. search needs)
@@ -23,4 +22,5 @@ colon-form-spec =
     (λ c κs. search needs)
     (λ c κs. search needs)
     (λ c. search (colon-mark, needs))
-    (λ c. search (colon-no-mark, needs)))
+    (λ c. search (colon-no-mark, needs)) in
+    tie.close facts

@@ -11,8 +11,7 @@ slice-aggregate-addresses-hold c = sym (length-take-le _ _ (search needs))
 
 pub comma-form-spec : {M : Type 1} → statement M
 comma-form-spec =
-    tie.close
-    (tie.spec
+    let facts = tie.spec
     (λ c κs. search needs)
     slice-aggregate-addresses-hold
     (λ c κs. search needs)
@@ -23,4 +22,5 @@ comma-form-spec =
     (λ c κs. search needs)
     (λ c κs. search needs)
     (λ c. search (comma-mark, needs))
-    (λ c. search (comma-no-mark, needs)))
+    (λ c. search (comma-no-mark, needs)) in
+    tie.close facts

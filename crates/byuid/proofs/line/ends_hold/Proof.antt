@@ -5,4 +5,6 @@ use Rattle.byuid.proofs.line.ends_hold.Statement.{statement}
 use Rattle.byuid.proofs.line.ends_hold.Tie as tie
 
 pub ends-hold-spec : {M : Type 1} → statement M
-ends-hold-spec = tie.close (tie.spec (λ c κs. search needs) (λ c κs. search needs) (λ c κs. search needs) (λ c. search (ends-held, needs)))
+ends-hold-spec =
+    let facts = tie.spec (λ c κs. search needs) (λ c κs. search needs) (λ c κs. search needs) (λ c. search (ends-held, needs)) in
+    tie.close facts

@@ -6,8 +6,7 @@ use Rattle.byuid.proofs.line.grants.Tie as tie
 
 pub grants-spec : {M : Type 1} → statement M
 grants-spec =
-    tie.close
-    (tie.spec
+    let facts = tie.spec
     (λ c. search needs)
     (λ c. search needs)
     (λ c κs. search needs)
@@ -17,4 +16,5 @@ grants-spec =
     (λ c κs. search needs)
     (λ c. search (grants-unknown, needs))
     (λ c. search (grants-v4, needs))
-    (λ c. search (grants-v6, needs)))
+    (λ c. search (grants-v6, needs)) in
+    tie.close facts

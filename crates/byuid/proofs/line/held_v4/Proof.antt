@@ -6,11 +6,11 @@ use Rattle.byuid.proofs.line.held_v4.Tie as tie
 
 pub held-v4-spec : {M : Type 1} → statement M
 held-v4-spec =
-    tie.close
-    (tie.spec
+    let facts = tie.spec
     (λ c κs. search needs)
     (λ c. search needs)
     (λ c κs. search needs)
     (λ c. search needs)
     (λ c. search (v4-colon, needs))
-    (λ c. search (v4-comma, needs)))
+    (λ c. search (v4-comma, needs)) in
+    tie.close facts

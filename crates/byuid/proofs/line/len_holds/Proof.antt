@@ -10,8 +10,7 @@ add-len c = record { fits = search (len-fits, needs) }
 
 pub len-holds-spec : {M : Type 1} → statement M
 len-holds-spec =
-    tie.close
-    (tie.spec
+    let facts = tie.spec
     (λ c κs. search needs)
     (λ c κs. search needs)
     (λ c. search needs)
@@ -22,4 +21,5 @@ len-holds-spec =
     (λ c κs. search (len-le, needs))
     (λ c. search (len-nothing, needs))
     (λ c. search (len-clear, needs))
-    (λ c. search (len-set, needs)))
+    (λ c. search (len-set, needs)) in
+    tie.close facts

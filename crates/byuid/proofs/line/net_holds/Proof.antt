@@ -11,8 +11,7 @@ slice-aggregate-read-number c = sym (length-take-le _ _ (search needs))
 
 pub net-holds-spec : {M : Type 1} → statement M
 net-holds-spec =
-    tie.close
-    (tie.spec
+    let facts = tie.spec
     (λ c κs. search needs)
     slice-aggregate-read-number
     (λ c κs. search needs)
@@ -25,4 +24,5 @@ net-holds-spec =
     (λ c κs. search needs)
     (λ c. search (net-nothing, needs))
     (λ c. search (net-mark, needs))
-    (λ c. search (net-no-mark, needs)))
+    (λ c. search (net-no-mark, needs)) in
+    tie.close facts

@@ -11,8 +11,7 @@ slice-aggregate-ends-hold c = sym (length-take-le _ _ (search needs))
 
 pub ports-hold-spec : {M : Type 1} → statement M
 ports-hold-spec =
-    tie.close
-    (tie.spec
+    let facts = tie.spec
     (λ c κs. search needs)
     slice-aggregate-ends-hold
     (λ c. search needs)
@@ -21,4 +20,5 @@ ports-hold-spec =
     (λ c. search needs)
     (λ c κs. search needs)
     (λ c. search (ports-mark, needs))
-    (λ c. search (ports-no-mark, needs)))
+    (λ c. search (ports-no-mark, needs)) in
+    tie.close facts

@@ -11,8 +11,7 @@ slice-aggregate-ends-hold c = sym (length-take-le _ _ (search needs))
 
 pub range-holds-spec : {M : Type 1} → statement M
 range-holds-spec =
-    tie.close
-    (tie.spec
+    let facts = tie.spec
     (λ c κs. search needs)
     slice-aggregate-ends-hold
     (λ c. search needs)
@@ -23,4 +22,5 @@ range-holds-spec =
     (λ c. search (range-mark, needs))
     (λ c κs. search needs)
     (λ c κs. search needs)
-    (λ c. search (range-alone, needs)))
+    (λ c. search (range-alone, needs)) in
+    tie.close facts

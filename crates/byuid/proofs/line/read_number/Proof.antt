@@ -6,8 +6,7 @@ use Rattle.byuid.proofs.line.read_number.Tie as tie
 
 pub read-number-spec : {M : Type 1} → statement M
 read-number-spec =
-    tie.close
-    (tie.spec
+    let facts = tie.spec
     (λ c. search needs)
     (λ c κs. search needs)
     (λ c κs. search needs)
@@ -18,4 +17,5 @@ read-number-spec =
     (λ c κs. search needs)
     (λ c. search (read-port, needs))
     (λ c. search (read-addr4, needs))
-    (λ c. search (read-addr6, needs)))
+    (λ c. search (read-addr6, needs)) in
+    tie.close facts

@@ -1,11 +1,10 @@
 -- A case at a time. Assumes nothing.
 use borrow.Author.Needs.{needs}
-use Rattle.codes.specs.Code.{byuidNumbers}
+use Rattle.codes.proofs.AnswerLaws.{byuid-refused, byuid-answered}
 use Rattle.codes.proofs.answer.byuid_numbers.Statement.{statement}
 use Rattle.codes.proofs.answer.byuid_numbers.Tie as tie
 
 pub byuid-numbers-spec : {M : Type 1} → statement M
-unfolding byuidNumbers
 byuid-numbers-spec =
     tie.close
     (tie.spec
@@ -14,5 +13,5 @@ byuid-numbers-spec =
     (λ c. search needs)
     (λ c κs. search needs)
     (λ c κs. search needs)
-    (λ c. cc)
-    (λ c. cc))
+    (λ c. search (byuid-refused, needs))
+    (λ c. search (byuid-answered, needs)))

@@ -1,11 +1,10 @@
 -- A case at a time. Assumes nothing.
 use borrow.Author.Needs.{needs}
-use Rattle.codes.specs.Code.{portaclNumbers}
+use Rattle.codes.proofs.AnswerLaws.{portacl-refused, portacl-answered}
 use Rattle.codes.proofs.answer.portacl_numbers.Statement.{statement}
 use Rattle.codes.proofs.answer.portacl_numbers.Tie as tie
 
 pub portacl-numbers-spec : {M : Type 1} → statement M
-unfolding portaclNumbers
 portacl-numbers-spec =
     tie.close
     (tie.spec
@@ -14,5 +13,5 @@ portacl-numbers-spec =
     (λ c. search needs)
     (λ c κs. search needs)
     (λ c κs. search needs)
-    (λ c. cc)
-    (λ c. cc))
+    (λ c. search (portacl-refused, needs))
+    (λ c. search (portacl-answered, needs)))

@@ -1,11 +1,10 @@
 -- A case at a time. Assumes nothing.
 use borrow.Author.Needs.{needs}
-use Rattle.codes.specs.Code.{readNumbers}
+use Rattle.codes.proofs.AnswerLaws.{read-refused, read-found}
 use Rattle.codes.proofs.answer.read_numbers.Statement.{statement}
 use Rattle.codes.proofs.answer.read_numbers.Tie as tie
 
 pub read-numbers-spec : {M : Type 1} → statement M
-unfolding readNumbers
 read-numbers-spec =
     tie.close
     (tie.spec
@@ -13,5 +12,5 @@ read-numbers-spec =
     (λ c κs. search needs)
     (λ c. search needs)
     (λ c κs. search needs)
-    (λ c. cc)
-    (λ c. cc))
+    (λ c. search (read-refused, needs))
+    (λ c. search (read-found, needs)))

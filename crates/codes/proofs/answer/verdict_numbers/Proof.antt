@@ -1,12 +1,10 @@
 -- A case at a time. Assumes nothing.
 use borrow.Author.Needs.{needs}
-use Rattle.codes.proofs.AnswerLaws.{verdict-answered}
-use Rattle.codes.specs.Code.{verdictNumbers}
+use Rattle.codes.proofs.AnswerLaws.{verdict-refused, verdict-answered}
 use Rattle.codes.proofs.answer.verdict_numbers.Statement.{statement}
 use Rattle.codes.proofs.answer.verdict_numbers.Tie as tie
 
 pub verdict-numbers-spec : {M : Type 1} → statement M
-unfolding verdictNumbers
 verdict-numbers-spec =
     tie.close
     (tie.spec
@@ -14,5 +12,5 @@ verdict-numbers-spec =
     (λ c κs. search needs)
     (λ c. search needs)
     (λ c κs. search needs)
-    (λ c. cc)
+    (λ c. search (verdict-refused, needs))
     (λ c. search (verdict-answered, needs)))

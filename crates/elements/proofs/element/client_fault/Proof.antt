@@ -7,11 +7,11 @@ use Rattle.elements.proofs.element.client_fault.Tie as tie
 
 pub client-fault-spec : {M : Type 1} → statement M
 client-fault-spec =
-    tie.close
-    (tie.spec
+    let facts = tie.spec
     (λ c κs. search needs)
     (λ c κs. search needs)
     (λ c. search (elementFault-reserved clientElement, needs))
     (λ c κs. search needs)
     (λ c. search (elementFault-sound clientElement, needs))
-    (λ c. search (elementFault-unknown clientElement, needs)))
+    (λ c. search (elementFault-unknown clientElement, needs)) in
+    tie.close facts

@@ -9,8 +9,7 @@ use Rattle.elements.proofs.element.client_found.Tie as tie
 
 pub client-found-spec : {M : Type 1} → statement M
 client-found-spec =
-    tie.close
-    (tie.spec
+    let facts = tie.spec
     (λ c κs. search needs)
     (λ c κs. search needs)
     (λ c κs. search needs)
@@ -23,4 +22,5 @@ client-found-spec =
     (λ c. sym (length-take-le _ _ (omega arith)))
     (λ c κs. search needs)
     (λ c. search (client-found-halves, needs))
-    (λ c. search (client-found-no, needs)))
+    (λ c. search (client-found-no, needs)) in
+    tie.close facts

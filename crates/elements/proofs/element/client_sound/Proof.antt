@@ -9,8 +9,7 @@ use Rattle.elements.proofs.element.client_sound.Tie as tie
 
 pub client-sound-spec : {M : Type 1} → statement M
 client-sound-spec =
-    tie.close
-    (tie.spec
+    let facts = tie.spec
     (λ c κs. search needs)
     (λ c. search (clientElement-whole, needs))
     (λ c. search needs)
@@ -21,4 +20,5 @@ client-sound-spec =
     (λ c. search needs)
     (λ c κs. search needs)
     (λ c. search (clientElement-halves, needs))
-    (λ c. search (clientElement-userless, needs)))
+    (λ c. search (clientElement-userless, needs)) in
+    tie.close facts

@@ -7,11 +7,11 @@ use Rattle.elements.proofs.element.daemon_fault.Tie as tie
 
 pub daemon-fault-spec : {M : Type 1} → statement M
 daemon-fault-spec =
-    tie.close
-    (tie.spec
+    let facts = tie.spec
     (λ c κs. search needs)
     (λ c κs. search needs)
     (λ c. search (elementFault-reserved daemonElement, needs))
     (λ c κs. search needs)
     (λ c. search (elementFault-sound daemonElement, needs))
-    (λ c. search (elementFault-unknown daemonElement, needs)))
+    (λ c. search (elementFault-unknown daemonElement, needs)) in
+    tie.close facts

@@ -9,8 +9,7 @@ use Rattle.elements.proofs.element.daemon_found.Tie as tie
 
 pub daemon-found-spec : {M : Type 1} → statement M
 daemon-found-spec =
-    tie.close
-    (tie.spec
+    let facts = tie.spec
     (λ c κs. search needs)
     (λ c κs. search needs)
     (λ c κs. search needs)
@@ -24,4 +23,5 @@ daemon-found-spec =
     (λ c κs. search needs)
     (λ c κs. search needs)
     (λ c. search (daemon-found-halves, needs))
-    (λ c. search (daemon-found-no, needs)))
+    (λ c. search (daemon-found-no, needs)) in
+    tie.close facts

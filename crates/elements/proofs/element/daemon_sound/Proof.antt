@@ -9,8 +9,7 @@ use Rattle.elements.proofs.element.daemon_sound.Tie as tie
 
 pub daemon-sound-spec : {M : Type 1} → statement M
 daemon-sound-spec =
-    tie.close
-    (tie.spec
+    let facts = tie.spec
     (λ c κs. search needs)
     (λ c. search (daemonElement-whole, needs))
     (λ c. search needs)
@@ -21,4 +20,5 @@ daemon-sound-spec =
     (λ c. search needs)
     (λ c κs. search needs)
     (λ c. search (daemonElement-halves, needs))
-    (λ c. search (daemonElement-nameless, needs)))
+    (λ c. search (daemonElement-nameless, needs)) in
+    tie.close facts

@@ -5,12 +5,12 @@ use Rattle.elements.proofs.element.host_fits.Tie as tie
 
 pub host-fits-spec : {M : Type 1} → statement M
 host-fits-spec =
-    tie.close
-    (tie.spec
+    let facts = tie.spec
     (λ c. search needs)
     (λ c. search needs)
     (λ c. search needs)
     (λ c κs. search needs)
     (λ c. search needs)
     (λ c. search needs)
-    (λ c. rw (c .before .enum-told3 .given .1) (c .size-fits .ensures)))
+    (λ c. rw (c .before .enum-told3 .given .1) (c .size-fits .ensures)) in
+    tie.close facts

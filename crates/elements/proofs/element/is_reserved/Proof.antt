@@ -6,8 +6,7 @@ use Rattle.elements.proofs.element.is_reserved.Tie as tie
 
 pub is-reserved-spec : {M : Type 1} → statement M
 is-reserved-spec =
-    tie.close
-    (tie.spec
+    let facts = tie.spec
     (λ c κs. search needs)
     (λ c. search (reservedStart-first, needs))
     (λ c. search (reservedStart-whole, needs))
@@ -16,4 +15,5 @@ is-reserved-spec =
     (λ c. search needs)
     (λ c. search needs)
     (λ c κs. search needs)
-    (λ c. search (reservedStart-half, needs)))
+    (λ c. search (reservedStart-half, needs)) in
+    tie.close facts

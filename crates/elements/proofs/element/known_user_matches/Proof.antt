@@ -7,8 +7,7 @@ use Rattle.elements.proofs.element.known_user_matches.Tie as tie
 
 pub known-user-matches-spec : {M : Type 1} → statement M
 known-user-matches-spec =
-    tie.close
-    (tie.spec
+    let facts = tie.spec
     (λ c κs. search needs)
     (λ c. search needs)
     (λ c κs. search needs)
@@ -22,4 +21,5 @@ known-user-matches-spec =
     (λ c. userTest-at _ _ _ (c .before .before .read-wildcard .ensures) (c .enum-told3 .given .1) _ _ _ refl)
     (λ c. userTest-at _ _ _ (c .before .before .read-wildcard .ensures) (c .enum-told4 .given .1) _ _ _ refl)
     (λ c. userTest-at _ _ _ (c .before .before .read-wildcard .ensures) (c .enum-told5 .given .1) _ _ _ refl)
-    (λ c. userTest-at _ _ _ (c .before .before .read-wildcard .ensures) (c .enum-told6 .given .1) _ _ _ refl))
+    (λ c. userTest-at _ _ _ (c .before .before .read-wildcard .ensures) (c .enum-told6 .given .1) _ _ _ refl) in
+    tie.close facts

@@ -6,9 +6,9 @@ use Rattle.elements.proofs.element.name_equals.Tie as tie
 
 pub name-equals-spec : {M : Type 1} → statement M
 name-equals-spec =
-    tie.close
-    (tie.spec
+    let facts = tie.spec
     (λ c κs. search needs)
     (λ c κs. search needs)
     (λ c. search (nameEquals-same, needs))
-    (λ c. search (nameEquals-differ, needs)))
+    (λ c. search (nameEquals-differ, needs)) in
+    tie.close facts

@@ -6,8 +6,7 @@ use Rattle.elements.proofs.element.user_found.Tie as tie
 
 pub user-found-spec : {M : Type 1} → statement M
 user-found-spec =
-    tie.close
-    (tie.spec
+    let facts = tie.spec
     (λ c. search needs)
     (λ c κs. search needs)
     (λ c κs. search needs)
@@ -19,4 +18,5 @@ user-found-spec =
     (λ c κs. search needs)
     (λ c. userFound-ask _ _ _ _ _ (c .before .before .enum-told .given .1) (c .before .user-sound .ensures) (c .ask-if .ensures))
     (λ c. userFound-unknown _ _ _ _ _ (c .before .before .enum-told2 .given .1) (c .before .unknown-user-matches .ensures) (c .found-if .ensures))
-    (λ c. userFound-known _ _ _ _ _ (c .before .before .enum-told3 .given .1) (c .before .known-user-matches .ensures) (c .found-if2 .ensures)))
+    (λ c. userFound-known _ _ _ _ _ (c .before .before .enum-told3 .given .1) (c .before .known-user-matches .ensures) (c .found-if2 .ensures)) in
+    tie.close facts

@@ -7,8 +7,7 @@ use Rattle.elements.proofs.element.user_sound.Tie as tie
 
 pub user-sound-spec : {M : Type 1} → statement M
 user-sound-spec =
-    tie.close
-    (tie.spec
+    let facts = tie.spec
     (λ c κs. search needs)
     (λ c. search needs)
     (λ c κs. search needs)
@@ -22,4 +21,5 @@ user-sound-spec =
     (λ c. userHalf-sound _ _ _ (c .before .before .read-wildcard .ensures) (c .enum-told3 .given .1) _ refl)
     (λ c. userHalf-sound _ _ _ (c .before .before .read-wildcard .ensures) (c .enum-told4 .given .1) _ refl)
     (λ c. userHalf-sound _ _ _ (c .before .before .read-wildcard .ensures) (c .enum-told5 .given .1) _ refl)
-    (λ c. userHalf-sound _ _ _ (c .before .before .read-wildcard .ensures) (c .enum-told6 .given .1) _ refl))
+    (λ c. userHalf-sound _ _ _ (c .before .before .read-wildcard .ensures) (c .enum-told6 .given .1) _ refl) in
+    tie.close facts

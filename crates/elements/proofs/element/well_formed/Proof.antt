@@ -6,10 +6,10 @@ use Rattle.elements.proofs.element.well_formed.Tie as tie
 
 pub well-formed-spec : {M : Type 1} → statement M
 well-formed-spec =
-    tie.close
-    (tie.spec
+    let facts = tie.spec
     (λ c κs. search needs)
     (λ c κs. search needs)
     (λ c κs. search needs)
     (λ c κs. search needs)
-    (λ c. search (wellFormed-fits, needs)))
+    (λ c. search (wellFormed-fits, needs)) in
+    tie.close facts

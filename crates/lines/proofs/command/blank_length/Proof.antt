@@ -17,8 +17,7 @@ abbrev μ-loop : tie.MeasureT-loop
 
 pub blank-length-spec : {M : Type 1} → statement M
 blank-length-spec =
-    tie.close
-    (tie.spec
+    let facts = tie.spec
     Inv-loop
     μ-loop
     (λ c. search needs)
@@ -28,4 +27,5 @@ blank-length-spec =
     (λ c. search needs)
     (λ c. search (passed-more, needs))
     (λ c. search (passed-stop, needs))
-    (λ c. search (spanLen-end, needs)))
+    (λ c. search (spanLen-end, needs)) in
+    tie.close facts

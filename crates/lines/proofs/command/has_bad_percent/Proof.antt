@@ -15,8 +15,7 @@ abbrev μ-loop : tie.MeasureT-loop
 
 pub has-bad-percent-spec : {M : Type 1} → statement M
 has-bad-percent-spec =
-    tie.close
-    (tie.spec
+    let facts = tie.spec
     Inv-loop
     μ-loop
     (λ c. search (checked-none, needs))
@@ -33,4 +32,5 @@ has-bad-percent-spec =
     (λ c. search needs)
     (λ c. search needs)
     (λ c. search (checked-other, needs))
-    (λ c. search (checked-end, needs)))
+    (λ c. search (checked-end, needs)) in
+    tie.close facts

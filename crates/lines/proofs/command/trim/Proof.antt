@@ -8,12 +8,12 @@ use Rattle.lines.proofs.command.trim.Tie as tie
 
 pub trim-spec : {M : Type 1} → statement M
 trim-spec =
-    tie.close
-    (tie.spec
+    let facts = tie.spec
     (λ c κs. search needs)
     (λ c. search needs)
     (λ c. search needs)
     (λ c. search needs)
     (λ c κs. search needs)
     (λ c. sym (length-take-le _ _ (c .before .unblanked-length .ensures .1)))
-    (λ c. search (trim-part, needs)))
+    (λ c. search (trim-part, needs)) in
+    tie.close facts

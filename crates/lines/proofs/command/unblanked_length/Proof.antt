@@ -13,8 +13,7 @@ abbrev μ-loop : tie.MeasureT-loop
 
 pub unblanked-length-spec : {M : Type 1} → statement M
 unblanked-length-spec =
-    tie.close
-    (tie.spec
+    let facts = tie.spec
     Inv-loop
     μ-loop
     (λ c. search (trimmed-none, needs))
@@ -24,4 +23,5 @@ unblanked-length-spec =
     (λ c. search needs)
     (λ c. search (trimmed-more, needs))
     (λ c. search (unblanked-stop, needs))
-    (λ c. search (unblanked-end, needs)))
+    (λ c. search (unblanked-end, needs)) in
+    tie.close facts

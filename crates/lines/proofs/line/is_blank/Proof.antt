@@ -19,8 +19,7 @@ abbrev μ-loop : tie.MeasureT-loop
 
 pub is-blank-spec : {M : Type 1} → statement M
 is-blank-spec =
-    tie.close
-    (tie.spec
+    let facts = tie.spec
     Inv-loop
     μ-loop
     (λ c. search needs)
@@ -33,4 +32,5 @@ is-blank-spec =
     (λ c. search needs)
     (λ c. search (pairAt-within, blank-pair, needs))
     (λ c. search (blank-stop, needs))
-    (λ c. search (blank-end, needs)))
+    (λ c. search (blank-end, needs)) in
+    tie.close facts

@@ -17,8 +17,7 @@ abbrev μ-loop : tie.MeasureT-loop
 
 pub is-comment-spec : {M : Type 1} → statement M
 is-comment-spec =
-    tie.close
-    (tie.spec
+    let facts = tie.spec
     Inv-loop
     μ-loop
     (λ c. search needs)
@@ -28,4 +27,5 @@ is-comment-spec =
     (λ c. search (pairAt-within, comment-skip, needs))
     (λ c. search needs)
     (λ c. search (comment-here, needs))
-    (λ c. search (comment-none, needs)))
+    (λ c. search (comment-none, needs)) in
+    tie.close facts

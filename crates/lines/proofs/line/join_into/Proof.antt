@@ -16,8 +16,7 @@ abbrev μ-loop : tie.MeasureT-loop
 
 pub join-into-spec : {M : Type 1} → statement M
 join-into-spec =
-    tie.close
-    (tie.spec
+    let facts = tie.spec
     Inv-loop
     μ-loop
     (λ c. search needs)
@@ -32,4 +31,5 @@ join-into-spec =
     (λ c. search needs)
     (λ c. search (joining-byte, needs))
     (λ c. search needs)
-    (λ c. joining-end (c .before .loop .inv .0) (c .loop-test .left)))
+    (λ c. joining-end (c .before .loop .inv .0) (c .loop-test .left)) in
+    tie.close facts

@@ -15,8 +15,7 @@ abbrev μ-loop : tie.MeasureT-loop
 
 pub joined-spec : {M : Type 1} → statement M
 joined-spec =
-    tie.close
-    (tie.spec
+    let facts = tie.spec
     Inv-loop
     μ-loop
     (λ c. search (measuring-start, needs))
@@ -29,4 +28,5 @@ joined-spec =
     (λ c. search needs)
     (λ c. search needs)
     (λ c. search (measuring-byte, needs))
-    (λ c. search (measuring-end, needs)))
+    (λ c. search (measuring-end, needs)) in
+    tie.close facts

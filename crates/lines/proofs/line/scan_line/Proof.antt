@@ -15,8 +15,7 @@ abbrev μ-loop : tie.MeasureT-loop
 
 pub scan-line-spec : {M : Type 1} → statement M
 scan-line-spec =
-    tie.close
-    (tie.spec
+    let facts = tie.spec
     Inv-loop
     μ-loop
     (λ c. search (scanning-start, needs))
@@ -33,4 +32,5 @@ scan-line-spec =
     (λ c. search needs)
     (λ c. search needs)
     (λ c. search (scanning-other, needs))
-    (λ c. search (scanning-end, scanLine-bounds, needs)))
+    (λ c. search (scanning-end, scanLine-bounds, needs)) in
+    tie.close facts

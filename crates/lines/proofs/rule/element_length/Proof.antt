@@ -17,8 +17,7 @@ abbrev μ-loop : tie.MeasureT-loop
 
 pub element-length-spec : {M : Type 1} → statement M
 element-length-spec =
-    tie.close
-    (tie.spec
+    let facts = tie.spec
     Inv-loop
     μ-loop
     (λ c. search needs)
@@ -28,4 +27,5 @@ element-length-spec =
     (λ c. search needs)
     (λ c. search (passed-more, needs))
     (λ c. search (passed-stop, needs))
-    (λ c. search (spanLen-end, needs)))
+    (λ c. search (spanLen-end, needs)) in
+    tie.close facts

@@ -6,12 +6,12 @@ use Rattle.lines.proofs.rule.element_span.Tie as tie
 
 pub element-span-spec : {M : Type 1} → statement M
 element-span-spec =
-    tie.close
-    (tie.spec
+    let facts = tie.spec
     (λ c κs. search needs)
     (λ c. search needs)
     (λ c. search needs)
     (λ c. search needs)
     (λ c κs. search needs)
     (λ c. search needs)
-    (λ c. search (elementSpan-is, needs)))
+    (λ c. search (elementSpan-is, needs)) in
+    tie.close facts

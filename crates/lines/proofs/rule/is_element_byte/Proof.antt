@@ -9,4 +9,6 @@ unfolding isElementByte
 returns c = cc
 
 pub is-element-byte-spec : {M : Type 1} → statement M
-is-element-byte-spec = tie.close (tie.spec (λ c κs. search needs) returns)
+is-element-byte-spec =
+    let facts = tie.spec (λ c κs. search needs) returns in
+    tie.close facts

@@ -6,11 +6,11 @@ use Rattle.patterns.proofs.net.bracket_covers.Tie as tie
 
 pub bracket-covers-spec : {M : Type 1} → statement M
 bracket-covers-spec =
-    tie.close
-    (tie.spec
+    let facts = tie.spec
     (λ c κs. search needs)
     (λ c. search needs)
     (λ c. search needs)
     (λ c κs. bracketPrefix-fits _ _ (c .before .before .before .read-bracket .ensures) _ _ _ (c .before .prefix .given .1))
     (λ c. search (prefixCovers-nothing, needs))
-    (λ c. prefixCovers-prefix _ _ (c .before .before .before .before .read-bracket .ensures) _ _ _ (c .before .before .prefix .given .1) _ _ (c .same-prefix-v6 .ensures)))
+    (λ c. prefixCovers-prefix _ _ (c .before .before .before .before .read-bracket .ensures) _ _ _ (c .before .before .prefix .given .1) _ _ (c .same-prefix-v6 .ensures)) in
+    tie.close facts

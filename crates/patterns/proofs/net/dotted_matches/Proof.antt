@@ -6,8 +6,7 @@ use Rattle.patterns.proofs.net.dotted_matches.Tie as tie
 
 pub dotted-matches-spec : {M : Type 1} → statement M
 dotted-matches-spec =
-    tie.close
-    (tie.spec
+    let facts = tie.spec
     (λ c. search needs)
     (λ c. search needs)
     (λ c κs. search needs)
@@ -15,4 +14,5 @@ dotted-matches-spec =
     (λ c. search needs)
     (λ c. search needs)
     (λ c. rw (c .before .before .before .addr .given .1) (dottedTest-net _ _ (search needs) _ (c .before .read-dotted .ensures) _ (c .net-covers .ensures)))
-    (λ c. search needs))
+    (λ c. search needs) in
+    tie.close facts

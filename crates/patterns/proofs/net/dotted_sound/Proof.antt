@@ -6,10 +6,10 @@ use Rattle.patterns.proofs.net.dotted_sound.Tie as tie
 
 pub dotted-sound-spec : {M : Type 1} → statement M
 dotted-sound-spec =
-    tie.close
-    (tie.spec
+    let facts = tie.spec
     (λ c κs. search needs)
     (λ c. search needs)
     (λ c. search needs)
     (λ c. search (dottedPattern-nothing, needs))
-    (λ c. dottedPattern-net _ _ (c .before .before .read-dotted .ensures) _ _ (c .enum-told2 .given .1)))
+    (λ c. dottedPattern-net _ _ (c .before .before .read-dotted .ensures) _ _ (c .enum-told2 .given .1)) in
+    tie.close facts

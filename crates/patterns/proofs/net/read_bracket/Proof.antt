@@ -9,8 +9,7 @@ use Rattle.patterns.proofs.net.read_bracket.Tie as tie
 
 pub read-bracket-spec : {M : Type 1} → statement M
 read-bracket-spec =
-    tie.close
-    (tie.spec
+    let facts = tie.spec
     (λ c. search (bracketPrefix-nil, needs))
     (λ c. search needs)
     (λ c. search needs)
@@ -25,4 +24,5 @@ read-bracket-spec =
     (λ c. search needs)
     (λ c κs. search needs)
     (λ c κs. search needs)
-    (λ c. search (bracketPrefix-pair, needs)))
+    (λ c. search (bracketPrefix-pair, needs)) in
+    tie.close facts

@@ -6,12 +6,12 @@ use Rattle.patterns.proofs.net.read_dotted.Tie as tie
 
 pub read-dotted-spec : {M : Type 1} → statement M
 read-dotted-spec =
-    tie.close
-    (tie.spec
+    let facts = tie.spec
     (λ c. search (dottedNet-nil, needs))
     (λ c. search needs)
     (λ c. search needs)
     (λ c κs. search needs)
     (λ c κs. search needs)
     (λ c. search (dottedNet-fields, needs))
-    (λ c. search (dottedNet-whole, needs)))
+    (λ c. search (dottedNet-whole, needs)) in
+    tie.close facts

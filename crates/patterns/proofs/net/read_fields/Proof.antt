@@ -25,8 +25,7 @@ step c =
 
 pub read-fields-spec : {M : Type 1} → statement M
 read-fields-spec =
-    tie.close
-    (tie.spec
+    let facts = tie.spec
     Inv-loop
     μ-loop
     (λ c. fields-start _)
@@ -45,4 +44,5 @@ read-fields-spec =
     (λ c. c .leading-net .ensures ∙ ap asNet (sym (step (c .before .before) .last (c .before .if1 .taken))))
     (λ c. search needs)
     (λ c. step (c .before) .more (c .if1 .left))
-    (λ c. search (fields-many, needs)))
+    (λ c. search (fields-many, needs)) in
+    tie.close facts

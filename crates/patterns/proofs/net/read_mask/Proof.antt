@@ -9,8 +9,7 @@ use Rattle.patterns.proofs.net.read_mask.Tie as tie
 
 pub read-mask-spec : {M : Type 1} → statement M
 read-mask-spec =
-    tie.close
-    (tie.spec
+    let facts = tie.spec
     (λ c κs. search needs)
     (λ c. search (maskNet-none, needs))
     (λ c. search needs)
@@ -21,4 +20,5 @@ read-mask-spec =
     (λ c. search needs)
     (λ c κs. search needs)
     (λ c κs. search needs)
-    (λ c. search (maskNet-pair, needs)))
+    (λ c. search (maskNet-pair, needs)) in
+    tie.close facts

@@ -6,11 +6,11 @@ use Rattle.patterns.proofs.net.read_whole.Tie as tie
 
 pub read-whole-spec : {M : Type 1} → statement M
 read-whole-spec =
-    tie.close
-    (tie.spec
+    let facts = tie.spec
     (λ c κs. search needs)
     (λ c. search needs)
     (λ c κs. search needs)
     (λ c. search needs)
     (λ c. search (wholeNet-mask, needs))
-    (λ c. wholeNet-address _ _ (c .before .before .before .read-v4 .ensures) _ (c .before .v .given .1)))
+    (λ c. wholeNet-address _ _ (c .before .before .before .read-v4 .ensures) _ (c .before .v .given .1)) in
+    tie.close facts

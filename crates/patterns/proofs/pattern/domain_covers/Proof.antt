@@ -6,9 +6,9 @@ use Rattle.patterns.proofs.pattern.domain_covers.Tie as tie
 
 pub domain-covers-spec : {M : Type 1} → statement M
 domain-covers-spec =
-    tie.close
-    (tie.spec
+    let facts = tie.spec
     (λ c κs. search needs)
     (λ c κs. search needs)
     (λ c. search (domainCovers-ends, needs))
-    (λ c. search (domainCovers-differs, needs)))
+    (λ c. search (domainCovers-differs, needs)) in
+    tie.close facts

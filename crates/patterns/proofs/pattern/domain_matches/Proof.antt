@@ -5,4 +5,6 @@ use Rattle.patterns.proofs.pattern.domain_matches.Statement.{statement}
 use Rattle.patterns.proofs.pattern.domain_matches.Tie as tie
 
 pub domain-matches-spec : {M : Type 1} → statement M
-domain-matches-spec = tie.close (tie.spec (λ c κs. search needs) (λ c κs. search needs) (λ c. search (domainPattern-matches, needs)))
+domain-matches-spec =
+    let facts = tie.spec (λ c κs. search needs) (λ c κs. search needs) (λ c. search (domainPattern-matches, needs)) in
+    tie.close facts

@@ -6,9 +6,9 @@ use Rattle.patterns.proofs.pattern.domain_sound.Tie as tie
 
 pub domain-sound-spec : {M : Type 1} → statement M
 domain-sound-spec =
-    tie.close
-    (tie.spec
+    let facts = tie.spec
     (λ c. search (domainPattern-short, needs))
     (λ c. search (domainPattern-long, needs))
     (λ c κs. search needs)
-    (λ c. search (domainPattern-fits, needs)))
+    (λ c. search (domainPattern-fits, needs)) in
+    tie.close facts

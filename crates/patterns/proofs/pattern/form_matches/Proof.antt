@@ -9,8 +9,7 @@ use Rattle.patterns.proofs.pattern.form_matches.Tie as tie
 
 pub form-matches-spec : {M : Type 1} → statement M
 form-matches-spec =
-    tie.close
-    (tie.spec
+    let facts = tie.spec
     (λ c κs. search needs)
     (λ c. search needs)
     (λ c κs. search needs)
@@ -23,4 +22,5 @@ form-matches-spec =
     (λ c. formPattern-matches _ _ _ (c .before .before .before .read-form .ensures) (c .before .enum-told .given .1) _ _ (c .domain-matches .ensures))
     (λ c. formPattern-matches _ _ _ (c .before .before .before .read-form .ensures) (c .before .enum-told2 .given .1) _ _ (c .bracket-matches .ensures ∙ sym (bracketPattern-matches _ (endpoint _ _))))
     (λ c. formPattern-matches _ _ _ (c .before .before .before .read-form .ensures) (c .before .enum-told3 .given .1) _ _ (c .dotted-matches .ensures ∙ sym (dottedPattern-matches _ (endpoint _ _))))
-    (λ c. formPattern-matches _ _ _ (c .before .before .before .read-form .ensures) (c .before .enum-told4 .given .1) _ _ (c .plain-matches .ensures)))
+    (λ c. formPattern-matches _ _ _ (c .before .before .before .read-form .ensures) (c .before .enum-told4 .given .1) _ _ (c .plain-matches .ensures)) in
+    tie.close facts

@@ -6,8 +6,7 @@ use Rattle.patterns.proofs.pattern.form_sound.Tie as tie
 
 pub form-sound-spec : {M : Type 1} → statement M
 form-sound-spec =
-    tie.close
-    (tie.spec
+    let facts = tie.spec
     (λ c κs. search needs)
     (λ c. search needs)
     (λ c κs. search needs)
@@ -20,4 +19,5 @@ form-sound-spec =
     (λ c. formPattern-sound _ _ _ (c .before .before .before .read-form .ensures) (c .before .enum-told .given .1) _ (c .domain-sound .ensures))
     (λ c. formPattern-sound _ _ _ (c .before .before .before .read-form .ensures) (c .before .enum-told2 .given .1) _ (c .bracket-sound .ensures))
     (λ c. formPattern-sound _ _ _ (c .before .before .before .read-form .ensures) (c .before .enum-told3 .given .1) _ (c .dotted-sound .ensures))
-    (λ c. formPattern-sound _ _ _ (c .before .before .before .read-form .ensures) (c .before .enum-told4 .given .1) _ (c .plain-sound .ensures)))
+    (λ c. formPattern-sound _ _ _ (c .before .before .before .read-form .ensures) (c .before .enum-told4 .given .1) _ (c .plain-sound .ensures)) in
+    tie.close facts

@@ -7,8 +7,7 @@ use Rattle.patterns.proofs.pattern.host_matches.Tie as tie
 
 pub host-matches-spec : {M : Type 1} → statement M
 host-matches-spec =
-    tie.close
-    (tie.spec
+    let facts = tie.spec
     (λ c κs. search needs)
     (λ c. search needs)
     (λ c κs. search needs)
@@ -26,4 +25,5 @@ host-matches-spec =
     (λ c. hostMatches-at _ _ _ (c .before .before .before .read-wildcard .ensures) (c .before .enum-told3 .given .1) _ _ (c .is-local .ensures))
     (λ c. hostMatches-at _ _ _ (c .before .before .before .read-wildcard .ensures) (c .before .enum-told4 .given .1) _ _ (c .is-known .ensures))
     (λ c. hostMatches-at _ _ _ (c .before .before .before .read-wildcard .ensures) (c .before .enum-told5 .given .1) _ _ (c .is-unknown .ensures))
-    (λ c. hostMatches-at _ _ _ (c .before .before .before .read-wildcard .ensures) (c .before .enum-told6 .given .1) _ _ (c .name-paranoid .ensures)))
+    (λ c. hostMatches-at _ _ _ (c .before .before .before .read-wildcard .ensures) (c .before .enum-told6 .given .1) _ _ (c .name-paranoid .ensures)) in
+    tie.close facts

@@ -7,8 +7,7 @@ use Rattle.patterns.proofs.pattern.host_sound.Tie as tie
 
 pub host-sound-spec : {M : Type 1} → statement M
 host-sound-spec =
-    tie.close
-    (tie.spec
+    let facts = tie.spec
     (λ c κs. search needs)
     (λ c. search needs)
     (λ c κs. search needs)
@@ -22,4 +21,5 @@ host-sound-spec =
     (λ c. hostPattern-sound _ _ _ (c .before .before .read-wildcard .ensures) (c .enum-told3 .given .1) _ refl)
     (λ c. hostPattern-sound _ _ _ (c .before .before .read-wildcard .ensures) (c .enum-told4 .given .1) _ refl)
     (λ c. hostPattern-sound _ _ _ (c .before .before .read-wildcard .ensures) (c .enum-told5 .given .1) _ refl)
-    (λ c. hostPattern-sound _ _ _ (c .before .before .read-wildcard .ensures) (c .enum-told6 .given .1) _ refl))
+    (λ c. hostPattern-sound _ _ _ (c .before .before .read-wildcard .ensures) (c .enum-told6 .given .1) _ refl) in
+    tie.close facts

@@ -18,8 +18,7 @@ abbrev μ-loop : tie.MeasureT-loop
 
 pub is-dotted-spec : {M : Type 1} → statement M
 is-dotted-spec =
-    tie.close
-    (tie.spec
+    let facts = tie.spec
     Inv-loop
     μ-loop
     (λ c. search needs)
@@ -29,4 +28,5 @@ is-dotted-spec =
     (λ c. search needs)
     (λ c. search (all-more, needs))
     (λ c. search (all-stop, needs))
-    (λ c. search (all-end, needs)))
+    (λ c. search (all-end, needs)) in
+    tie.close facts

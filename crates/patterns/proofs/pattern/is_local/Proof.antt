@@ -5,12 +5,12 @@ use Rattle.patterns.proofs.pattern.is_local.Tie as tie
 
 pub is-local-spec : {M : Type 1} → statement M
 is-local-spec =
-    tie.close
-    (tie.spec
+    let facts = tie.spec
     (λ c. search needs)
     (λ c. search needs)
     (λ c. search needs)
     (λ c κs. search needs)
     (λ c. search needs)
     (λ c. search needs)
-    (λ c. rw (c .before .enum-told3 .given .1) (c .has-no-dot .ensures)))
+    (λ c. rw (c .before .enum-told3 .given .1) (c .has-no-dot .ensures)) in
+    tie.close facts

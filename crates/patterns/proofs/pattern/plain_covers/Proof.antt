@@ -6,9 +6,9 @@ use Rattle.patterns.proofs.pattern.plain_covers.Tie as tie
 
 pub plain-covers-spec : {M : Type 1} → statement M
 plain-covers-spec =
-    tie.close
-    (tie.spec
+    let facts = tie.spec
     (λ c κs. search needs)
     (λ c κs. search needs)
     (λ c. search (plainCovers-same, needs))
-    (λ c. search (plainCovers-differs, needs)))
+    (λ c. search (plainCovers-differs, needs)) in
+    tie.close facts

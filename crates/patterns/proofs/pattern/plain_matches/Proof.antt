@@ -5,4 +5,6 @@ use Rattle.patterns.proofs.pattern.plain_matches.Statement.{statement}
 use Rattle.patterns.proofs.pattern.plain_matches.Tie as tie
 
 pub plain-matches-spec : {M : Type 1} → statement M
-plain-matches-spec = tie.close (tie.spec (λ c κs. search needs) (λ c κs. search needs) (λ c. search (namePattern-matches, needs)))
+plain-matches-spec =
+    let facts = tie.spec (λ c κs. search needs) (λ c κs. search needs) (λ c. search (namePattern-matches, needs)) in
+    tie.close facts

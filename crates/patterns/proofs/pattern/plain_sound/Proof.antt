@@ -6,12 +6,12 @@ use Rattle.patterns.proofs.pattern.plain_sound.Tie as tie
 
 pub plain-sound-spec : {M : Type 1} → statement M
 plain-sound-spec =
-    tie.close
-    (tie.spec
+    let facts = tie.spec
     (λ c. search (namePattern-empty, needs))
     (λ c. search (namePattern-long, needs))
     (λ c. search needs)
     (λ c. search needs)
     (λ c. search (namePattern-dot, needs))
     (λ c κs. search needs)
-    (λ c. search (namePattern-fits, needs)))
+    (λ c. search (namePattern-fits, needs)) in
+    tie.close facts

@@ -6,12 +6,12 @@ use Rattle.patterns.proofs.pattern.read_form.Tie as tie
 
 pub read-form-spec : {M : Type 1} → statement M
 read-form-spec =
-    tie.close
-    (tie.spec
+    let facts = tie.spec
     (λ c. search (formOf-nil, needs))
     (λ c. search needs)
     (λ c. search (formOf-domain, needs))
     (λ c. search (formOf-bracket, needs))
     (λ c κs. search needs)
     (λ c. search (formOf-dotted, needs))
-    (λ c. search (formOf-plain, needs)))
+    (λ c. search (formOf-plain, needs)) in
+    tie.close facts
