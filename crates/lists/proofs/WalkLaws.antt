@@ -2,13 +2,14 @@
 -- facts over.
 -- Assumes nothing.
 use Prim.Native.Nat.{ℕ, _≤_, _<_}
+use native.Mathlib.Omega.{arith}
 use mathlib.Core.Bool.{Bool, true, false}
 use mathlib.Core.List.{List, [], _∷_}
-use mathlib.Core.Path.{_≡_, refl, ap₂, fun-ext}
+use mathlib.Core.Path.{_≡_, refl, ap₂, fun-ext, _∙_}
 use lib.ListN.{length, take}
 use Rattle.lines.specs.Rule.{isExcept}
 use Rattle.lines.specs.Parts.{separatorIndex, afterSeparator, words, firstElement, afterElement}
-use Rattle.lines.proofs.RuleLaws.{words-none, words-more, rule, parseRule-none}
+use Rattle.lines.proofs.RuleLaws.{words-none, words-more, rest-shorter, rule, parseRule-none}
 use Rattle.elements.specs.declared.Found.{Found}
 use Rattle.elements.specs.declared.Found.the-variants.{No, Yes, Ask}
 use Rattle.elements.specs.Request.{Request}
@@ -18,45 +19,63 @@ use Rattle.lists.specs.Code.{NoNewline, lineFound}
 use Rattle.lists.specs.ListCode.{turned, daemonFinds, clientFinds, clientWords}
 use Rattle.lists.proofs.JoinedLaws.{parseRule-joined}
 
--- ## One list, at the element w
+-- ## One list: the loop of the side f has come to rest, at the element w
 
-module _ (m : List ℕ → Found) (s w : List ℕ) (is-w : w ≡ firstElement s) where
+-- what is passed decides nothing
+pub record Walked (f : List (List ℕ) → Found) (s rest : List ℕ) : Type 0 where
+  pub same : f (words s) ≡ f (words rest)
+  pub within : length rest ≤ length s
+
+pub walked-none : (f : List (List ℕ) → Found) (s : List ℕ) → Walked f s s
+walked-none f s = record { same = refl; within = omega arith }
+
+module _ (f : List (List ℕ) → Found) (s rest w next : List ℕ) (h : Walked f s rest) (is-w : w ≡ firstElement rest) (full : length w ≡ 0 → ⊥)
+    (is-next : next ≡ afterElement rest)
+  where
+    pub walked-shorter : (n : ℕ) → length s ≡ n → length next < n
+    walked-shorter n e = omega (arith, rest-shorter rest w next is-w full is-next (length rest) refl, h .within)
+
+    walked-more : f (words rest) ≡ f (words next) → Walked f s next
+    walked-more e = record { same = h .same ∙ e; within = omega (arith, rest-shorter rest w next is-w full is-next (length rest) refl, h .within) }
+
+module _ (m : List ℕ → Found) (s rest w : List ℕ) (h : Walked (included m) s rest) (is-w : w ≡ firstElement rest) where
   pub included-none : length w ≡ 0 → No ≡ included m (words s)
   unfolding included
-  included-none z = rw (words-none s w is-w z)
-
-  pub excluded-none : length w ≡ 0 → Yes ≡ excluded m (words s)
-  unfolding excluded
-  excluded-none z = rw (words-none s w is-w z)
+  included-none z = rw (h .same, words-none rest w is-w z)
 
   module _ (full : length w ≡ 0 → ⊥) (x : Bool) (is-x : x ≡ isExcept w) where
     pub included-except : x ≡ true → No ≡ included m (words s)
     unfolding included
-    included-except e = rw (words-more s w (afterElement s) is-w full refl, ← is-x, e)
+    included-except e = rw (h .same, words-more rest w (afterElement rest) is-w full refl, ← is-x, e)
 
     module _ (e : x ≡ false) (y : Found) (is-y : y ≡ m w) where
-      included-more : included m (words s) ≡ onFound y (excluded m (words (afterElement s))) (included m (words (afterElement s)))
+      included-more : included m (words rest) ≡ onFound y (excluded m (words (afterElement rest))) (included m (words (afterElement rest)))
       unfolding included
-      included-more = rw (words-more s w (afterElement s) is-w full refl, ← is-x, e, is-y)
+      included-more = rw (words-more rest w (afterElement rest) is-w full refl, ← is-x, e, is-y)
 
       pub included-ask : y ≡ Ask → Ask ≡ included m (words s)
-      included-ask f = rw (included-more, f)
+      included-ask a = rw (h .same, included-more, a)
 
-      module _ (rest : List ℕ) (is-rest : rest ≡ afterElement s) (r : Found) where
-        pub included-yes : y ≡ Yes → r ≡ excluded m (words rest) → r ≡ included m (words s)
-        included-yes f h = rw (included-more, f, ← is-rest) h
+      module _ (next : List ℕ) (is-next : next ≡ afterElement rest) where
+        pub included-yes : y ≡ Yes → (r : Found) → r ≡ excluded m (words next) → r ≡ included m (words s)
+        included-yes a r is-r = rw (h .same, included-more, a, ← is-next) is-r
 
-        pub included-no : y ≡ No → r ≡ included m (words rest) → r ≡ included m (words s)
-        included-no f h = rw (included-more, f, ← is-rest) h
+        pub included-no : y ≡ No → Walked (included m) s next
+        included-no a = walked-more (included m) s rest w next h is-w full is-next (rw (included-more, a, ← is-next))
 
-    module _ (rest : List ℕ) (is-rest : rest ≡ afterElement s) where
-      pub excluded-more : x ≡ false → (r : Found) → r ≡ excluded m (words rest) → r ≡ excluded m (words s)
-      unfolding excluded
-      excluded-more e r h = rw (words-more s w rest is-w full is-rest, ← is-x, e) h
+module _ (m : List ℕ → Found) (s rest w : List ℕ) (h : Walked (excluded m) s rest) (is-w : w ≡ firstElement rest) where
+  pub excluded-none : length w ≡ 0 → Yes ≡ excluded m (words s)
+  unfolding excluded
+  excluded-none z = rw (h .same, words-none rest w is-w z)
 
-      pub excluded-except : x ≡ true → (y : Found) → y ≡ included m (words rest) → (r : Found) → r ≡ turned y → r ≡ excluded m (words s)
-      unfolding excluded
-      excluded-except e y is-y r is-r = rw (words-more s w rest is-w full is-rest, ← is-x, e, ← is-y) is-r
+  module _ (full : length w ≡ 0 → ⊥) (x : Bool) (is-x : x ≡ isExcept w) (next : List ℕ) (is-next : next ≡ afterElement rest) where
+    pub excluded-more : x ≡ false → Walked (excluded m) s next
+    unfolding excluded
+    excluded-more e = walked-more (excluded m) s rest w next h is-w full is-next (rw (words-more rest w next is-w full is-next, ← is-x, e))
+
+    pub excluded-except : x ≡ true → (y : Found) → y ≡ included m (words next) → (r : Found) → r ≡ turned y → r ≡ excluded m (words s)
+    unfolding excluded
+    excluded-except e y is-y r is-r = rw (h .same, words-more rest w next is-w full is-next, ← is-x, e, ← is-y) is-r
 
 -- ## One rule
 

@@ -29,18 +29,27 @@ fn turned(f: Found) -> Found
 fn daemons_included(s: &[u8], daemon: &[u8], server: Host, server_name: &[u8]) -> Found
     ensures { λ r. ⌜ r ≡ included (daemonFinds (now (daemon .entry)) (endpoint server (now («server_name» .entry)))) (words (now (s .entry))) ⌝ }
 {
-    let at = rule::element_span(s);
-    let w = rule::element(s, at);
-    if w.len() == 0 {
-        return Found::No;
-    }
-    if rule::is_except(w) {
-        return Found::No;
-    }
-    match element::daemon_found(w, daemon, server, server_name) {
-        Found::Yes => daemons_excluded(rule::after_element(s, at), daemon, server, server_name),
-        Found::No => daemons_included(rule::after_element(s, at), daemon, server, server_name),
-        Found::Ask => Found::Ask,
+    let mut rest = s;
+    loop {
+        let at = rule::element_span(rest);
+        let w = rule::element(rest, at);
+        if w.len() == 0 {
+            return Found::No;
+        }
+        if rule::is_except(w) {
+            return Found::No;
+        }
+        let next = rule::after_element(rest, at);
+        match element::daemon_found(w, daemon, server, server_name) {
+            Found::Yes => {
+                return daemons_excluded(next, daemon, server, server_name);
+            }
+            Found::No => {}
+            Found::Ask => {
+                return Found::Ask;
+            }
+        }
+        rest = next;
     }
 }
 
@@ -48,16 +57,18 @@ fn daemons_included(s: &[u8], daemon: &[u8], server: Host, server_name: &[u8]) -
 fn daemons_excluded(s: &[u8], daemon: &[u8], server: Host, server_name: &[u8]) -> Found
     ensures { λ r. ⌜ r ≡ excluded (daemonFinds (now (daemon .entry)) (endpoint server (now («server_name» .entry)))) (words (now (s .entry))) ⌝ }
 {
-    let at = rule::element_span(s);
-    let w = rule::element(s, at);
-    if w.len() == 0 {
-        return Found::Yes;
-    }
-    let rest = rule::after_element(s, at);
-    if rule::is_except(w) {
-        turned(daemons_included(rest, daemon, server, server_name))
-    } else {
-        daemons_excluded(rest, daemon, server, server_name)
+    let mut rest = s;
+    loop {
+        let at = rule::element_span(rest);
+        let w = rule::element(rest, at);
+        if w.len() == 0 {
+            return Found::Yes;
+        }
+        let next = rule::after_element(rest, at);
+        if rule::is_except(w) {
+            return turned(daemons_included(next, daemon, server, server_name));
+        }
+        rest = next;
     }
 }
 
@@ -71,30 +82,27 @@ fn clients_included(
 ) -> Found
     ensures { λ r. ⌜ r ≡ included (clientFinds (endpoint client (now («client_name» .entry))) user (now («user_name» .entry))) (words (now (s .entry))) ⌝ }
 {
-    let at = rule::element_span(s);
-    let w = rule::element(s, at);
-    if w.len() == 0 {
-        return Found::No;
-    }
-    if rule::is_except(w) {
-        return Found::No;
-    }
-    match element::client_found(w, client, client_name, user, user_name) {
-        Found::Yes => clients_excluded(
-            rule::after_element(s, at),
-            client,
-            client_name,
-            user,
-            user_name,
-        ),
-        Found::No => clients_included(
-            rule::after_element(s, at),
-            client,
-            client_name,
-            user,
-            user_name,
-        ),
-        Found::Ask => Found::Ask,
+    let mut rest = s;
+    loop {
+        let at = rule::element_span(rest);
+        let w = rule::element(rest, at);
+        if w.len() == 0 {
+            return Found::No;
+        }
+        if rule::is_except(w) {
+            return Found::No;
+        }
+        let next = rule::after_element(rest, at);
+        match element::client_found(w, client, client_name, user, user_name) {
+            Found::Yes => {
+                return clients_excluded(next, client, client_name, user, user_name);
+            }
+            Found::No => {}
+            Found::Ask => {
+                return Found::Ask;
+            }
+        }
+        rest = next;
     }
 }
 
@@ -108,16 +116,18 @@ fn clients_excluded(
 ) -> Found
     ensures { λ r. ⌜ r ≡ excluded (clientFinds (endpoint client (now («client_name» .entry))) user (now («user_name» .entry))) (words (now (s .entry))) ⌝ }
 {
-    let at = rule::element_span(s);
-    let w = rule::element(s, at);
-    if w.len() == 0 {
-        return Found::Yes;
-    }
-    let rest = rule::after_element(s, at);
-    if rule::is_except(w) {
-        turned(clients_included(rest, client, client_name, user, user_name))
-    } else {
-        clients_excluded(rest, client, client_name, user, user_name)
+    let mut rest = s;
+    loop {
+        let at = rule::element_span(rest);
+        let w = rule::element(rest, at);
+        if w.len() == 0 {
+            return Found::Yes;
+        }
+        let next = rule::after_element(rest, at);
+        if rule::is_except(w) {
+            return turned(clients_included(next, client, client_name, user, user_name));
+        }
+        rest = next;
     }
 }
 

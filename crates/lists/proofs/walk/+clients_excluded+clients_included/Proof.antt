@@ -1,5 +1,6 @@
 -- The sides of EXCEPT in a client list, `walk::clients_included` and `walk::clients_excluded`, meet their contracts, by the laws of the walk at what a
--- client element finds. The measure of both is the length of the rest of the list. Assumes nothing.
+-- client element finds. The invariant of each side's loop is `Walked`: the list finds what its rest finds. The measure of both functions is the
+-- length of the list, that of both loops the length of the rest. Assumes nothing.
 use Prim.Native.Nat.{ℕ, _<_}
 use borrow.Author.Needs.{needs}
 use borrow.Fn.Kinds.{In}
@@ -10,7 +11,11 @@ use Rattle.lines.proofs.rule.after_element.Reads as after-element
 use Rattle.lines.proofs.rule.element.Reads as element
 use Rattle.lines.proofs.rule.element_span.Reads as element-span
 use Rattle.lines.proofs.rule.is_except.Reads as is-except
+use Rattle.patterns.specs.Host.{endpoint}
 use Rattle.elements.proofs.element.client_found.Reads as client-found
+use Rattle.lists.specs.Walk.{included, excluded}
+use Rattle.lists.specs.ListCode.{clientFinds}
+use Rattle.lists.proofs.WalkLaws.{Walked, walked-none, walked-shorter}
 use Rattle.lists.proofs.WalkLaws.{included-none, included-except, included-yes, included-no, included-ask}
 use Rattle.lists.proofs.WalkLaws.{excluded-none, excluded-except, excluded-more}
 use Rattle.lists.proofs.walk.turned.Reads as turned
@@ -41,6 +46,18 @@ clients-included-at t = and 3 clients-included-kinds.ps (is 3 clients-included-k
 abbrev clients-included-below : ℕ → In 3 clients-included-kinds.ps
 clients-included-below t = and 3 clients-included-kinds.ps (falls 3 clients-included-kinds.ps _<_ μ-clients-included t) clients-included.Pre
 
+abbrev clients-excluded-Inv-loop : clients-excluded-lts.InvT-loop
+clients-excluded-Inv-loop s client client-name user user-name rest₀ rest = Walked (excluded (clientFinds (endpoint client client-name) user user-name)) s rest
+
+abbrev clients-excluded-μ-loop : clients-excluded-lts.MeasureT-loop
+clients-excluded-μ-loop s client client-name user user-name rest₀ rest = length rest
+
+abbrev clients-included-Inv-loop : clients-included-lts.InvT-loop
+clients-included-Inv-loop s client client-name user user-name rest₀ rest = Walked (included (clientFinds (endpoint client client-name) user user-name)) s rest
+
+abbrev clients-included-μ-loop : clients-included-lts.MeasureT-loop
+clients-included-μ-loop s client client-name user user-name rest₀ rest = length rest
+
 pub +clients-excluded+clients-included-spec : {M : Type 1} → statement M
 +clients-excluded+clients-included-spec =
     close μ-clients-excluded μ-clients-included (λ t. clients-excluded-lts.spec (
@@ -56,20 +73,21 @@ pub +clients-excluded+clients-included-spec : {M : Type 1} → statement M
       clients-included.Post,
       turned.Asked,
       turned.Learnt,
-      clients-excluded-below t,
-      clients-excluded.Post,
     )
     (clients-excluded-at t)
     clients-excluded.Post
+    clients-excluded-Inv-loop
+    clients-excluded-μ-loop
+    (λ c. search (walked-none, needs))
     (λ c κs. search needs)
     (λ c κs. search needs)
     (λ c. search (excluded-none, needs))
     (λ c κs. search needs)
     (λ c κs. search needs)
-    (λ c κs. (search (rest-shorter, needs), tt))
+    (λ c κs. (search (walked-shorter, needs), tt))
     (λ c κs. search needs)
-    (λ c κs. (search (rest-shorter, needs), tt))
     (λ c. search (excluded-except, needs))
+    (λ c. search (rest-shorter, needs))
     (λ c. search (excluded-more, needs)))
     λ t. clients-included-lts.spec (
       element-span.Asked,
@@ -78,30 +96,30 @@ pub +clients-excluded+clients-included-spec : {M : Type 1} → statement M
       element.Learnt,
       is-except.Asked,
       is-except.Learnt,
-      client-found.Asked,
-      client-found.Learnt,
       after-element.Asked,
       after-element.Learnt,
+      client-found.Asked,
+      client-found.Learnt,
       clients-excluded-below t,
       clients-excluded.Post,
-      clients-included-below t,
-      clients-included.Post,
     )
     (clients-included-at t)
     clients-included.Post
+    clients-included-Inv-loop
+    clients-included-μ-loop
+    (λ c. search (walked-none, needs))
     (λ c κs. search needs)
     (λ c κs. search needs)
     (λ c. search (included-none, needs))
     (λ c κs. search needs)
     (λ c. search (included-except, needs))
     (λ c κs. search needs)
-    (λ c. search needs)
     (λ c κs. search needs)
-    (λ c κs. (search (rest-shorter, needs), tt))
     (λ c. search needs)
-    (λ c κs. search needs)
-    (λ c κs. (search (rest-shorter, needs), tt))
-    (λ c. search needs)
+    (λ c κs. (search (walked-shorter, needs), tt))
     (λ c. search (included-yes, needs))
-    (λ c. search (included-no, needs))
+    (λ c. search needs)
+    (λ c. search needs)
     (λ c. search (included-ask, needs))
+    (λ c. search (rest-shorter, needs))
+    (λ c. search (included-no, needs))

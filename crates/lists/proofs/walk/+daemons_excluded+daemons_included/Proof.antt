@@ -1,5 +1,6 @@
 -- The sides of EXCEPT in a daemon list, `walk::daemons_included` and `walk::daemons_excluded`, meet their contracts, by the laws of the walk at what a
--- daemon element finds. The measure of both is the length of the rest of the list. Assumes nothing.
+-- daemon element finds. The invariant of each side's loop is `Walked`: the list finds what its rest finds. The measure of both functions is the
+-- length of the list, that of both loops the length of the rest. Assumes nothing.
 use Prim.Native.Nat.{ℕ, _<_}
 use borrow.Author.Needs.{needs}
 use borrow.Fn.Kinds.{In}
@@ -10,7 +11,11 @@ use Rattle.lines.proofs.rule.after_element.Reads as after-element
 use Rattle.lines.proofs.rule.element.Reads as element
 use Rattle.lines.proofs.rule.element_span.Reads as element-span
 use Rattle.lines.proofs.rule.is_except.Reads as is-except
+use Rattle.patterns.specs.Host.{endpoint}
 use Rattle.elements.proofs.element.daemon_found.Reads as daemon-found
+use Rattle.lists.specs.Walk.{included, excluded}
+use Rattle.lists.specs.ListCode.{daemonFinds}
+use Rattle.lists.proofs.WalkLaws.{Walked, walked-none, walked-shorter}
 use Rattle.lists.proofs.WalkLaws.{included-none, included-except, included-yes, included-no, included-ask}
 use Rattle.lists.proofs.WalkLaws.{excluded-none, excluded-except, excluded-more}
 use Rattle.lists.proofs.walk.turned.Reads as turned
@@ -41,6 +46,18 @@ daemons-included-at t = and 3 daemons-included-kinds.ps (is 3 daemons-included-k
 abbrev daemons-included-below : ℕ → In 3 daemons-included-kinds.ps
 daemons-included-below t = and 3 daemons-included-kinds.ps (falls 3 daemons-included-kinds.ps _<_ μ-daemons-included t) daemons-included.Pre
 
+abbrev daemons-excluded-Inv-loop : daemons-excluded-lts.InvT-loop
+daemons-excluded-Inv-loop s daemon server server-name rest₀ rest = Walked (excluded (daemonFinds daemon (endpoint server server-name))) s rest
+
+abbrev daemons-excluded-μ-loop : daemons-excluded-lts.MeasureT-loop
+daemons-excluded-μ-loop s daemon server server-name rest₀ rest = length rest
+
+abbrev daemons-included-Inv-loop : daemons-included-lts.InvT-loop
+daemons-included-Inv-loop s daemon server server-name rest₀ rest = Walked (included (daemonFinds daemon (endpoint server server-name))) s rest
+
+abbrev daemons-included-μ-loop : daemons-included-lts.MeasureT-loop
+daemons-included-μ-loop s daemon server server-name rest₀ rest = length rest
+
 pub +daemons-excluded+daemons-included-spec : {M : Type 1} → statement M
 +daemons-excluded+daemons-included-spec =
     close μ-daemons-excluded μ-daemons-included (λ t. daemons-excluded-lts.spec (
@@ -56,20 +73,21 @@ pub +daemons-excluded+daemons-included-spec : {M : Type 1} → statement M
       daemons-included.Post,
       turned.Asked,
       turned.Learnt,
-      daemons-excluded-below t,
-      daemons-excluded.Post,
     )
     (daemons-excluded-at t)
     daemons-excluded.Post
+    daemons-excluded-Inv-loop
+    daemons-excluded-μ-loop
+    (λ c. search (walked-none, needs))
     (λ c κs. search needs)
     (λ c κs. search needs)
     (λ c. search (excluded-none, needs))
     (λ c κs. search needs)
     (λ c κs. search needs)
-    (λ c κs. (search (rest-shorter, needs), tt))
+    (λ c κs. (search (walked-shorter, needs), tt))
     (λ c κs. search needs)
-    (λ c κs. (search (rest-shorter, needs), tt))
     (λ c. search (excluded-except, needs))
+    (λ c. search (rest-shorter, needs))
     (λ c. search (excluded-more, needs)))
     λ t. daemons-included-lts.spec (
       element-span.Asked,
@@ -78,30 +96,30 @@ pub +daemons-excluded+daemons-included-spec : {M : Type 1} → statement M
       element.Learnt,
       is-except.Asked,
       is-except.Learnt,
-      daemon-found.Asked,
-      daemon-found.Learnt,
       after-element.Asked,
       after-element.Learnt,
+      daemon-found.Asked,
+      daemon-found.Learnt,
       daemons-excluded-below t,
       daemons-excluded.Post,
-      daemons-included-below t,
-      daemons-included.Post,
     )
     (daemons-included-at t)
     daemons-included.Post
+    daemons-included-Inv-loop
+    daemons-included-μ-loop
+    (λ c. search (walked-none, needs))
     (λ c κs. search needs)
     (λ c κs. search needs)
     (λ c. search (included-none, needs))
     (λ c κs. search needs)
     (λ c. search (included-except, needs))
     (λ c κs. search needs)
-    (λ c. search needs)
     (λ c κs. search needs)
-    (λ c κs. (search (rest-shorter, needs), tt))
     (λ c. search needs)
-    (λ c κs. search needs)
-    (λ c κs. (search (rest-shorter, needs), tt))
-    (λ c. search needs)
+    (λ c κs. (search (walked-shorter, needs), tt))
     (λ c. search (included-yes, needs))
-    (λ c. search (included-no, needs))
+    (λ c. search needs)
+    (λ c. search needs)
     (λ c. search (included-ask, needs))
+    (λ c. search (rest-shorter, needs))
+    (λ c. search (included-no, needs))
