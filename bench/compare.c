@@ -4,7 +4,7 @@
  *   files         opening and reading those two files whole, as the gate's caller does
  *   sum           adding up the bytes that the call is handed, one at a time: the floor of what reads each byte
  * A line for each case and each of these, parted by tabs: case, bytes handed to the call, who, nanoseconds a call. Times are minima
- * over many rounds, each of which takes them in turn. Every answer is compared with the table's.
+ * over many rounds, each of which takes them in turn, spread over the run. Every answer is compared with the table's.
  * `count` makes one call of each in a function of its own, `counted`, for a tool that counts instructions, and writes 0 for the time. */
 #include <dlfcn.h>
 #include <stdbool.h>
@@ -240,9 +240,9 @@ static double now(void) {
     return (double)t.tv_sec * 1e9 + (double)t.tv_nsec;
 }
 
-/* Nanoseconds of so many calls. */
+/* Nanoseconds of so many calls, after one that finds the caches as whoever came before left them. */
 static double timed(enum who who, unsigned calls) {
-    bool sound = true;
+    bool sound = call(who);
     double start = now();
     for (unsigned i = 0; i < calls; i++)
         sound &= call(who);
@@ -251,20 +251,18 @@ static double timed(enum who who, unsigned calls) {
     return taken;
 }
 
-/* The least nanoseconds of a call by each. Short calls are timed together, so that the clock's own time does not show. */
-static void time_all(double best[WHO_COUNT]) {
-    enum { rounds = 2000, least = 5000, budget = 300000000 };
+/* Lowers `best` to the least nanoseconds of a call by each. Short calls are timed together, so that the clock's own time does not show. */
+static void time_current(double best[WHO_COUNT]) {
+    enum { rounds = 300, least = 5000, budget = 60000000 };
     unsigned together[WHO_COUNT];
     double end = now() + budget;
-    for (enum who who = 0; who < WHO_COUNT; who++) {
-        best[who] = 1e18;
+    for (enum who who = 0; who < WHO_COUNT; who++)
         for (together[who] = 1; takes_part(who) && timed(who, together[who]) < least;)
             together[who] *= 2;
-    }
     for (int round = 0; round < rounds || now() < end; round++)
         for (enum who who = 0; who < WHO_COUNT; who++) {
             double taken = takes_part(who) ? timed(who, together[who]) / together[who] : 0;
-            if (taken < best[who])
+            if (best[who] == 0 || taken < best[who])
                 best[who] = taken;
         }
 }
@@ -315,6 +313,29 @@ static void prepare(const struct test_case *c) {
     handed_sum = sum_handed();
 }
 
+enum { case_count = sizeof cases / sizeof *cases };
+static double best[case_count][WHO_COUNT];
+
+/* All cases several times over, so that other work on the machine for a while spoils none. */
+static void time_cases(void) {
+    enum { sweeps = 6 };
+    for (int i = 0; i < sweeps * case_count; i++) {
+        prepare(&cases[i % case_count]);
+        time_current(best[i % case_count]);
+    }
+}
+
+/* The current case's lines. */
+static void show(bool count, const double times[WHO_COUNT]) {
+    for (enum who who = 0; who < WHO_COUNT; who++) {
+        if (!takes_part(who))
+            continue;
+        if (count)
+            fail_unless(call(who) && counted(who), who);
+        printf("%s\t%zu\t%s\t%.2f\n", current->name, handed_len, who_names[who], times[who]);
+    }
+}
+
 int main(int argc, char **argv) {
     bool count = argc > 1 && !strcmp(argv[1], "count");
     if (argc < 4 || argc > 5 || (!count && strcmp(argv[1], "time")))
@@ -323,18 +344,11 @@ int main(int argc, char **argv) {
     snprintf(hosts_deny_table = deny_path, sizeof deny_path, "%s/hosts.deny", argv[2]);
     for (builds = 0; builds < argc - 3; builds++)
         load(&libraries[builds], argv[builds + 3]);
-    for (size_t i = 0; i < sizeof cases / sizeof *cases; i++) {
-        double best[WHO_COUNT] = {0};
+    if (!count)
+        time_cases();
+    for (int i = 0; i < case_count; i++) {
         prepare(&cases[i]);
-        if (!count)
-            time_all(best);
-        for (enum who who = 0; who < WHO_COUNT; who++) {
-            if (!takes_part(who))
-                continue;
-            if (count)
-                fail_unless(call(who) && counted(who), who);
-            printf("%s\t%zu\t%s\t%.2f\n", current->name, handed_len, who_names[who], best[who]);
-        }
+        show(count, best[i]);
     }
     return 0;
 }
