@@ -1,25 +1,237 @@
-/* compare [RULES]: the verdict on a deny file of so many rules (300), none of which matches, by this gate, by this gate out of a sheet,
- * and by tcp_wrappers, in one run. Prints nanoseconds a byte of each, and the ratios to tcp_wrappers, which reads the file from memory
- * (/dev/shm) and does not check it. */
+/* compare time|count DIR GATE.so [BEFORE.so]: the calls of the gate on each case of the table below, beside
+ *   before        the same calls of another build of the gate
+ *   tcp_wrappers  the same question put to it; its two files stand in DIR, which should be in memory, and it does not check them
+ *   files         opening and reading those two files whole, as the gate's caller does
+ *   sum           adding up the bytes that the call is handed, one at a time: the floor of what reads each byte
+ * A line for each case and each of these, parted by tabs: case, bytes handed to the call, who, nanoseconds a call. Times are minima
+ * over many rounds, each of which takes them in turn, spread over the run. Every answer is compared with the table's.
+ * `count` makes one call of each in a function of its own, `counted`, for a tool that counts instructions, and writes 0 for the time. */
+#include <dlfcn.h>
+#include <stdbool.h>
 #include <stdio.h>
 #include <stdlib.h>
 #include <string.h>
-#include <time.h>
 #include <tcpd.h>
+#include <time.h>
 #include "gate.h"
 
 extern char *hosts_allow_table, *hosts_deny_table;
-int allow_severity, deny_severity;
+int allow_severity, deny_severity; /* libwrap wants them */
 
-static char text[65536];
-static uint8_t sheet[GATE_SHEET_LIMIT];
-static size_t sheet_len;
+/* How a text is made: a first line, then lines of a form, numbered from `from`: so many, or as many as fill `size` bytes. */
+struct recipe {
+    const char *first, *form;
+    unsigned from, lines;
+    size_t size;
+};
 
-static size_t make_rules(int rules) {
-    size_t n = 0;
-    for (int i = 0; i < rules; i++)
-        n += (size_t)sprintf(text + n, "sshd: .depot%d.example, van%d.x.example, 10.%d.%d.\n", i, i, i % 256, i / 2 % 256);
-    return n;
+#define PLAIN "sshd: .depot%u.example, van%u.x.example, 10.%u.%u.\n"
+#define BRACKETED "sshd: [2001:db8:%x::]/48, [2001:db8:1:%x::2], [fe80::%x:0:%x]/64\n"
+#define BYUID_FORMS "10.%u.0.0/16,80\n10.1.0.0-10.1.%u.255,1-1023\n10.0.%u.0/24:1,1023\n2001:db8:%x::/48,80\n"
+#define PORTACL_ENTRY "gid:%u:tcp:10001,"
+
+static const struct recipe rules = {.form = PLAIN, .lines = 300};
+static const struct recipe rules_after_fault = {.first = "sshd: a*b\n", .form = PLAIN, .lines = 299};
+static const struct recipe plain_2 = {.form = PLAIN, .from = 100, .size = 2048};
+static const struct recipe plain_4 = {.form = PLAIN, .from = 100, .size = 4096};
+static const struct recipe plain_8 = {.form = PLAIN, .from = 100, .size = 8192};
+static const struct recipe plain = {.form = PLAIN, .from = 100, .size = GATE_DENY_LIMIT};
+static const struct recipe plain_after_match = {.first = "sshd: pump.example\n", .form = PLAIN, .from = 100, .size = GATE_ALLOW_LIMIT};
+static const struct recipe bracketed = {.form = BRACKETED, .from = 0x100, .size = GATE_DENY_LIMIT};
+static const struct recipe all = {.first = "ALL: ALL\n"};
+static const struct recipe byuid_lines = {.form = BYUID_FORMS, .from = 100, .size = GATE_BYUID_LIMIT};
+static const struct recipe portacl_entries = {.form = PORTACL_ENTRY, .from = 1000000000, .lines = 41};
+static const struct recipe expanded = {.first = "/usr/bin/logger -t gate %d %p: %c (%a, %n) to %s (%A), %u at %h is 100%% known"};
+
+enum call { VERDICT, SHEET_VERDICT, BYUID, PORTACL, CHECK, EXPAND };
+
+enum client { V4, V6 };
+
+/* Of an answer: its number and word; the line of a rule or of a fault, or how many bytes were written. */
+struct outcome {
+    uint32_t number, word;
+    uint64_t detail;
+};
+
+struct test_case {
+    const char *name;
+    enum call call;
+    const struct recipe *allow, *deny, *byuid, *portacl, *command;
+    enum client client;
+    uint32_t user; /* enum gate_user */
+    struct outcome expected;
+    bool wrappers; /* tcp_wrappers answers the same question */
+};
+
+#define NONE_MATCHES .expected = {0, GATE_GRANTED, 0}, .wrappers = true
+
+static const struct test_case cases[] = {
+    {"300 rules, none matches", VERDICT, .deny = &rules, NONE_MATCHES},
+    {"300 rules, by sheet", SHEET_VERDICT, .deny = &rules, NONE_MATCHES},
+    {"both files full", VERDICT, .allow = &plain, .deny = &plain, NONE_MATCHES},
+    {"both files full, IPv6", VERDICT, .allow = &bracketed, .deny = &bracketed, .client = V6, NONE_MATCHES},
+    {"growth: 2 KiB", VERDICT, .deny = &plain_2, NONE_MATCHES},
+    {"growth: 4 KiB", VERDICT, .deny = &plain_4, NONE_MATCHES},
+    {"growth: 8 KiB", VERDICT, .deny = &plain_8, NONE_MATCHES},
+    {"growth: 16 KiB", VERDICT, .deny = &plain, NONE_MATCHES},
+    {"first of 16 KiB matches", VERDICT, .allow = &plain_after_match, .expected = {0, GATE_GRANTED, 1}, .wrappers = true},
+    {"no rules", VERDICT, NONE_MATCHES},
+    {"deny ALL: ALL", VERDICT, .deny = &all, .expected = {0, GATE_DENIED, 1}, .wrappers = true},
+    {"refused 13, no rules", VERDICT, .user = 3, .expected = {GATE_BAD_REQUEST, 0, 0}},
+    {"refused 13, 300 rules", VERDICT, .deny = &rules, .user = 3, .expected = {GATE_BAD_REQUEST, 0, 0}},
+    {"fault in line 1 of 300", VERDICT, .deny = &rules_after_fault, .expected = {GATE_UNKNOWN_ELEMENT, 0, 1}},
+    {"byuid full", BYUID, .byuid = &byuid_lines, .expected = {0, GATE_NO_LINE, 0}},
+    {"portacl full", PORTACL, .portacl = &portacl_entries, .expected = {0, GATE_DENIED, 0}},
+    {"checking a full sheet", CHECK, .allow = &plain, .deny = &plain, .byuid = &byuid_lines, .portacl = &portacl_entries},
+    {"expansion", EXPAND, .command = &expanded, .user = GATE_USER_KNOWN, .expected = {0, 0, 148}, .wrappers = true},
+};
+
+struct text {
+    uint8_t bytes[GATE_SHEET_LIMIT + 1]; /* one more for the zero that sprintf adds */
+    size_t len;
+};
+
+static struct text allow, deny, byuid, portacl, command, sheet, out;
+static const struct test_case *current;
+static const struct text *handed[2]; /* what the current case's call is handed, in one or two texts */
+static size_t handed_len;
+static uint64_t handed_sum;
+static char allow_path[4096], deny_path[4096];
+
+/* The exports of a build. */
+struct library {
+    __typeof__(gate_verdict) *verdict;
+    __typeof__(gate_sheet_verdict) *sheet_verdict;
+    __typeof__(gate_byuid) *byuid;
+    __typeof__(gate_portacl) *portacl;
+    __typeof__(gate_check) *check;
+    __typeof__(gate_expand) *expand;
+    __typeof__(gate_pack) *pack;
+};
+
+static struct library libraries[2];
+static int builds;
+
+static void fail(const char *what, const char *why) {
+    fprintf(stderr, "compare: %s: %s\n", what, why);
+    exit(1);
+}
+
+static void load(struct library *build, const char *path) {
+    static const char *const names[] = {"gate_verdict", "gate_sheet_verdict", "gate_byuid", "gate_portacl", "gate_check", "gate_expand", "gate_pack"};
+    void *symbols[sizeof names / sizeof *names], *handle = dlopen(path, RTLD_NOW | RTLD_LOCAL);
+    _Static_assert(sizeof symbols == sizeof *build, "a name for each export");
+    if (!handle)
+        fail(path, dlerror());
+    for (size_t i = 0; i < sizeof names / sizeof *names; i++)
+        if (!(symbols[i] = dlsym(handle, names[i])))
+            fail(path, dlerror());
+    memcpy(build, symbols, sizeof symbols);
+}
+
+/* The request of every case, as the exports take it. */
+#define BYTES(literal) (const uint8_t *)(literal), sizeof(literal) - 1
+#define TEXT(text) (text).bytes, (text).len
+#define CLIENT_V4 GATE_IPV4, 0, 0xc0000201
+#define CLIENT_V6 GATE_IPV6, 0x20010db8ffff0000, 1
+#define FROM(client) BYTES("sshd"), GATE_NAME_KNOWN, client, BYTES("pump.example"), \
+    GATE_NAME_UNKNOWN, GATE_IPV4, 0, 0xc0000202, BYTES(""), current->user, BYTES("fitter")
+static const char *const client_texts[] = {[V4] = "192.0.2.1", [V6] = "2001:db8:ffff::1"};
+
+static struct outcome outcome_of(struct gate_answer a) {
+    return (struct outcome){a.number, a.word, a.line};
+}
+
+static struct outcome by_gate(const struct library *g) {
+    static const uint32_t groups[16] = {1, 2, 3, 4, 5, 6, 7, 8, 9, 10, 11, 12, 13, 14, 15, 16};
+    struct gate_written written;
+    switch (current->call) {
+    case VERDICT:
+        return outcome_of(current->client == V4 ? g->verdict(TEXT(allow), TEXT(deny), FROM(CLIENT_V4))
+                                                : g->verdict(TEXT(allow), TEXT(deny), FROM(CLIENT_V6)));
+    case SHEET_VERDICT:
+        return outcome_of(g->sheet_verdict(TEXT(sheet), FROM(CLIENT_V4)));
+    case BYUID:
+        return outcome_of(g->byuid(TEXT(byuid), 80, CLIENT_V4, 1000));
+    case PORTACL:
+        return outcome_of(g->portacl(TEXT(portacl), 1, 65535, 1, 1, 1000, groups, 16, GATE_TCP, 10001));
+    case CHECK:
+        return (struct outcome){g->check(TEXT(sheet)).number, 0, 0};
+    case EXPAND:
+        written = g->expand(out.bytes, GATE_SHEET_LIMIT, TEXT(command), FROM(CLIENT_V4), 4711);
+        return (struct outcome){written.number, 0, written.count};
+    }
+    return (struct outcome){0, 0, 0};
+}
+
+static bool by_wrappers(void) {
+    struct request_info r;
+    request_init(&r, RQ_DAEMON, "sshd", RQ_CLIENT_NAME, "pump.example", RQ_CLIENT_ADDR, client_texts[current->client],
+                 RQ_SERVER_ADDR, "192.0.2.2", RQ_USER, current->user == GATE_USER_KNOWN ? "fitter" : "unknown", 0);
+    if (current->call == EXPAND)
+        return percent_x((char *)out.bytes, GATE_SHEET_LIMIT, (char *)command.bytes, &r) != NULL;
+    return hosts_access(&r) == (current->expected.word == GATE_GRANTED);
+}
+
+static bool read_file(const char *path, size_t len) {
+    FILE *file = fopen(path, "r");
+    bool whole = file && fread(out.bytes, 1, sizeof out.bytes, file) == len;
+    return file && !fclose(file) && whole;
+}
+
+static uint64_t sum_of(const struct text *t) {
+    const uint8_t *bytes = t->bytes, *end = bytes + t->len;
+    uint64_t sum = 0;
+    while (bytes < end)
+        sum += *bytes++;
+    return sum;
+}
+
+static uint64_t sum_handed(void) {
+    return sum_of(handed[0]) + (handed[1] ? sum_of(handed[1]) : 0);
+}
+
+enum who { GATE, BEFORE, WRAPPERS, FILES, SUM, WHO_COUNT };
+static const char *const who_names[] = {"gate", "before", "tcp_wrappers", "files", "sum"};
+
+static bool takes_part(enum who who) {
+    switch (who) {
+    case WRAPPERS:
+        return current->wrappers;
+    case FILES:
+        return current->wrappers && current->call != EXPAND;
+    case SUM:
+        return handed_len > 0;
+    default:
+        return (int)who < builds;
+    }
+}
+
+/* One call; whether its answer is the expected one. */
+static bool call(enum who who) {
+    switch (who) {
+    case WRAPPERS:
+        return by_wrappers();
+    case FILES:
+        return read_file(allow_path, allow.len) && read_file(deny_path, deny.len);
+    case SUM:
+        return sum_handed() == handed_sum;
+    default: {
+        struct outcome answer = by_gate(&libraries[who]), expected = current->expected;
+        return answer.number == expected.number && answer.word == expected.word && answer.detail == expected.detail;
+    }
+    }
+}
+
+static void fail_unless(bool expected, enum who who) {
+    if (expected)
+        return;
+    fprintf(stderr, "compare: %s: not the expected answer by %s\n", current->name, who_names[who]);
+    exit(1);
+}
+
+__attribute__((noinline)) bool counted(enum who who) {
+    return call(who);
 }
 
 static double now(void) {
@@ -28,62 +240,115 @@ static double now(void) {
     return (double)t.tv_sec * 1e9 + (double)t.tv_nsec;
 }
 
-static int by_gate(size_t n) {
-    struct gate_answer a = gate_verdict((const uint8_t *)"", 0, (const uint8_t *)text, n, (const uint8_t *)"sshd", 4,
-                                        2, 4, 0, 0xc0000201, (const uint8_t *)"pump.example", 12,
-                                        0, 4, 0, 0xc0000202, (const uint8_t *)"", 0, 1, (const uint8_t *)"", 0);
-    return a.number == 0 && a.word == GATE_GRANTED && a.file == 0;
+/* Nanoseconds of so many calls, after one that finds the caches as whoever came before left them. */
+static double timed(enum who who, unsigned calls) {
+    bool sound = call(who);
+    double start = now();
+    for (unsigned i = 0; i < calls; i++)
+        sound &= call(who);
+    double taken = now() - start;
+    fail_unless(sound, who);
+    return taken;
 }
 
-static void pack_sheet(size_t n) {
-    const uint8_t *none = (const uint8_t *)"";
-    sheet_len = gate_pack(sheet, sizeof sheet, none, 0, (const uint8_t *)text, n, none, 0, none, 0).count;
+/* Lowers `best` to the least nanoseconds of a call by each. Short calls are timed together, so that the clock's own time does not show. */
+static void time_current(double best[WHO_COUNT]) {
+    enum { rounds = 300, least = 5000, budget = 60000000 };
+    unsigned together[WHO_COUNT];
+    double end = now() + budget;
+    for (enum who who = 0; who < WHO_COUNT; who++)
+        for (together[who] = 1; takes_part(who) && timed(who, together[who]) < least;)
+            together[who] *= 2;
+    for (int round = 0; round < rounds || now() < end; round++)
+        for (enum who who = 0; who < WHO_COUNT; who++) {
+            double taken = takes_part(who) ? timed(who, together[who]) / together[who] : 0;
+            if (best[who] == 0 || taken < best[who])
+                best[who] = taken;
+        }
 }
 
-static int by_sheet(void) {
-    struct gate_answer a = gate_sheet_verdict(sheet, sheet_len, (const uint8_t *)"sshd", 4,
-                                              2, 4, 0, 0xc0000201, (const uint8_t *)"pump.example", 12,
-                                              0, 4, 0, 0xc0000202, (const uint8_t *)"", 0, 1, (const uint8_t *)"", 0);
-    return a.number == 0 && a.word == GATE_GRANTED && a.file == 0;
+static void add(struct text *t, const char *form, unsigned i) {
+    t->len += (size_t)sprintf((char *)t->bytes + t->len, form, i, i, i % 256, i / 2 % 256);
 }
 
-static int by_wrappers(void) {
-    struct request_info r;
-    request_init(&r, RQ_DAEMON, "sshd", RQ_CLIENT_NAME, "pump.example", RQ_CLIENT_ADDR, "192.0.2.1", RQ_USER, "unknown", 0);
-    return hosts_access(&r);
+/* Makes a text by its recipe. Where it has a size, the line that does not fit becomes a comment; a comma at the end is dropped. */
+static void make(struct text *t, const struct recipe *r) {
+    size_t fits = t->len = 0;
+    if (r && r->first)
+        t->len = fits = strlen(strcpy((char *)t->bytes, r->first));
+    for (unsigned i = 0; r && r->form && (i < r->lines || t->len < r->size); i++) {
+        fits = t->len;
+        add(t, r->form, r->from + i);
+    }
+    if (r && r->size) {
+        memset(t->bytes + fits, '#', r->size - fits);
+        t->bytes[r->size - 1] = '\n';
+        t->len = r->size;
+    }
+    if (t->len && t->bytes[t->len - 1] == ',')
+        t->len--;
+    t->bytes[t->len] = 0;
 }
 
-static void fail(const char *why) {
-    fprintf(stderr, "compare: %s\n", why);
-    exit(1);
+static void write_file(const char *path, const struct text *t) {
+    FILE *file = fopen(path, "w");
+    if (!file || fwrite(t->bytes, 1, t->len, file) != t->len || fclose(file))
+        fail(path, "cannot be written");
+}
+
+static void prepare(const struct test_case *c) {
+    static const struct text *const first[] = {&allow, &sheet, &byuid, &portacl, &sheet, &command};
+    current = c;
+    make(&allow, c->allow);
+    make(&deny, c->deny);
+    make(&byuid, c->byuid);
+    make(&portacl, c->portacl);
+    make(&command, c->command);
+    sheet.len = libraries[0].pack(sheet.bytes, GATE_SHEET_LIMIT, TEXT(allow), TEXT(deny), TEXT(byuid), TEXT(portacl)).count;
+    write_file(allow_path, &allow);
+    write_file(deny_path, &deny);
+    handed[0] = first[c->call];
+    handed[1] = c->call == VERDICT ? &deny : NULL;
+    handed_len = handed[0]->len + (handed[1] ? handed[1]->len : 0);
+    handed_sum = sum_handed();
+}
+
+enum { case_count = sizeof cases / sizeof *cases };
+static double best[case_count][WHO_COUNT];
+
+/* All cases several times over, so that other work on the machine for a while spoils none. */
+static void time_cases(void) {
+    enum { sweeps = 6 };
+    for (int i = 0; i < sweeps * case_count; i++) {
+        prepare(&cases[i % case_count]);
+        time_current(best[i % case_count]);
+    }
+}
+
+/* The current case's lines. */
+static void show(bool count, const double times[WHO_COUNT]) {
+    for (enum who who = 0; who < WHO_COUNT; who++) {
+        if (!takes_part(who))
+            continue;
+        if (count)
+            fail_unless(call(who) && counted(who), who);
+        printf("%s\t%zu\t%s\t%.2f\n", current->name, handed_len, who_names[who], times[who]);
+    }
 }
 
 int main(int argc, char **argv) {
-    int rules = argc > 1 ? atoi(argv[1]) : 300, rounds = 2000;
-    size_t n = make_rules(rules);
-    char path[] = "/dev/shm/hosts.deny.XXXXXX";
-    int fd = mkstemp(path);
-    FILE *file = fd < 0 ? NULL : fdopen(fd, "w");
-    if (!file || fwrite(text, 1, n, file) != n || fclose(file))
-        fail("no file in memory");
-    hosts_allow_table = "/dev/null";
-    hosts_deny_table = path;
-    pack_sheet(n);
-    if (!by_gate(n) || !by_sheet() || !by_wrappers())
-        fail("a rule matched");
-    double best[3] = {1e18, 1e18, 1e18};
-    for (int i = 0; i < rounds; i++)
-        for (int who = 0; who < 3; who++) {
-            double start = now();
-            int sound = who == 0 ? by_gate(n) : who == 1 ? by_sheet() : by_wrappers();
-            double taken = now() - start;
-            if (!sound)
-                fail("an answer changed");
-            if (taken < best[who])
-                best[who] = taken;
-        }
-    remove(path);
-    printf("%d rules, %zu bytes: gate %.2f ns a byte, by a sheet %.2f, tcp_wrappers %.2f; ratios %.2f and %.2f\n", rules, n,
-           best[0] / (double)n, best[1] / (double)n, best[2] / (double)n, best[0] / best[2], best[1] / best[2]);
+    bool count = argc > 1 && !strcmp(argv[1], "count");
+    if (argc < 4 || argc > 5 || (!count && strcmp(argv[1], "time")))
+        fail("usage", "compare time|count DIR GATE.so [BEFORE.so]");
+    snprintf(hosts_allow_table = allow_path, sizeof allow_path, "%s/hosts.allow", argv[2]);
+    snprintf(hosts_deny_table = deny_path, sizeof deny_path, "%s/hosts.deny", argv[2]);
+    for (builds = 0; builds < argc - 3; builds++)
+        load(&libraries[builds], argv[builds + 3]);
+    if (!count)
+        time_cases();
+    for (int i = 0; i < case_count; i++) {
+        prepare(&cases[i]);
+        show(count, best[i]);
+    }
     return 0;
 }
