@@ -23,10 +23,18 @@ use Rattle.address.specs.Address.{readV4, readV6}
 use Rattle.address.specs.declared.read.V6Read.{V6Read}
 use Rattle.address.specs.declared.read.V6Read.the-variants as W
 use Rattle.byuid.specs.Byuid.{Range, readPort}
+use Rattle.byuid.specs.declared.Decision.{Decision}
+use Rattle.byuid.specs.declared.Decision.the-variants.{NotRuled, Granted, NoLine}
 use Rattle.byuid.specs.declared.line.Kind.{Kind}
 use Rattle.byuid.specs.declared.line.Kind.the-variants as K
 use Rattle.byuid.specs.declared.line.Held.{Held}
 use Rattle.byuid.specs.declared.line.Held.the-variants as H
+
+-- the paper's words; no promise cites them
+abbrev pub decisionWord : Decision → List ℕ
+decisionWord NotRuled = bytes "not ruled"
+decisionWord Granted = bytes "granted"
+decisionWord NoLine = bytes "no line"
 
 -- ## Numbers
 

@@ -10,7 +10,7 @@ use Rattle.text.specs.Basics.{isSome}
 use Rattle.section.specs.Refusal.{Outcome, refused, answered, _>>=_}
 use Rattle.elements.specs.declared.User.{User}
 use Rattle.elements.specs.declared.User.the-variants as U
-use Rattle.elements.specs.Request as R
+use Rattle.elements.specs.Code as R
 use Rattle.elements.specs.Request.{Request, wellFormed}
 use Rattle.rules.specs.declared.Answer.{Answer}
 use Rattle.rules.specs.declared.Verdict.{Verdict}

@@ -25,7 +25,7 @@ use Rattle.portacl.specs.Portacl as Portacl
 use Rattle.sheet.specs.declared.Parts.{Parts}
 use Rattle.sheet.specs.declared.unpack.Unpacked.{Unpacked}
 use Rattle.sheet.specs.declared.unpack.Unpacked.the-variants as Un
-use Rattle.sheet.specs.Code.{unpackedOf}
+use Rattle.sheet.specs.Sheet.{unpackedOf}
 use Rattle.codes.specs.declared.GateAnswer.{GateAnswer}
 use Rattle.codes.specs.declared.GateCheck.{GateCheck}
 use Rattle.codes.specs.declared.GateParts.{GateParts}

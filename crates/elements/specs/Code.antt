@@ -2,6 +2,7 @@
 -- the meaning of document 01: its words are those of Request and Element.
 --   elementFault kind e          == what is wrong with e as an element of that kind
 --   daemonRequest, clientRequest == a request by what the elements of a list look at
+--   withUser r u name            == the request r, with that user
 --   atSign e                     == the place of the `@` that parts e
 -- Assumes nothing: these are definitions.
 use Prim.Native.Nat.{ℕ, _+_}
@@ -37,6 +38,10 @@ daemonRequest d s = requestOf d nobody s U.NotFetched []
 
 abbrev pub clientRequest : Endpoint → User → List ℕ → Request
 clientRequest c u name = requestOf [] c nobody u name
+
+-- "Two are alike in all else when at most the user differs"
+abbrev pub withUser : Request → User → List ℕ → Request
+withUser r u name = record { daemon = r .daemon; client = r .client; server = r .server; user = u; userName = name }
 
 -- the place of the `@` that parts an element, the length where none does
 unfoldable pub atSign : List ℕ → ℕ

@@ -1,7 +1,6 @@
 -- Document 01, "Elements", "Asking" and "The words of demand 3": what a request is.
 --   userCase r ..     == a value for each state of a user
 --   wellFormed r      == every field is within its size
---   withUser r u name == the request alike in all else, with that user
 -- Assumes nothing: these are definitions.
 use Prim.Native.Nat.{ℕ}
 use mathlib.Core.Bool.{Bool, true, _&&_}
@@ -35,7 +34,3 @@ wellFormed r =
   where
     nameFits : Endpoint → Bool
     nameFits h = nameCase h true true (inRange 1 255 (length (h .name)))
-
--- "Two are alike in all else when at most the user differs"
-abbrev pub withUser : Request → User → List ℕ → Request
-withUser r u name = record { daemon = r .daemon; client = r .client; server = r .server; user = u; userName = name }

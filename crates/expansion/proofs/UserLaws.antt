@@ -11,7 +11,8 @@ use Rattle.text.proofs.BasicLaws.{or-false}
 use Rattle.lines.specs.Line.{join}
 use Rattle.lines.specs.Command.{Piece, literal, directive, pieces, isDirective, skipBlanks, trimmed}
 use Rattle.elements.specs.declared.User.{User}
-use Rattle.elements.specs.Request.{Request, wellFormed, withUser}
+use Rattle.elements.specs.Request.{Request, wellFormed}
+use Rattle.elements.specs.Code.{withUser}
 use Rattle.expansion.specs.Expand.{inserted, pieceText, expansion, usesUser, expand}
 
 -- "So `%%u` uses neither."

@@ -37,6 +37,13 @@ abbrev pub checkedOf : Option Refusal → Checked
 checkedOf none = C.Sound
 checkedOf (some r) = C.Refused r
 
+-- the paper's words; no promise cites them
+abbrev pub decisionWord : Decision → List ℕ
+decisionWord NotRuled = bytes "not ruled"
+decisionWord Exempt = bytes "exempt"
+decisionWord Granted = bytes "granted"
+decisionWord Denied = bytes "denied"
+
 -- ## An entry
 
 abbrev pub asEntry : Option Entry → EntryRead

@@ -19,7 +19,8 @@ use Rattle.elements.specs.declared.User.the-variants as U
 use Rattle.elements.specs.declared.Found.{Found}
 use Rattle.elements.specs.declared.Found.the-variants.{No, Yes, Ask}
 use Rattle.patterns.specs.Host.{Endpoint}
-use Rattle.elements.specs.Request.{Request, userCase, wellFormed, withUser}
+use Rattle.elements.specs.Request.{Request, userCase, wellFormed}
+use Rattle.elements.specs.Code.{withUser}
 use Rattle.patterns.specs.Pattern.{hostPattern}
 use Rattle.elements.specs.Element.{halves, foundIf, daemonName, userHalf, daemonParts, clientParts, daemonElement, clientElement, lookAt}
 use Rattle.lists.specs.Walk.{onFound, included, excluded, ruleFound}

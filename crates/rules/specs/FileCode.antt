@@ -19,6 +19,7 @@ use mathlib.Core.Option.{Option, none, some}
 use mathlib.Core.Path.{_≡_}
 use lib.ListN.{length, take, drop}
 use Rattle.text.specs.Basics.{if_then_else_, _orElse_, first}
+use Rattle.text.specs.Text.{bytes}
 use Rattle.section.specs.declared.Fault.{Fault}
 use Rattle.section.specs.declared.Fault.the-variants as F
 use Rattle.section.specs.declared.Part.{Part}
@@ -35,7 +36,7 @@ use Rattle.elements.specs.Request.{Request}
 use Rattle.lists.specs.Check.{ruleFault}
 use Rattle.lists.specs.Code.{NoNewline, lineFound}
 use Rattle.rules.specs.declared.Verdict.{Verdict}
-use Rattle.rules.specs.declared.Verdict.the-variants.{Granted, Denied}
+use Rattle.rules.specs.declared.Verdict.the-variants.{Granted, Denied, Ask}
 use Rattle.rules.specs.declared.File.{File}
 use Rattle.rules.specs.declared.File.the-variants.{Neither, Allow, Deny}
 use Rattle.rules.specs.declared.Answer.{Answer}
@@ -50,6 +51,12 @@ use Rattle.rules.specs.declared.hosts_file.Told.the-variants as T
 use Rattle.rules.specs.declared.hosts_file.Step.{Step}
 use Rattle.rules.specs.Check.{lineFault, hostsFault}
 use Rattle.rules.specs.Search.{answer, rawCommand, lineAnswer}
+
+-- the paper's words; no promise cites them
+abbrev pub verdictWord : Verdict → List ℕ
+verdictWord Granted = bytes "granted"
+verdictWord Denied = bytes "denied"
+verdictWord Ask = bytes "ask"
 
 -- ## A text
 

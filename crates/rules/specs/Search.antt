@@ -10,7 +10,6 @@ use mathlib.Core.List.{List, [], _∷_}
 use mathlib.Core.Option.{Option, none, some, Option·getD}
 use lib.ListN.{length, take, drop}
 use Rattle.text.specs.Basics.{if_then_else_, _>>=_, _orElse_, given, isEmpty, first}
-use Rattle.text.specs.Text.{bytes}
 use Rattle.section.specs.declared.Fault.the-variants as F
 use Rattle.section.specs.declared.Part.{Part}
 use Rattle.section.specs.Refusal.{Outcome, refused, answered, placeless, refusing}
@@ -32,12 +31,7 @@ use Rattle.rules.specs.declared.Ruling.{Ruling}
 use Rattle.rules.specs.declared.Ruling.the-variants as Ruling
 use Rattle.rules.specs.Check.{hostsFault}
 
--- the paper's words, and the section of a file
-abbrev pub verdictWord : Verdict → List ℕ
-verdictWord Granted = bytes "granted"
-verdictWord Denied = bytes "denied"
-verdictWord Ask = bytes "ask"
-
+-- the section of a file
 abbrev pub fileSection : File → ℕ
 fileSection Neither = 0
 fileSection Allow = S.allow .order

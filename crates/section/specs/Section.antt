@@ -7,7 +7,6 @@ use mathlib.Core.Option.{Option}
 use lib.ListN.{length}
 use lib.Dec.{ltb}
 use Rattle.text.specs.Basics.{given}
-use Rattle.section.specs.declared.Cursor.{Cursor}
 use Rattle.section.specs.declared.Fault.the-variants as F
 use Rattle.section.specs.declared.Part.{Part}
 use Rattle.section.specs.declared.Refusal.{Refusal}
@@ -34,10 +33,6 @@ byuid = record { order = 3; limit = 8192 }
 
 abbrev pub portacl : Section
 portacl = record { order = 4; limit = 1024 }
-
--- where a section's count stands, with that section's limit and order
-abbrev pub cursorAt : Section → ℕ → Cursor
-cursorAt s at = record { at = at; limit = s .limit; order = s .order }
 
 -- 2: "a section's count, or a text handed in directly, is over its limit"
 abbrev pub overLimit : Section → List ℕ → Option Refusal

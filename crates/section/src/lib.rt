@@ -8,7 +8,7 @@ ghost use mathlib.Core.Path.{_≡_};
 ghost use lib.Dec.{ltb};
 ghost use Rattle.section.specs.Refusal.{faultNumber, refusal, placeless};
 ghost use Rattle.section.specs.Section as S;
-ghost use Rattle.section.specs.Section.{cursorAt};
+ghost use Rattle.section.specs.Code.{cursorAt};
 
 // Why something is refused; faultNumber gives document 01's number.
 pub enum Fault {

@@ -14,7 +14,8 @@ use Rattle.section.specs.declared.Part.{Part}
 use Rattle.section.specs.declared.Refusal.{Refusal}
 use Rattle.section.specs.Refusal.{Outcome, refused, answered, _>>=_, refusal, placeless}
 use Rattle.section.specs.Section as S
-use Rattle.section.specs.Section.{Section, part, cursorAt}
+use Rattle.section.specs.Section.{Section, part}
+use Rattle.section.specs.Code.{cursorAt}
 use Rattle.sheet.specs.declared.Parts.{Parts}
 use Rattle.sheet.specs.declared.frame.SectionRead.{SectionRead}
 use Rattle.sheet.specs.declared.frame.SectionRead.the-variants as R

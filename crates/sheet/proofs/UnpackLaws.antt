@@ -15,8 +15,8 @@ use Rattle.sheet.specs.declared.frame.Framed.{Framed as FramedRead}
 use Rattle.sheet.specs.declared.frame.Framed.the-variants as Fr
 use Rattle.sheet.specs.declared.unpack.Unpacked.{Unpacked}
 use Rattle.sheet.specs.declared.unpack.Unpacked.the-variants as Un
-use Rattle.sheet.specs.Sheet.{texts, textAt, textsAt, textsFault, frame, unpack}
-use Rattle.sheet.specs.Code.{checkedOf, framedOf, unpackedOf}
+use Rattle.sheet.specs.Sheet.{texts, textAt, textsAt, textsFault, frame, unpack, unpackedOf}
+use Rattle.sheet.specs.Code.{checkedOf, framedOf}
 
 pub framed-refused : (o : Outcome Parts) (g : Refusal) → framedOf o ≡ Fr.Refused g → o ≡ refused g
 framed-refused (refused r) g e = cc

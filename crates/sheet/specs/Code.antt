@@ -1,5 +1,5 @@
 -- What the contracts of inner functions cite, and the enums of the code. Nothing here needs to be believed for the meaning of document 01.
---   checkedOf o, sectionReadOf o, framedOf o, unpackedOf o == o as the code answers it
+--   checkedOf o, sectionReadOf o, framedOf o == o as the code answers it
 --   limitsFault ts, contentsFault allow deny portacl == the two halves of textsFault
 --   sectionOf c      == the section of a cursor
 --   fromDeny sheet a, fromByuid sheet a d, fromPortacl sheet a d b, toEnd sheet p == what is left of frame, once the parts before are read
@@ -26,8 +26,6 @@ use Rattle.sheet.specs.declared.frame.SectionRead.{SectionRead}
 use Rattle.sheet.specs.declared.frame.SectionRead.the-variants as R
 use Rattle.sheet.specs.declared.frame.Framed.{Framed}
 use Rattle.sheet.specs.declared.frame.Framed.the-variants as Fr
-use Rattle.sheet.specs.declared.unpack.Unpacked.{Unpacked}
-use Rattle.sheet.specs.declared.unpack.Unpacked.the-variants as U
 use Rattle.sheet.specs.Sheet.{Texts, sectionAt, partEnd}
 
 -- ## Texts
@@ -74,9 +72,3 @@ unfoldable pub fromDeny : List ℕ → Part → Outcome Parts
 fromDeny sheet a = do
   d ← sectionAt S.deny (partEnd a) sheet
   fromByuid sheet a d
-
--- ## The calls
-
-abbrev pub unpackedOf : Outcome Parts → Unpacked
-unpackedOf (refused r) = U.Refused r
-unpackedOf (answered p) = U.Parts p

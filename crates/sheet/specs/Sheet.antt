@@ -1,6 +1,7 @@
 -- Document 01, "The station sheet" and the order of refusals over it.
 --   frame sheet       == the places of the four texts, by the counts alone
 --   unpack sheet      == the same for an accepted sheet; every other one is refused
+--   unpackedOf o      == the outcome of unpack as the call answers it
 --   pack ts room      == the sheet of four texts, into room bytes
 -- Assumes nothing: these are definitions.
 use Prim.Native.Nat.{ℕ, _+_}
@@ -19,6 +20,8 @@ use Rattle.section.specs.Section.{Section, part, overLimit}
 use Rattle.rules.specs.Check.{hostsFault}
 use Rattle.portacl.specs.Portacl.{portaclFault}
 use Rattle.sheet.specs.declared.Parts.{Parts}
+use Rattle.sheet.specs.declared.unpack.Unpacked.{Unpacked}
+use Rattle.sheet.specs.declared.unpack.Unpacked.the-variants as U
 
 -- ## Four texts
 
@@ -81,6 +84,11 @@ unfoldable pub unpack : List ℕ → Outcome Parts
 unpack sheet = do
   p ← frame sheet
   refusing (textsFault (textsAt sheet p)) p
+
+-- the outcome as the call answers it
+abbrev pub unpackedOf : Outcome Parts → Unpacked
+unpackedOf (refused r) = U.Refused r
+unpackedOf (answered p) = U.Parts p
 
 abbrev pub counted : List ℕ → List ℕ
 counted t = toDigits 256 4 (length t) ++ t

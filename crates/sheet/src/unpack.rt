@@ -1,8 +1,8 @@
 // Unpacking a sheet.
 //   unpack(sheet) == the place and length of each text of an accepted sheet; every other one is refused
 ghost use mathlib.Core.Path.{_≡_};
-ghost use Rattle.sheet.specs.Sheet.{textsAt, textsFault, unpack as unpackOf};
-ghost use Rattle.sheet.specs.Code.{checkedOf, unpackedOf};
+ghost use Rattle.sheet.specs.Sheet.{textsAt, textsFault, unpack as unpackOf, unpackedOf};
+ghost use Rattle.sheet.specs.Code.{checkedOf};
 use crate::Parts;
 use crate::frame;
 use crate::frame::Framed;

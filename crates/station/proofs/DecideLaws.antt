@@ -47,9 +47,9 @@ use Rattle.sheet.specs.declared.frame.Framed.{Framed as FramedRead}
 use Rattle.sheet.specs.declared.frame.Framed.the-variants as Fr
 use Rattle.sheet.specs.declared.unpack.Unpacked.{Unpacked}
 use Rattle.sheet.specs.declared.unpack.Unpacked.the-variants as Un
-use Rattle.sheet.specs.Sheet.{textAt, textsAt, textsFault, frame, unpack}
+use Rattle.sheet.specs.Sheet.{textAt, textsAt, textsFault, frame, unpack, unpackedOf}
 use Rattle.station.specs.Station.{filePlace, inSheet, decideSheet, decideByuidSheet, decidePortaclSheet}
-use Rattle.sheet.specs.Code.{framedOf, unpackedOf}
+use Rattle.sheet.specs.Code.{framedOf}
 use Rattle.station.specs.Code.{decidedBy}
 use Rattle.sheet.proofs.FrameLaws.{SectionAt, frame-answered, refusing-answered, take-drop-take}
 use Rattle.sheet.proofs.UnpackLaws.{framed-refused, unpacked-refused, unpacked-parts}
