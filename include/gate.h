@@ -1,10 +1,15 @@
 /* The access gate for C: verdicts, port decisions, station sheets, command expansion and addresses.
  *
- * Linking: `rt staticlib gate` writes target/staticlib/libgate.a. It needs no other library, allocates nothing and keeps nothing
- * between calls, so any thread may call any function at any time.
+ * Linking: libgate.a is a static archive; there is no shared library. From the C library it needs memcpy and memset, and nothing
+ * else. It allocates nothing and keeps nothing between calls, so any thread may call any function at any time, with GATE_STACK bytes
+ * of stack.
  *
- * Bytes. A text (`const uint8_t *x, size_t x_len`) is any x_len bytes, with no ending zero. The pointer must not be null, also where
- * the length is 0. Nothing is read beyond the length. Inputs may overlap each other.
+ * This file has two parts. The exports, below, take bytes and numbers. The calls behind them, whose names end in _for, are inline
+ * and take a struct gate_request or its like, so that every field is set by its name; use these.
+ *
+ * Bytes. A text (`const uint8_t *x, size_t x_len`) is any x_len bytes, with no ending zero. Where the length is 0 the pointer may be
+ * null: no name, no text, no groups, no room. (This rests on the compiled code, which follows no pointer to nothing, and on tests/calls.c,
+ * which hands over null in every position.) Nothing is read beyond the length. Inputs may overlap each other.
  *
  * Output (`uint8_t *out, size_t out_len`). What a function writes stands at the front of out; the bytes behind it stay as they are.
  * out must overlap no input. A refusal writes nothing.
@@ -13,12 +18,12 @@
  * members but these three are 0. Where several refusals hold, the one given is the first in the order of document 01: those of the
  * sheet, of the texts or of the command, then 13, then 14.
  *
- * Requests. The same thirteen arguments describe a request to gate_verdict, gate_sheet_verdict and gate_expand:
+ * Requests. The same seventeen arguments describe a request to gate_verdict, gate_sheet_verdict and gate_expand:
  *   daemon         1 to 64 bytes
- *   client_state   enum gate_name; client_name is 1 to 255 bytes where it is known, and not looked at otherwise
+ *   client_state   enum gate_name; client_name is 1 to 255 bytes where it is known, and says nothing otherwise
  *   client_kind    enum gate_kind, with client_high and client_low (see there)
  *   server_..      the same for the server's end of the connection
- *   user           enum gate_user; user_name is 1 to 64 bytes where it is known, and not looked at otherwise
+ *   user           enum gate_user; user_name is 1 to 64 bytes where it is known, and says nothing otherwise
  * Names may hold any bytes. What is not among these sizes and numbers is refused by GATE_BAD_REQUEST. */
 #ifndef GATE_H
 #define GATE_H
@@ -29,6 +34,8 @@
 #ifdef __cplusplus
 extern "C" {
 #endif
+
+#define GATE_VERSION "1.0.0"
 
 /* Numbers: of an answer, or of a refusal. */
 enum gate_number {
@@ -49,7 +56,7 @@ enum gate_number {
     GATE_NO_ROOM = 14          /* the whole output is longer than out_len */
 };
 
-/* Sections, and the most bytes of each. A sheet has the four in this order, each behind its count in four bytes. */
+/* Sections. A sheet has the four in this order, each behind its count in four bytes. */
 enum gate_section {
     GATE_NO_SECTION = 0, /* of 3, 13 and 14, and of a command's refusals */
     GATE_ALLOW = 1,
@@ -57,11 +64,36 @@ enum gate_section {
     GATE_BYUID = 3,
     GATE_PORTACL = 4
 };
+
+/* The most bytes of each section, and of a sheet. */
 #define GATE_ALLOW_LIMIT 16384
 #define GATE_DENY_LIMIT 16384
 #define GATE_BYUID_LIMIT 8192
 #define GATE_PORTACL_LIMIT 1024
 #define GATE_SHEET_LIMIT 42000
+
+/* The most bytes of a request's names, and the most groups. */
+#define GATE_DAEMON_LIMIT 64
+#define GATE_NAME_LIMIT 255 /* of a host */
+#define GATE_USER_LIMIT 64
+#define GATE_GROUPS_LIMIT 16
+
+/* The most bytes of a logical line, and of a command, after joining. */
+#define GATE_LINE_LIMIT 2047
+
+/* Room that is always enough: for an address (eight groups of four digits and seven colons), and for an expanded command. Of the
+ * directives, each of two bytes, none writes more than %c (user@name) and %s (daemon@name): so 1,023 times 64 + 1 + 255, and the one
+ * byte left over. */
+#define GATE_ADDRESS_ROOM 39
+#define GATE_EXPANSION_ROOM (GATE_LINE_LIMIT / 2 * (GATE_USER_LIMIT + 1 + GATE_NAME_LIMIT) + GATE_LINE_LIMIT % 2)
+
+/* The stack that any call needs, in bytes, with a margin; the caller's own frames come on top. On x86-64 the most is some 52,000, by a
+ * verdict on a line of 2,047 bytes that is `a:a EXCEPT a EXCEPT a ..`: each of its 227 EXCEPTs takes a frame of 208 bytes. Only the
+ * walks through client and daemon lists call themselves; all calls but the two verdicts stay under 5,000. It was found in two ways that
+ * agree: tests/stack.py adds up the frames of the archive's functions along the deepest path of calls, for any input, and tests/stack.c
+ * paints the stack of a thread whose whole stack is this, and makes every call on the worst inputs known. The margin also covers the
+ * first call of memcpy through a dynamic linker (some 3,000). */
+#define GATE_STACK 65536
 
 /* Words of a decision. */
 enum gate_word {
@@ -112,8 +144,8 @@ struct gate_answer {
     uint64_t len;     /* its length; 0 where there is no command, and then place says nothing */
 };
 
-/* A check alone. */
-struct gate_check {
+/* What a check alone answers. */
+struct gate_checked {
     uint32_t number, section;
     uint64_t line;
 };
@@ -135,7 +167,7 @@ struct gate_parts {
     uint64_t portacl_place, portacl_len;
 };
 
-/* An address that was read. */
+/* An address that was read. Of a refused text kind is 0, as of an unknown address: look at number first, or use gate_host_read. */
 struct gate_address {
     uint32_t number, section;
     uint64_t line;
@@ -180,7 +212,7 @@ struct gate_answer gate_sheet_portacl(const uint8_t *sheet, size_t sheet_len,
                                       uint32_t uid, const uint32_t *groups, size_t groups_len, uint32_t protocol, uint32_t port);
 
 /* Is this a sound sheet: its frame, and the lines and entries of its texts. */
-struct gate_check gate_check(const uint8_t *sheet, size_t sheet_len);
+struct gate_checked gate_check(const uint8_t *sheet, size_t sheet_len);
 
 /* The same, and where its texts stand. */
 struct gate_parts gate_unpack(const uint8_t *sheet, size_t sheet_len);
@@ -191,7 +223,7 @@ struct gate_written gate_pack(uint8_t *out, size_t out_len, const uint8_t *allow
                               size_t portacl_len);
 
 /* Writes a rule's command with its %a, %A, %n, %N, %h, %H, %u, %c, %d, %s, %p and %% replaced for a request: the command as a verdict
- * hands it back, or any other. It is joined and trimmed first. */
+ * hands it back, or any other. It is joined and trimmed first. GATE_EXPANSION_ROOM bytes are always room enough. */
 struct gate_written gate_expand(uint8_t *out, size_t out_len, const uint8_t *command, size_t command_len,
                                 const uint8_t *daemon, size_t daemon_len,
                                 uint32_t client_state, uint32_t client_kind, uint64_t client_high, uint64_t client_low,
@@ -203,8 +235,268 @@ struct gate_written gate_expand(uint8_t *out, size_t out_len, const uint8_t *com
 /* Reads an address: n.n.n.n, or IPv6 as inet_pton reads it. Any other text is refused by 13. */
 struct gate_address gate_read_address(const uint8_t *text, size_t text_len);
 
-/* Writes an address: n.n.n.n, IPv6 by RFC 5952 section 4 in hex groups, or `unknown`; 39 bytes are always room enough. */
+/* Writes an address: n.n.n.n, IPv6 by RFC 5952 section 4 in hex groups, or `unknown`; GATE_ADDRESS_ROOM bytes are always enough. */
 struct gate_written gate_write_address(uint8_t *out, size_t out_len, uint32_t kind, uint64_t high, uint64_t low);
+
+/* Requests as structs. A struct of zeros has no name, no address and no user fetched, and its pointers are null.
+ * Names are lent: a struct holds pointers to the caller's bytes. */
+
+/* One end of a connection. */
+struct gate_host {
+    uint32_t name_state; /* enum gate_name */
+    const char *name;    /* looked at only where it is known */
+    size_t name_len;
+    uint32_t kind;       /* enum gate_kind */
+    uint64_t high, low;
+};
+
+/* Who asks for what. */
+struct gate_request {
+    const char *daemon;
+    size_t daemon_len;
+    struct gate_host client, server;
+    uint32_t user;         /* enum gate_user */
+    const char *user_name; /* looked at only where it is known */
+    size_t user_name_len;
+};
+
+/* mac_portacl(4)'s settings. */
+struct gate_settings {
+    uint32_t enabled, port_high, suser_exempt, autoport_exempt;
+};
+
+/* Who binds a port. */
+struct gate_bind {
+    uint32_t uid;
+    const uint32_t *groups; /* at most GATE_GROUPS_LIMIT */
+    size_t groups_len;
+    uint32_t protocol;      /* enum gate_protocol */
+    uint32_t port;          /* 0 to 65535 */
+};
+
+#if defined(__GNUC__)
+#define GATE_MUST_LOOK __attribute__((warn_unused_result))
+#else
+#define GATE_MUST_LOOK
+#endif
+
+/* A host of unknown name and address. */
+static inline struct gate_host gate_host_unknown(void) {
+    struct gate_host host;
+    host.name_state = GATE_NAME_UNKNOWN;
+    host.name = NULL;
+    host.name_len = 0;
+    host.kind = GATE_ADDRESS_UNKNOWN;
+    host.high = 0;
+    host.low = 0;
+    return host;
+}
+
+/* count bytes, the most significant first, as a number. */
+static inline uint64_t gate_wire_number(const uint8_t *bytes, size_t count) {
+    uint64_t number = 0;
+    size_t i;
+    for (i = 0; i < count; i++)
+        number = number << 8 | bytes[i];
+    return number;
+}
+
+/* A host of unknown name, by the four bytes of its address as they are on the wire: &sockaddr_in.sin_addr. */
+static inline struct gate_host gate_host_ipv4(const void *address) {
+    struct gate_host host = gate_host_unknown();
+    host.kind = GATE_IPV4;
+    host.low = gate_wire_number((const uint8_t *)address, 4);
+    return host;
+}
+
+/* The same by sixteen bytes: &sockaddr_in6.sin6_addr. */
+static inline struct gate_host gate_host_ipv6(const void *address) {
+    struct gate_host host = gate_host_unknown();
+    host.kind = GATE_IPV6;
+    host.high = gate_wire_number((const uint8_t *)address, 8);
+    host.low = gate_wire_number((const uint8_t *)address + 8, 8);
+    return host;
+}
+
+/* Null with length 0 becomes a pointer to no bytes. */
+static inline const uint8_t *gate_bytes(const void *bytes, size_t len) {
+    return bytes || len ? (const uint8_t *)bytes : (const uint8_t *)"";
+}
+
+/* A host of unknown name, by its address as text. GATE_ANSWERED, or the number of the refusal, and then *host stays as it was. */
+GATE_MUST_LOOK static inline uint32_t gate_host_read(struct gate_host *host, const char *text, size_t text_len) {
+    struct gate_address read = gate_read_address(gate_bytes(text, text_len), text_len);
+    if (read.number != GATE_ANSWERED)
+        return read.number;
+    *host = gate_host_unknown();
+    host->kind = read.kind;
+    host->high = read.high;
+    host->low = read.low;
+    return GATE_ANSWERED;
+}
+
+/* Writes a host's address, as gate_write_address. */
+static inline struct gate_written gate_host_write(void *out, size_t out_len, const struct gate_host *host) {
+    return gate_write_address((uint8_t *)out, out_len, host->kind, host->high, host->low);
+}
+
+/* Names a host: a name, or null with length 0 where none is known. Its address stays. */
+static inline void gate_host_set_name(struct gate_host *host, const char *name, size_t name_len) {
+    host->name_state = name ? GATE_NAME_KNOWN : GATE_NAME_UNKNOWN;
+    host->name = name;
+    host->name_len = name_len;
+}
+
+/* Name and address of a host disagree; its address stays. */
+static inline void gate_host_set_paranoid(struct gate_host *host) {
+    host->name_state = GATE_NAME_PARANOID;
+    host->name = NULL;
+    host->name_len = 0;
+}
+
+/* A request to a daemon. Its ends are unknown and its user is not fetched until they are set: request.client = .., request.server = .. */
+static inline struct gate_request gate_request_to(const char *daemon, size_t daemon_len) {
+    struct gate_request request;
+    request.daemon = daemon;
+    request.daemon_len = daemon_len;
+    request.client = gate_host_unknown();
+    request.server = gate_host_unknown();
+    request.user = GATE_USER_NOT_FETCHED;
+    request.user_name = NULL;
+    request.user_name_len = 0;
+    return request;
+}
+
+/* The user was fetched: a name, or null with length 0 where none came. */
+static inline void gate_request_set_user(struct gate_request *request, const char *name, size_t name_len) {
+    request->user = name ? GATE_USER_KNOWN : GATE_USER_UNKNOWN;
+    request->user_name = name;
+    request->user_name_len = name_len;
+}
+
+/* The bytes of a name, and how many: none where it is not known. */
+static inline const uint8_t *gate_known_name(const char *name, size_t len, int known) {
+    return known ? gate_bytes(name, len) : gate_bytes(NULL, 0);
+}
+static inline size_t gate_known_len(size_t len, int known) {
+    return known ? len : 0;
+}
+
+/* The seventeen arguments of a request, in their order. */
+#define GATE_HOST_ARGUMENTS(host) \
+    (host).name_state, (host).kind, (host).high, (host).low, \
+        gate_known_name((host).name, (host).name_len, (host).name_state == GATE_NAME_KNOWN), \
+        gate_known_len((host).name_len, (host).name_state == GATE_NAME_KNOWN)
+#define GATE_REQUEST_ARGUMENTS(request) \
+    gate_bytes((request)->daemon, (request)->daemon_len), (request)->daemon_len, GATE_HOST_ARGUMENTS((request)->client), \
+        GATE_HOST_ARGUMENTS((request)->server), (request)->user, \
+        gate_known_name((request)->user_name, (request)->user_name_len, (request)->user == GATE_USER_KNOWN), \
+        gate_known_len((request)->user_name_len, (request)->user == GATE_USER_KNOWN)
+
+/* gate_verdict for a request. */
+static inline struct gate_answer gate_verdict_for(const void *allow, size_t allow_len, const void *deny, size_t deny_len,
+                                                  const struct gate_request *request) {
+    return gate_verdict(gate_bytes(allow, allow_len), allow_len, gate_bytes(deny, deny_len), deny_len, GATE_REQUEST_ARGUMENTS(request));
+}
+
+/* gate_sheet_verdict for a request. */
+static inline struct gate_answer gate_sheet_verdict_for(const void *sheet, size_t sheet_len, const struct gate_request *request) {
+    return gate_sheet_verdict(gate_bytes(sheet, sheet_len), sheet_len, GATE_REQUEST_ARGUMENTS(request));
+}
+
+/* gate_expand for a request. */
+static inline struct gate_written gate_expand_for(void *out, size_t out_len, const void *command, size_t command_len,
+                                                  const struct gate_request *request, uint32_t process) {
+    return gate_expand((uint8_t *)out, out_len, gate_bytes(command, command_len), command_len, GATE_REQUEST_ARGUMENTS(request), process);
+}
+
+/* gate_byuid and gate_sheet_byuid at a host's address; its name is not looked at. */
+static inline struct gate_answer gate_byuid_for(const void *text, size_t text_len, const struct gate_host *at, uint32_t port,
+                                                uint32_t uid) {
+    return gate_byuid(gate_bytes(text, text_len), text_len, port, at->kind, at->high, at->low, uid);
+}
+static inline struct gate_answer gate_sheet_byuid_for(const void *sheet, size_t sheet_len, const struct gate_host *at, uint32_t port,
+                                                      uint32_t uid) {
+    return gate_sheet_byuid(gate_bytes(sheet, sheet_len), sheet_len, port, at->kind, at->high, at->low, uid);
+}
+
+/* The settings that mac_portacl(4) starts with. */
+static inline struct gate_settings gate_settings_default(void) {
+    struct gate_settings settings;
+    settings.enabled = 1;
+    settings.port_high = 1023;
+    settings.suser_exempt = 1;
+    settings.autoport_exempt = 1;
+    return settings;
+}
+
+/* Null with length 0 becomes a pointer to no groups. */
+static inline const uint32_t *gate_groups(const uint32_t *groups, size_t len) {
+    static const uint32_t none = 0;
+    return groups || len ? groups : &none;
+}
+
+#define GATE_BIND_ARGUMENTS(settings, bind) \
+    (settings)->enabled, (settings)->port_high, (settings)->suser_exempt, (settings)->autoport_exempt, (bind)->uid, \
+        gate_groups((bind)->groups, (bind)->groups_len), (bind)->groups_len, (bind)->protocol, (bind)->port
+
+/* gate_portacl and gate_sheet_portacl for a bind. */
+static inline struct gate_answer gate_portacl_for(const void *text, size_t text_len, const struct gate_settings *settings,
+                                                  const struct gate_bind *bind) {
+    return gate_portacl(gate_bytes(text, text_len), text_len, GATE_BIND_ARGUMENTS(settings, bind));
+}
+static inline struct gate_answer gate_sheet_portacl_for(const void *sheet, size_t sheet_len, const struct gate_settings *settings,
+                                                        const struct gate_bind *bind) {
+    return gate_sheet_portacl(gate_bytes(sheet, sheet_len), sheet_len, GATE_BIND_ARGUMENTS(settings, bind));
+}
+
+/* What a number says, in a few words, to stand behind a file and a line. */
+static inline const char *gate_number_text(uint32_t number) {
+    switch (number) {
+    case GATE_ANSWERED: return "answered";
+    case GATE_CUT_SHORT: return "the sheet ends within a section";
+    case GATE_OVER_LIMIT: return "longer than its section may be";
+    case GATE_TRAILING_BYTES: return "bytes follow the last section";
+    case GATE_UNENDED: return "the last line has no ending newline";
+    case GATE_BAD_BYTE: return "a byte that is not printable ASCII, blank or tab";
+    case GATE_LONG_LINE: return "a line over 2047 bytes";
+    case GATE_NO_ELEMENT: return "no colon, or a list with no element";
+    case GATE_MISPLACED_EXCEPT: return "EXCEPT not between two elements";
+    case GATE_RESERVED_START: return "an element begins with @ or /";
+    case GATE_UNKNOWN_ELEMENT: return "no element kind fits";
+    case GATE_BAD_PERCENT: return "% at the end or before a letter that it does not take";
+    case GATE_BAD_ENTRY: return "not a portacl entry";
+    case GATE_BAD_REQUEST: return "a request field outside its size or its kinds";
+    case GATE_NO_ROOM: return "the output is longer than its room";
+    default: return "no such number";
+    }
+}
+
+/* A decision's word. */
+static inline const char *gate_word_text(uint32_t word) {
+    switch (word) {
+    case GATE_NO_WORD: return "refused";
+    case GATE_GRANTED: return "granted";
+    case GATE_DENIED: return "denied";
+    case GATE_ASK: return "ask";
+    case GATE_NO_LINE: return "no line";
+    case GATE_NOT_RULED: return "not ruled";
+    case GATE_EXEMPT: return "exempt";
+    default: return "no such word";
+    }
+}
+
+/* A section's name. */
+static inline const char *gate_section_text(uint32_t section) {
+    switch (section) {
+    case GATE_NO_SECTION: return "no section";
+    case GATE_ALLOW: return "allow";
+    case GATE_DENY: return "deny";
+    case GATE_BYUID: return "byuid";
+    case GATE_PORTACL: return "portacl";
+    default: return "no such section";
+    }
+}
 
 #ifdef __cplusplus
 }

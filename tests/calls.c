@@ -146,7 +146,7 @@ static int zero_parts(struct gate_parts p) {
 
 static void sheets(void) {
     begin(), lend();
-    struct gate_check c = gate_check(TEXT(sheet));
+    struct gate_checked c = gate_check(TEXT(sheet));
     expect("a sound sheet", c.number == GATE_ANSWERED && c.section == 0 && c.line == 0 && untouched());
     struct gate_parts p = gate_unpack(TEXT(sheet));
     expect("its texts", p.number == GATE_ANSWERED && p.allow_place == 4 && p.allow_len == 21 && p.deny_place == 29 && p.deny_len == 9 &&
@@ -189,6 +189,108 @@ static void addresses(void) {
     expect("no address", a.number == GATE_BAD_REQUEST && a.section == 0 && a.line == 0 && !(a.kind | a.high | a.low) && untouched());
 }
 
+/* What is handed over in each position that takes bytes or groups. */
+enum position { ALLOW, DENY, BYUID, PORTACL, SHEET, COMMAND, ADDRESS, DAEMON, CLIENT_NAME, SERVER_NAME, USER_NAME, LENT_OUT, LENT_GROUPS, POSITIONS };
+static struct {
+    const void *start;
+    size_t len;
+} given[POSITIONS];
+
+static struct answers {
+    struct gate_answer verdict, sheet_verdict, byuid, sheet_byuid, portacl, sheet_portacl;
+    struct gate_checked check;
+    struct gate_parts parts;
+    struct gate_written packed, expanded, written;
+    uint64_t address[3];
+} here, null;
+
+static void give_all(void) {
+    const struct text *t[] = {&m.allow, &m.deny, &m.byuid, &m.portacl, &m.sheet, &m.command, &m.address, &m.daemon, &m.client_name,
+                              &m.server_name, &m.user_name};
+    begin();
+    SET(server_name, "station");
+    for (int i = ALLOW; i <= USER_NAME; i++)
+        given[i].start = t[i]->bytes, given[i].len = t[i]->len;
+    given[LENT_OUT].start = m.out, given[LENT_OUT].len = sizeof m.out;
+    given[LENT_GROUPS].start = m.groups, given[LENT_GROUPS].len = 2;
+}
+
+#define GIVEN(position) given[position].start, given[position].len
+#define GIVEN_OUT (uint8_t *)given[LENT_OUT].start, given[LENT_OUT].len
+#define GIVEN_REQUEST(state) \
+    GIVEN(DAEMON), state, GATE_IPV4, 0, 0x0a000001, GIVEN(CLIENT_NAME), state, GATE_IPV6, 1, 2, GIVEN(SERVER_NAME), state, GIVEN(USER_NAME)
+#define GIVEN_BIND 1, 1023, 1, 1, 81, GIVEN(LENT_GROUPS), GATE_UDP, 53
+
+/* Every export with what is given; names and user of one state. */
+static void call_all(struct answers *a, uint32_t state) {
+    struct gate_address read = gate_read_address(GIVEN(ADDRESS));
+    a->verdict = gate_verdict(GIVEN(ALLOW), GIVEN(DENY), GIVEN_REQUEST(state));
+    a->sheet_verdict = gate_sheet_verdict(GIVEN(SHEET), GIVEN_REQUEST(state));
+    a->byuid = gate_byuid(GIVEN(BYUID), 80, GATE_IPV4, 0, 0x0aff0001, 432);
+    a->sheet_byuid = gate_sheet_byuid(GIVEN(SHEET), 80, GATE_IPV4, 0, 0x0aff0001, 432);
+    a->portacl = gate_portacl(GIVEN(PORTACL), GIVEN_BIND);
+    a->sheet_portacl = gate_sheet_portacl(GIVEN(SHEET), GIVEN_BIND);
+    a->check = gate_check(GIVEN(SHEET));
+    a->parts = gate_unpack(GIVEN(SHEET));
+    a->packed = gate_pack(GIVEN_OUT, GIVEN(ALLOW), GIVEN(DENY), GIVEN(BYUID), GIVEN(PORTACL));
+    a->expanded = gate_expand(GIVEN_OUT, GIVEN(COMMAND), GIVEN_REQUEST(state), 7);
+    a->written = gate_write_address(GIVEN_OUT, read.kind, read.high, read.low);
+    a->address[0] = read.number, a->address[1] = read.high, a->address[2] = read.low;
+}
+
+/* No bytes at a null pointer are answered as no bytes elsewhere, in each position and beside names of each state. */
+static void nulls(void) {
+    for (int position = 0; position < POSITIONS; position++)
+        for (uint32_t state = 0; state <= 2; state++) {
+            char what[40];
+            snprintf(what, sizeof what, "null in position %d, state %u", position, state);
+            give_all();
+            given[position].len = 0;
+            call_all(&here, state);
+            give_all();
+            given[position].start = NULL, given[position].len = 0;
+            call_all(&null, state);
+            expect(what, !memcmp(&here, &null, sizeof here));
+        }
+}
+
+/* What no bytes are answered with, by the last call of all: a null pointer in one position, a name or user of one state. */
+static const struct answers *without(int position, uint32_t state) {
+    give_all();
+    given[position].start = NULL, given[position].len = 0;
+    call_all(&null, state);
+    return &null;
+}
+
+static void null_answers(void) {
+    expect("no allow text", without(ALLOW, 1)->verdict.word == GATE_DENIED);
+    expect("no texts to pack", without(BYUID, 1)->packed.count == 73 && without(PORTACL, 1)->packed.count == 59);
+    expect("no sheet", without(SHEET, 1)->check.number == GATE_CUT_SHORT && null.check.section == GATE_ALLOW && null.sheet_verdict.number == GATE_CUT_SHORT);
+    expect("no daemon", without(DAEMON, 1)->verdict.number == GATE_BAD_REQUEST && null.expanded.number == GATE_BAD_REQUEST);
+    expect("no name", without(CLIENT_NAME, 0)->verdict.number == GATE_ANSWERED && without(CLIENT_NAME, 2)->verdict.number == GATE_BAD_REQUEST);
+    expect("no server's name", without(SERVER_NAME, 0)->verdict.number == GATE_ANSWERED && without(SERVER_NAME, 2)->verdict.number == GATE_BAD_REQUEST);
+    expect("no user", without(USER_NAME, 0)->verdict.number == GATE_ANSWERED && without(USER_NAME, 2)->verdict.number == GATE_BAD_REQUEST);
+    expect("no groups", without(LENT_GROUPS, 1)->portacl.word == GATE_DENIED && null.byuid.word == GATE_GRANTED);
+    expect("no room", without(LENT_OUT, 1)->packed.number == GATE_NO_ROOM && null.expanded.number == GATE_NO_ROOM && null.written.number == GATE_NO_ROOM);
+    expect("no command", without(COMMAND, 1)->expanded.number == GATE_ANSWERED && null.expanded.count == 0);
+    expect("no address", without(ADDRESS, 1)->address[0] == GATE_BAD_REQUEST);
+}
+
+/* Room that is always enough is enough, and no more than is needed. */
+static void rooms(void) {
+    static uint8_t out[GATE_EXPANSION_ROOM];
+    uint8_t command[GATE_LINE_LIMIT], name[GATE_NAME_LIMIT], user[GATE_USER_LIMIT];
+    memset(name, 'n', sizeof name), memset(user, 'u', sizeof user);
+    for (size_t i = 0; i < sizeof command; i++)
+        command[i] = "%c"[i % 2];
+    command[sizeof command - 1] = 'x';
+#define LONGEST(room) gate_expand(out, room, command, sizeof command, user, sizeof user, GATE_NAME_KNOWN, GATE_IPV4, 0, 1, name, sizeof name, \
+                                  GATE_NAME_UNKNOWN, GATE_ADDRESS_UNKNOWN, 0, 0, NULL, 0, GATE_USER_KNOWN, user, sizeof user, 7)
+    expect("the longest expansion", LONGEST(sizeof out).count == sizeof out && out[0] == 'u' && out[sizeof out - 1] == 'x');
+    expect("one byte less", LONGEST(sizeof out - 1).number == GATE_NO_ROOM);
+    expect("the longest address", gate_write_address(out, GATE_ADDRESS_ROOM, GATE_IPV6, UINT64_MAX, UINT64_MAX).count == GATE_ADDRESS_ROOM);
+}
+
 int main(void) {
     verdicts();
     byuid();
@@ -197,6 +299,9 @@ int main(void) {
     sheets();
     expansion();
     addresses();
+    nulls();
+    null_answers();
+    rooms();
     if (!failed)
         printf("calls: all as expected\n");
     return failed;

@@ -477,4 +477,5 @@ def main():
     print(f"differential: {cases} cases of each of {len(KINDS)} exports agree; every kind of answer was among them")
 
 
-main()
+if __name__ == "__main__":
+    main()

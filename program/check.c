@@ -1,0 +1,48 @@
+/* gate check: all faults of a station. */
+#include <stdio.h>
+#include "command.h"
+#include "fault.h"
+#include "message.h"
+#include "warning.h"
+
+enum { QUIET, WARN };
+
+static const struct option options[] = {{"quiet", 'q', NULL}, {"warn", 'W', NULL}, {NULL, 0, NULL}};
+
+static const char help[] =
+    "STATION is a sheet, a folder with the four texts hosts.allow, hosts.deny, byuid\n"
+    "and portacl, or - for a sheet on standard input. Every fault is shown on standard\n"
+    "error as FILE:LINE: message [number], with the line and a mark under the place;\n"
+    "gate explain NUMBER tells more.\n"
+    "\n"
+    "  -W, --warn    warn too of what is accepted and surely not meant: words of\n"
+    "                hosts_options(5) as a command, IPv6 addresses without brackets,\n"
+    "                nets with bits outside their mask, rules out of reach, and lines\n"
+    "                of byuid that grant nothing\n"
+    "  -q, --quiet   print nothing; the exit status tells\n"
+    "\n"
+    "Exit status: 0 sound, with or without warnings; 1 faults found; 2 an error.\n"
+    "\n"
+    "For example:\n"
+    "  gate check -W sample\n";
+
+static enum status run(const struct arguments *arguments) {
+    static struct station station;
+    if (!read_station(&station, arguments->operand[0]))
+        return STATUS_FAILED;
+    enum status status = is_sound(&station) ? STATUS_YES : STATUS_NO;
+    if (arguments->option[QUIET])
+        return status;
+    size_t faults = show_faults(&station), warnings = arguments->option[WARN] ? show_warnings(&station) : 0;
+    printf("%s: ", station.path);
+    if (faults)
+        printf("%zu %s", faults, plural(faults, "fault", "faults"));
+    else
+        printf("sound, %zu bytes%s", station.sheet.len, station.is_folder ? " as a sheet" : "");
+    if (warnings)
+        printf(", %zu %s", warnings, plural(warnings, "warning", "warnings"));
+    printf("\n");
+    return status;
+}
+
+const struct command check_command = {"check", "STATION [-W] [-q]", "all faults of a station's texts or sheet", help, options, 1, 1, run};

@@ -1,0 +1,105 @@
+/* gate explain: what the gate's numbers mean. */
+#include <stdio.h>
+#include <string.h>
+#include "command.h"
+#include "gate.h"
+#include "message.h"
+#include "reading.h"
+
+enum { QUIET };
+
+static const struct option options[] = {{"quiet", 'q', NULL}, {NULL, 0, NULL}};
+
+static const char help[] =
+    "Tells what a number of the gate means, with an example of it and what to do.\n"
+    "Without NUMBER lists all of them.\n"
+    "\n"
+    "  -q, --quiet   print nothing; the exit status tells whether there is such a number\n"
+    "\n"
+    "Exit status: 0, or 2 where there is no such number.\n"
+    "\n"
+    "For example:\n"
+    "  gate explain 10\n";
+
+/* By number: when it is given; an example, which stands in `file`; what to do. */
+static const struct {
+    const char *meaning, *file, *example, *remedy;
+} numbers[] = {
+    {"The gate answered. This is no fault.", NULL, NULL, "Nothing."},
+    {"A count of the sheet, or the bytes that it counts, run past the end of the sheet. Section tells which.", "a sheet",
+     "fifteen zero bytes: the fourth count is cut",
+     "The sheet was cut on its way, or is no sheet: fetch it again, and compare its size; gate pack writes sheets whole or not at all."},
+    {"A section is longer than it may be: hosts.allow and hosts.deny 16384 bytes, byuid 8192, portacl 1024.", "byuid", "8193 bytes",
+     "Shorten the text: leave out comments, join rules that differ in one element, drop rules that are out of reach (gate check -W)."},
+    {"Bytes follow the last section of the sheet.", "a sheet", "seventeen zero bytes: one behind the fourth section",
+     "The sheet was written over a longer one, or two were joined: pack it anew."},
+    {"The last line has no ending newline. Comments and blank lines count as lines, and a backslash before the last newline takes it away.",
+     "hosts.allow", "sshd: 10.20.30.40 (and no newline)", "End the file with a newline."},
+    {"A line other than a comment holds a byte that is neither printable ASCII nor a tab.", "hosts.allow",
+     "sshd: 10.20.30.40\\r (a carriage return, of CR LF line ends)", "Save the file with LF line ends and in ASCII; tr -d '\\r' takes carriage returns out."},
+    {"A line is over 2047 bytes, counted after lines that end in a backslash are joined. Comments count too.", "hosts.allow",
+     "sshd: 10.20.30.40, and so on for 2048 bytes", "Make two rules of it: the first that matches decides."},
+    {"A rule has no colon outside brackets, or no element before or behind its first one. EXCEPT is no element.", "hosts.allow",
+     "sshd 10.20.30.40", "Write DAEMONS : CLIENTS, or DAEMONS : CLIENTS : COMMAND."},
+    {"EXCEPT does not stand directly between two elements.", "hosts.allow", "sshd: ALL EXCEPT", "Write what is excepted behind it: ALL EXCEPT .x.example."},
+    {"An element, or what follows its @, begins with @ or /. Netgroups and files of patterns are not read here.", "hosts.allow",
+     "sshd: @vans", "Write the hosts themselves."},
+    {"An element is none of these: ALL, LOCAL, KNOWN, UNKNOWN, PARANOID, a name, .domain, an IPv4 address, the first fields of one with a "
+     "dot behind each (10.20.), net/mask with four fields each, [IPv6] or [IPv6]/length; or one of them behind user@ (of a client) or "
+     "daemon@ (of a daemon). A daemon alone is ALL or a name.",
+     "hosts.allow", "sshd: 10.20.30.400", "Write it as one of these. 10.20.0.0/16 is written 10.20.0.0/255.255.0.0."},
+    {"In a command, % is last or stands before a byte that it does not take.", "hosts.allow", "sshd: ALL: /usr/bin/logger 100%",
+     "Write one of a A n N h H u c d s p behind it, or %% for a percent sign."},
+    {"An entry of portacl is not uid:NUMBER:tcp:PORT (or gid, or udp), in lower case and fewest digits, with nothing but a comma to the next. "
+     "The line is the number of the entry.",
+     "portacl", "uid:www-data:tcp:80", "Write numbers of accounts and ports; leave out blanks and newlines, also at the end."},
+    {"A field of a request is outside its size or its kinds. This is a fault of the caller, not of the station.", "a request",
+     "a daemon of 65 bytes; port 65536; an address that can't be read",
+     "Correct the program that asks; gate reads its arguments so that this does not come up."},
+    {"The whole output is longer than the room that the caller lent. Nothing is written.", "a call of the library",
+     "gate_expand with 10 bytes of room for a command of 11", "Lend more: GATE_EXPANSION_ROOM, GATE_SHEET_LIMIT and GATE_ADDRESS_ROOM are always enough."},
+};
+
+#define NUMBERS ((uint32_t)(sizeof numbers / sizeof *numbers))
+
+/* Words, parted at blanks into lines of at most 78 bytes. */
+static void show_wrapped(const char *text) {
+    size_t column = 0;
+    while (*text) {
+        size_t len = strcspn(text, " ");
+        const char *before = !column ? "" : column + 1 + len > 78 ? "\n" : " ";
+        column = *before == ' ' ? column + 1 + len : len;
+        printf("%s%.*s", before, (int)len, text);
+        text += len + (text[len] == ' ');
+    }
+    printf("\n");
+}
+
+static void show_number(uint32_t number) {
+    printf("%u: %s\n\n", (unsigned)number, gate_number_text(number));
+    show_wrapped(numbers[number].meaning);
+    if (numbers[number].example)
+        printf("\nExample, in %s:\n    %s\n", numbers[number].file, numbers[number].example);
+    printf("\nWhat to do:\n");
+    show_wrapped(numbers[number].remedy);
+}
+
+static void show_all(void) {
+    for (uint32_t number = 0; number < NUMBERS; number++)
+        printf("%2u  %s\n", (unsigned)number, gate_number_text(number));
+}
+
+static enum status run(const struct arguments *arguments) {
+    uint32_t number = 0;
+    if (arguments->operands && !read_number("gate", "number of the gate", arguments->operand[0], NUMBERS - 1, &number))
+        return STATUS_FAILED;
+    if (arguments->option[QUIET])
+        return STATUS_YES;
+    if (arguments->operands)
+        show_number(number);
+    else
+        show_all();
+    return STATUS_YES;
+}
+
+const struct command explain_command = {"explain", "[NUMBER]", "what a number of the gate means, and what to do", help, options, 0, 1, run};

@@ -1,0 +1,26 @@
+/* Files, written whole or not at all. */
+#ifndef OUTPUT_H
+#define OUTPUT_H
+
+#include <stdbool.h>
+#include <stddef.h>
+#include <stdint.h>
+
+/* May a file be written here: nothing is there, or a regular file. */
+bool may_write(const char *path);
+
+/* Writes a file whole or not at all, and keeps the mode and owner of one that it replaces: the bytes go to a temporary file beside it,
+ * which takes its place once it is on disk. A signal removes the temporary file. */
+bool write_file(const char *path, const uint8_t *bytes, size_t len);
+
+/* The same for files of one folder. A folder that is not there yet appears with all of them at once; in one that is there, all are on
+ * disk before the first takes its place. */
+#define FILES_MOST 4
+struct file {
+    const char *name;
+    const uint8_t *bytes;
+    size_t len;
+};
+bool write_folder(const char *folder, const struct file *files, size_t count);
+
+#endif

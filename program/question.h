@@ -1,0 +1,52 @@
+/* What can be asked of a station: a verdict, a bind by byuid, a bind by portacl. Of the command line, or of a line of requests. */
+#ifndef QUESTION_H
+#define QUESTION_H
+
+#include "arguments.h"
+#include "command.h"
+#include "station.h"
+
+struct question {
+    struct gate_request request; /* of match */
+    uint32_t process;
+    struct gate_host at;         /* of byuid; the rest is of both */
+    struct gate_settings settings;
+    uint32_t groups[GATE_GROUPS_LIMIT];
+    struct gate_bind bind;
+};
+
+/* The rule, line or entry that decided: section 0 where there is none. */
+struct reply {
+    struct gate_answer answer;
+    uint32_t section;
+    uint64_t line;         /* of the rule, or of byuid; the entry of portacl */
+    size_t place, len;     /* in the section's text: the line without its newline, or the entry */
+    size_t command_place, command_len; /* in the sheet, raw */
+    uint8_t expanded[GATE_EXPANSION_ROOM];
+    size_t expanded_len;
+};
+
+struct query {
+    const char *name;
+    const struct option *options; /* the first is quiet */
+    size_t operands;              /* behind the station */
+    bool (*read)(struct question *question, const char *where, char const *const *operand, const struct arguments *arguments);
+    void (*ask)(struct reply *reply, const struct station *station, const struct question *question);
+    const char *(*why)(const struct reply *reply); /* what an answer without a rule, or one that is no end, means; or NULL */
+};
+
+extern const struct query match_query, byuid_query, portacl_query;
+
+/* The query of this name, or NULL. */
+const struct query *find_query(const char *name);
+
+/* Reads a station and a question, asks, and shows the answer: what match, byuid and portacl do. */
+enum status run_query(const struct query *query, const struct arguments *arguments);
+
+/* The exit status of an answer. */
+enum status answer_status(const struct gate_answer *answer);
+
+/* Where an answer comes from: `hosts.allow:3`, `byuid:1`, `portacl entry 2`; empty where no rule decided. */
+void write_source(char *text, size_t room, const struct reply *reply);
+
+#endif

@@ -1,0 +1,264 @@
+#!/usr/bin/env python3
+"""inetd.py PROGRAM: example/inetd.c with real connections on 127.0.0.1 and ::1, a stand-in ident server of its own, and a sheet that is
+sound, cut, refused, missing and replaced while it runs; then 2,000 connections, 16 at a time, each answer compared. Ends by itself."""
+import concurrent.futures
+import os
+import pathlib
+import signal
+import socket
+import subprocess
+import sys
+import tempfile
+import threading
+import time
+
+import reference as ref
+
+CONNECTIONS, AT_ONCE, TIMEOUT = 2000, 16, 0.4
+GRANTED, REFUSED = b"granted\n", b"refused\n"
+FAMILIES = {"127.0.0.1": socket.AF_INET, "::1": socket.AF_INET6}
+DENY_ALL = b"ALL: ALL: log denied %c\n"
+FULLEST = ref.pack([b"\n" * 16384, b"\n" * 16384, b"\n" * 8192, b"uid:0:tcp:0," * 84 + b"uid:10:tcp:65535"], 42000)
+
+
+def fail(what):
+    print("inetd: " + what)
+    sys.exit(1)
+
+
+def sheet_of(allow, deny=DENY_ALL):
+    return ref.pack([allow, deny, b"", b""], 42000)
+
+
+class Ident:
+    """an ident server on both loopback addresses, at one port; answer(query) is the bytes to send, or None to stay silent"""
+
+    def __init__(self):
+        self.queries, self.answer, self.lock = [], lambda query: b"", threading.Lock()
+        self.listeners = self.listen()
+        self.port = self.listeners[0].getsockname()[1]
+        for listener in self.listeners:
+            threading.Thread(target=self.accept, args=(listener,), daemon=True).start()
+
+    @staticmethod
+    def listen():
+        for _ in range(100):
+            four = socket.create_server(("127.0.0.1", 0), backlog=128)
+            try:
+                return four, socket.create_server(("::1", four.getsockname()[1]), family=socket.AF_INET6, backlog=128)
+            except OSError:
+                four.close()
+        fail("no port for the ident server")
+
+    def accept(self, listener):
+        while True:
+            connection = listener.accept()[0]
+            threading.Thread(target=self.serve, args=(connection,), daemon=True).start()
+
+    def serve(self, connection):
+        with connection:
+            connection.settimeout(5)
+            try:
+                query = connection.makefile("rb").readline(100)
+                with self.lock:
+                    self.queries.append(query)
+                answer = self.answer(query)
+                if answer is None:
+                    connection.recv(1)
+                else:
+                    connection.sendall(answer)
+            except OSError:
+                pass
+
+
+def userid(user):
+    """an answerer that names the user"""
+    return lambda query: query.strip().replace(b",", b" , ") + b" : USERID : UNIX : " + user + b"\r\n"
+
+
+class Inetd:
+    """the program, running; its log is a file"""
+
+    def __init__(self, program, folder, ident_port):
+        self.sheet, self.log = folder / "sheet", folder / "log"
+        self.process = subprocess.Popen(
+            [program, "-i", str(ident_port), "-t", str(int(TIMEOUT * 1000)), str(self.sheet), "console"],
+            stdout=subprocess.PIPE, stderr=self.log.open("wb"), text=True)
+        self.ports = {}
+        for _ in FAMILIES:
+            address, port = self.process.stdout.readline().split()
+            self.ports[address] = int(port)
+
+    def replace(self, sheet):
+        """as `gate pack` does: the new sheet appears whole or not at all"""
+        beside = self.sheet.with_suffix(".new")
+        beside.write_bytes(sheet)
+        os.replace(beside, self.sheet)
+
+    def connect(self, address):
+        """what a client at the address is told, and the client's port"""
+        with socket.socket(FAMILIES[address]) as client:
+            client.settimeout(10)
+            client.connect((address, self.ports[address]))
+            port, told = client.getsockname()[1], b""
+            while chunk := client.recv(100):
+                told += chunk
+            return told, port
+
+    def end(self):
+        self.process.terminate()
+        self.process.wait(10)
+        self.process.stdout.close()
+
+
+class Tests:
+    def __init__(self, inetd, ident):
+        self.inetd, self.ident, self.ran = inetd, ident, 0
+
+    def expect(self, what, address, told, logged, queries=0):
+        """one connection: what the client is told, what the log's new line ends in, how often the ident server was asked"""
+        self.ran += 1
+        before, asked = self.inetd.log.read_text(), len(self.ident.queries)
+        answer, port = self.inetd.connect(address)
+        line = self.inetd.log.read_text()[len(before):]
+        if answer != told or not line.endswith(logged + "\n") or line.count("\n") != 1 or not line.startswith("console: "):
+            fail(f"{what}: told {answer}, logged {line!r}, not {told} and {logged!r}")
+        new = self.ident.queries[asked:]
+        if new != [b"%d,%d\r\n" % (port, self.inetd.ports[address])] * queries:
+            fail(f"{what}: asked the ident server {new}")
+
+    def verdicts(self):
+        self.inetd.replace(sheet_of(b"\nconsole: 127.0.0.1: log %a %A %d %u\n"))
+        self.expect("granted", "127.0.0.1", GRANTED, "console: 127.0.0.1: granted, allow line 2, would run: log 127.0.0.1 127.0.0.1 console unknown")
+        self.expect("denied", "::1", REFUSED, "console: ::1: denied, deny line 1, would run: log denied ::1")
+        self.inetd.replace(sheet_of(b"console@[::1]: [::1]/128\nsshd: ALL\n"))
+        self.expect("granted, IPv6", "::1", GRANTED, "::1: granted, allow line 1")
+        self.expect("denied, IPv4", "127.0.0.1", REFUSED, "denied, deny line 1, would run: log denied 127.0.0.1")
+        self.inetd.replace(sheet_of(b"", b""))
+        self.expect("no rule", "127.0.0.1", GRANTED, "granted, no rule, line 0")
+
+    def asked(self):
+        self.inetd.replace(sheet_of(b"console: fitter@ALL: run %u for %c\n"))
+        for address in FAMILIES:
+            self.ident.answer = userid(b"fitter")
+            self.expect("the user", address, GRANTED, f"fitter@{address}: granted, allow line 1, would run: run fitter for fitter@{address}", 1)
+            self.ident.answer = userid(b"stranger")
+            self.expect("another user", address, REFUSED, f"denied, deny line 1, would run: log denied stranger@{address}", 1)
+        self.ident.answer = userid(b"a;b\x1b")
+        self.expect("a user with odd bytes", "127.0.0.1", REFUSED, "a_b_@127.0.0.1: denied, deny line 1, would run: log denied a_b_@127.0.0.1", 1)
+
+    def unanswered(self):
+        """whatever is no sound answer leaves the user unknown, and the connection answered in time"""
+        self.inetd.replace(sheet_of(b"console: UNKNOWN@ALL: run %u\n"))
+        known, unknown = "denied, deny line 1, would run: log denied fitter@127.0.0.1", "127.0.0.1: granted, allow line 1, would run: run unknown"
+        self.ident.answer = userid(b"fitter")
+        self.expect("a sound answer", "127.0.0.1", REFUSED, known, 1)
+        self.ident.answer = lambda query: None
+        began = time.monotonic()
+        self.expect("no answer", "127.0.0.1", GRANTED, unknown, 1)
+        if not TIMEOUT - 0.1 < time.monotonic() - began < TIMEOUT + 3:
+            fail(f"no answer took {time.monotonic() - began} s")
+        sound = userid(b"fitter")
+        for what, answer in {
+                "an error": lambda query: query.strip() + b" : ERROR : NO-USER\r\n", "nothing": lambda query: b"",
+                "no line": lambda query: sound(query)[:-2], "other ports": lambda query: sound(b"1,2\r\n"), "no ports": lambda query: sound(b","),
+                "no user": userid(b""), "a user of 65 bytes": userid(b"u" * 65), "a zero": userid(b"fit\0ter"),
+                "a long line": userid(b"fitter" * 1000), "garbage": lambda query: bytes(range(128, 256)) * 40 + b"\n",
+                "no system": lambda query: query.strip() + b":USERID::fitter\r\n", "an HTTP answer": lambda query: b"HTTP/1.0 400 Bad Request\r\n\r\n"}.items():
+            self.ident.answer = answer
+            self.expect(what, "127.0.0.1", GRANTED, unknown, 1)
+        self.ident.answer = userid(b"u" * 64)
+        self.expect("a user of 64 bytes", "127.0.0.1", REFUSED, "log denied " + "u" * 64 + "@127.0.0.1", 1)
+
+    def refusals(self):
+        good = sheet_of(b"ALL: ALL\n")
+        for what, sheet, logged in (
+                ("a cut sheet", good[:-1], "refused 1 (the sheet ends within a section), section 4 (portacl), line 0"),
+                ("a sheet cut to nothing", b"", "refused 1 (the sheet ends within a section), section 1 (allow), line 0"),
+                ("a byte more", good + b"\0", "refused 3 (bytes follow the last section), section 0 (no section), line 0"),
+                ("the fullest sheet and a byte", FULLEST + b"\0", "refused 3 (bytes follow the last section), section 0 (no section), line 0"),
+                ("a megabyte more", good + bytes(1 << 20), "refused 3 (bytes follow the last section), section 0 (no section), line 0"),
+                ("a text over its limit", b"\0\0\x40\1" + bytes(50000), "refused 2 (longer than its section may be), section 1 (allow), line 0"),
+                ("a bad line", good[:4] + b"ALL: A*L\n" + good[13:], "refused 10 (no element kind fits), section 1 (allow), line 1")):
+            self.inetd.replace(sheet)
+            self.expect(what, "127.0.0.1", REFUSED, f"console: 127.0.0.1: {logged}")
+        self.inetd.sheet.unlink()
+        self.expect("a missing sheet", "::1", REFUSED, "console: ::1: refused, no sheet: No such file or directory")
+        self.inetd.sheet.mkdir()
+        self.expect("a folder for a sheet", "::1", REFUSED, "refused, no sheet: Is a directory")
+        self.inetd.sheet.rmdir()
+        self.inetd.replace(FULLEST)
+        self.expect("the fullest sheet", "::1", GRANTED, "granted, no rule, line 0")
+        self.inetd.replace(good)
+        self.expect("a sheet again", "::1", GRANTED, "granted, allow line 1")
+
+    def load(self):
+        """connections while the sheet is replaced over and over, by sheets that say the same at other places"""
+        sheets = [sheet_of(b"#" * n + b"\nconsole: fitter@127.0.0.1, [::1]: run %c\n") for n in (1, 700, 2000)]
+        self.inetd.replace(sheets[0])
+        self.ident.answer = lambda query: userid(b"fitter" if is_fitter(int(query.split(b",")[0])) else b"stranger")(query)
+        before = len(self.inetd.log.read_text().split("\n"))
+
+        def one(i):
+            address = "::1" if i % 4 == 0 else "127.0.0.1"
+            told, port = self.inetd.connect(address)
+            return told, GRANTED if address == "::1" or is_fitter(port) else REFUSED
+
+        with concurrent.futures.ThreadPoolExecutor(AT_ONCE) as pool:
+            jobs = [pool.submit(one, i) for i in range(CONNECTIONS)]
+            turn = 0
+            while not all(job.done() for job in jobs):
+                turn += 1
+                self.inetd.replace(sheets[turn % 3])
+                time.sleep(0.002)
+        answers = [job.result() for job in jobs]
+        wrong = [pair for pair in answers if pair[0] != pair[1]]
+        lines = self.inetd.log.read_text().split("\n")[before - 1:-1]
+        granted = sum(told == GRANTED for told, _ in answers)
+        if wrong or len(lines) != CONNECTIONS or sum(": granted, allow line 2" in line for line in lines) != granted:
+            fail(f"under load: {len(wrong)} wrong answers, as {wrong[:3]}; {len(lines)} lines logged")
+        return granted, turn
+
+
+def is_fitter(port):
+    return port // 2 % 2 == 0
+
+
+def free_port():
+    with socket.create_server(("127.0.0.1", 0)) as listener:
+        return listener.getsockname()[1]
+
+
+def running(program, ident, ident_port, run):
+    """what run(tests) answers, and how many connections it compared, of a program of its own"""
+    with tempfile.TemporaryDirectory() as name:
+        inetd = Inetd(program, pathlib.Path(name), ident_port)
+        tests = Tests(inetd, ident)
+        try:
+            return run(tests), tests.ran
+        finally:
+            inetd.end()
+
+
+def single(tests):
+    tests.verdicts()
+    tests.asked()
+    tests.unanswered()
+    tests.refusals()
+
+
+def no_ident_server(tests):
+    tests.inetd.replace(sheet_of(b"console: UNKNOWN@ALL: run %u\n"))
+    tests.expect("no ident server", "127.0.0.1", GRANTED, "granted, allow line 1, would run: run unknown")
+
+
+def main():
+    signal.alarm(120)
+    program, ident = sys.argv[1], Ident()
+    _, compared = running(program, ident, ident.port, single)
+    _, more = running(program, ident, free_port(), no_ident_server)
+    (granted, replaced), _ = running(program, ident, ident.port, Tests.load)
+    print(f"inetd: {compared + more} connections as expected; {CONNECTIONS} under load, {granted} granted, the sheet replaced {replaced} times")
+
+
+main()

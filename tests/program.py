@@ -1,0 +1,621 @@
+#!/usr/bin/env python3
+"""program.py PROGRAM [STATIONS]: the built program gate, run as its users run it: every subcommand with answers and refusals, arguments
+that could be misread, files that can't be read or written, signals, and generated stations beside tests/reference.py. Prints one line;
+exits with 1 where something was not as expected, which it shows.
+
+A wrong program may write where it should not, and may run as root: so it is given no path outside a scratch folder to write to, works in
+that folder, and reads a copy of the sample. Devices are only opened here, as its standard output."""
+import errno
+import os
+import pathlib
+import random
+import re
+import resource
+import shutil
+import signal
+import stat
+import subprocess
+import sys
+import tempfile
+import time
+
+import differential as gen
+import reference as ref
+
+PROGRAM = str(pathlib.Path(sys.argv[1]).resolve())
+STATIONS = int(sys.argv[2]) if len(sys.argv) > 2 else 300
+TOP = pathlib.Path(__file__).resolve().parent.parent
+SCRATCH = tempfile.mkdtemp(prefix="gate-tests-")
+SAMPLE = shutil.copytree(TOP / "sample", SCRATCH + "/sample")
+NAMES = ("hosts.allow", "hosts.deny", "byuid", "portacl")
+TEXTS = [(TOP / "sample" / name).read_bytes() for name in NAMES]
+SHEET = ref.pack(TEXTS, 42000)
+COMMANDS = ("check", "match", "byuid", "portacl", "pack", "unpack", "explain", "test")
+runs, failures, statuses = 0, [], set()
+
+
+def gate(*arguments, stdin=b"", **how):
+    global runs
+    runs += 1
+    how = {"capture_output": True, "timeout": 20, "input": stdin, "cwd": SCRATCH, **how}
+    done = subprocess.run([PROGRAM, *map(os.fsencode, arguments)], **how)
+    statuses.add(done.returncode)
+    return done
+
+
+def fail(what, *shown):
+    failures.append(what)
+    print("program: not as expected:", what, *shown, sep="\n    ")
+
+
+def expect(what, done, status, out=None, err=None):
+    """status as given; out and err: bytes to be equal to, or a string to be found; None for anything"""
+    def fits(bytes_, wanted):
+        return wanted is None or (wanted.encode() in bytes_ if isinstance(wanted, str) else bytes_ == wanted)
+    if done.returncode != status or not fits(done.stdout, out) or not fits(done.stderr, err):
+        fail(what, f"status {done.returncode}, not {status}", done.stdout, done.stderr, f"wanted {out!r} and {err!r}")
+
+
+def write_station(folder, texts):
+    folder = pathlib.Path(folder)
+    folder.mkdir(exist_ok=True)
+    for name, text in zip(NAMES, texts):
+        (folder / name).write_bytes(text)
+    return str(folder)
+
+
+def station(folder, allow=b"", deny=b"", byuid=b"", portacl=b""):
+    return write_station(folder, [allow, deny, byuid, portacl])
+
+
+# Arguments
+
+MISREAD = {
+    "match": [
+        *(["sshd", client] for client in (
+            "10.20.30.400", "10.20.30", "010.20.30.40", "10.20.30.40 ", " 10.20.30.40", "", "-", "unknow", "UNKNOWN", "[::1]", "::1%eth0", ":::",
+            "10.20.30.40/8", "van7.vans.example", "0x0a.1.1.1", "1::2::3", "@10.20.30.40", "u" * 65 + "@10.20.30.40", "unknown@10.20.30.40",
+            "Paranoid@10.20.30.40", "fitter@", "fitter@van7")),
+        *([daemon, "10.20.30.40"] for daemon in ("", "d" * 65, "@10.0.0.1", "sshd@", "sshd@10.20.30.400", "sshd@host", "sshd@[::1]", "a@b@1.2.3.4")),
+        *(["sshd", "10.20.30.40", *options] for options in (
+            ["--name", ""], ["--name="], ["--name", "n" * 256], ["--name", "unknown"], ["--name", "PARANOID"], ["--name", "a", "--paranoid"],
+            ["--name", "a", "--name", "b"], ["--name"], ["--nam", "a"], ["--paranoid=1"], ["--process", "-1"], ["--process", "4294967296"],
+            ["--process", "0x10"], ["--process", "1 "], ["--process", ""], ["--process", "01"], ["--server-name", "a", "--server-paranoid"],
+            ["--user", "a"], ["-x"], ["-qx"], ["10.0.0.1"])),
+        ["sshd", "fitter@10.20.30.40", "--unknown-user"], ["sshd"], [],
+    ],
+    "byuid": [
+        *([uid, "10.20.1.2,80"] for uid in ("www-data", "root", "-1", "4294967296", "0432", "", "1e3", "+1", "0x1", "432 ")),
+        *(["432", what] for what in ("10.20.1.2,80x", "10.20.1.2,65536", "10.20.1.2,http", "10.20.1.2:80", "unknown,80", ",80", "10.20.1.2,",
+                                     "10.20.1.2,080", "10.20.1.400,80", "10.20.1.2", "10.20.1.2,80,81", "10.20.1.2,-1", "[::1],80", "10.20.0.0/16,80")),
+        ["432"], ["432", "10.20.1.2,80", "x"], ["432", "10.20.1.2,80", "--groups", "1"],
+    ],
+    "portacl": [
+        *([uid, "tcp:80"] for uid in ("www-data", "-1", "4294967296", "00", "")),
+        *(["432", what] for what in ("sctp:80", "TCP:80", "tcp", "tcp:", "tcp:65536", "80", "udp:-1", "udp:080", "tcp:80:", "tcp80", "")),
+        *(["432", "tcp:80", *options] for options in (
+            ["--groups", "www"], ["--groups", "20,,21"], ["--groups", ""], ["--groups", ",".join(["1"] * 17)], ["--groups", "4294967296"],
+            ["--groups", "20,"], ["--groups", "00000000000000000000020"], ["--enabled", "yes"], ["--enabled", ""], ["--port-high", "-1"],
+            ["--suser-exempt", "4294967296"], ["--autoport-exempt", "x"])),
+    ],
+}
+
+
+def test_misread():
+    for command, cases in MISREAD.items():
+        for case in cases:
+            expect(f"{command} {case} is an error", gate(command, SAMPLE, *case), 2, b"", "gate: ")
+    for case in (["15"], ["x"], ["-1"], ["010"], [""], ["1", "2"], ["4294967306"]):
+        expect(f"explain {case} is an error", gate("explain", *case), 2, b"", "gate: ")
+    for case in ([], ["chek"], [""], ["-q"], ["--Version"], ["--version", "x"], ["check"], ["check", SAMPLE, SAMPLE], ["pack", SAMPLE], ["unpack", "x"],
+                 ["test", SAMPLE], ["check", "--warning", SAMPLE], ["check", "-q", "-q", SAMPLE], ["check", "--quiet=1", SAMPLE]):
+        expect(f"gate {case} is an error", gate(*case), 2, b"", "gate: ")
+
+
+def test_read():
+    """what is just inside, and where options may stand"""
+    for what, arguments, status in (
+            ("the longest daemon", ["match", SAMPLE, "d" * 64, "10.20.30.40"], 1),
+            ("the longest name", ["match", SAMPLE, "sshd", "10.1.1.1", "--name", "n" * 255], 1),
+            ("the longest user", ["match", SAMPLE, "sshd", "u" * 64 + "@10.1.1.1"], 1),
+            ("a user with an @", ["match", SAMPLE, "sshd", "a@b@10.1.1.1"], 1),
+            ("an unknown address", ["match", SAMPLE, "sshd@unknown", "unknown"], 1),
+            ("the largest uid", ["byuid", SAMPLE, "4294967295", "::1,123"], 0),
+            ("port 65535", ["byuid", SAMPLE, "1", "::1,65535"], 4),
+            ("port 0", ["portacl", SAMPLE, "1", "tcp:0"], 0),
+            ("sixteen groups", ["portacl", SAMPLE, "1", "udp:123", "--groups", ",".join(["1"] * 15 + ["20"])], 0),
+            ("settings", ["portacl", SAMPLE, "0", "udp:124", "--suser-exempt", "0"], 1),
+            ("not enabled", ["portacl", SAMPLE, "0", "udp:124", "--enabled=0"], 4),
+            ("port_high", ["portacl", SAMPLE, "432", "tcp:80", "--port-high", "79"], 4),
+            ("no automatic port", ["portacl", SAMPLE, "1", "tcp:0", "--autoport-exempt", "0"], 1),
+            ("options first", ["match", "--name", "van7.vans.example", SAMPLE, "sshd", "10.1.1.1"], 0),
+            ("an option with its value", ["match", SAMPLE, "--name=van7.vans.example", "sshd", "10.1.1.1"], 0),
+            ("-- ends options", ["match", "-q", "--", SAMPLE, "--name", "10.1.1.1"], 1)):
+        done = gate(*arguments)
+        expect(what, done, status, None, b"")
+    expect("-q prints nothing", gate("match", SAMPLE, "-q", "sshd", "10.1.1.1"), 1, b"", b"")
+    expect("version", gate("--version"), 0, re.search(r'GATE_VERSION "(.*)"', (TOP / "include/gate.h").read_text())[1], b"")
+    expect("help", gate("--help"), 0, "Exit status", b"")
+    for command in COMMANDS:
+        expect("help lists " + command, gate("--help"), 0, "\n  " + command, b"")
+        expect("help of " + command, gate(command, "--help"), 0, "usage: gate %s " % command, b"")
+
+
+# Answers
+
+VAN = ["sshd@192.0.2.1", "10.20.30.40", "--name", "van7.vans.example"]
+
+
+def test_answers(folder):
+    sheet = os.path.join(folder, "station.sheet")
+    pathlib.Path(sheet).write_bytes(SHEET)
+    for what, where, at in (("a folder", SAMPLE, SAMPLE + "/%s"), ("a sheet", sheet, sheet + "(%s)")):
+        expect("granted by " + what, gate("match", where, *VAN), 0,
+               b"granted\nrule      %s:2\ntext      sshd: .vans.example EXCEPT spare.vans.example\n" % (at % "hosts.allow").encode(), b"")
+        expect("ask by " + what, gate("match", where, "sshd", "10.20.30.41"), 3, "ask\nrule      %s:3\n" % (at % "hosts.allow"), b"")
+        expect("denied by " + what, gate("match", where, "sshd", "10.9.30.41", "--paranoid"), 1,
+               b"denied\nrule      %s:2\ntext      ALL: ALL: /usr/bin/logger -t gate refused \\\n              %%d to %%a\n"
+               b"command   /usr/bin/logger -t gate refused     %%d to %%a\nexpanded  /usr/bin/logger -t gate refused     sshd to 10.9.30.41\n"
+               % (at % "hosts.deny").encode(), b"")
+        expect("byuid by " + what, gate("byuid", where, "432", "10.20.1.2,80"), 0,
+               b"granted\nrule      %s:1\ntext      10.20.0.0/16,80\n" % (at % "byuid").encode(), b"")
+        expect("portacl by " + what, gate("portacl", where, "5", "udp:123", "--groups", "19,20"), 0,
+               b"granted\nrule      %s entry 2\ntext      gid:20:udp:123\n" % (at % "portacl").encode(), b"")
+        expect("tested by " + what, gate("test", where, SAMPLE + "/requests"), 0, "13 requests, all as expected", b"")
+        expect("checked as " + what, gate("check", "-W", where), 0, "sound, 396 bytes", b"")
+    expect("no rule", gate("match", station(folder + "/none"), *VAN), 0, "granted\nwhy       no rule", b"")
+    expect("no line", gate("byuid", SAMPLE, "432", "10.21.1.2,80"), 1, b"no line\n", b"")
+    expect("a verdict by standard input", gate("match", "-", *VAN, stdin=SHEET), 0, "granted\nrule      -(hosts.allow):2\n", b"")
+    expect("%p", gate("match", station(folder + "/p", b"ALL: ALL: x %p %N %n %c\n"), "sshd@unknown", "u@::1", "--process", "7", "--server-name", "s"), 0,
+           "expanded  x 7 s unknown u@::1\n", b"")
+    bad = station(folder + "/bad", b"ALL\nALL: x!\n", b"ALL: ALL", b"", b"x")
+    for command, arguments in (("match", VAN), ("byuid", ["1", "::1,80"]), ("portacl", ["1", "tcp:80"]), ("test", [SAMPLE + "/requests"])):
+        expect(command + " of a refused station", gate(command, bad, *arguments), 2, b"", "refused: 4 faults")
+
+
+# Checks
+
+MARKED = b"""\
+hosts.allow:1: no element kind fits [10]
+    1 | sshd: 10.20.30.400, ok, 10.20.0.0/16
+      |       ^~~~~~~~~~~~      ^~~~~~~~~~~~
+      = write four fields of 0 to 255 in fewest digits, or one to three, each followed by a dot
+      = a length is not read here; write the mask: 10.20.0.0/255.255.0.0
+hosts.allow:2: EXCEPT not between two elements [8]
+    3 |   EXCEPT b
+      |   ^~~~~~
+      = EXCEPT stands between two elements, as in ALL EXCEPT .x.example
+hosts.allow:5: no colon, or a list with no element [7]
+    5 | sshd: ::1
+      |       ^
+      = an IPv6 address stands in brackets: [::1]
+hosts.allow:6: % at the end or before a letter that it does not take [11]
+    6 | ALL: ALL: %% %z %
+      |              ^~ ^
+      = behind % stands one of a A n N h H u c d s p, or %, which writes one percent sign
+hosts.allow:7: a byte that is not printable ASCII, blank or tab [5]
+    7 | sshd: ALL?
+      |          ^
+      = a carriage return: the file has CR LF line ends, and needs LF alone (tr -d '\\r')
+hosts.allow:8: the last line has no ending newline [4]
+    8 | x
+      |  ^
+      = end it with a newline
+hosts.allow:8: no colon, or a list with no element [7]
+    8 | x
+      |  ^
+      = a rule is DAEMONS : CLIENTS, or DAEMONS : CLIENTS : COMMAND
+portacl:1: entry 2: not a portacl entry [12]
+    1 | uid:1:tcp:1,,gid:2:udp:2
+      |             ^
+      = an empty entry: a comma too many
+portacl:1: entry 3: not a portacl entry [12]
+    1 | uid:1:tcp:1,,gid:2:udp:2
+      |              ^~~~~~~~~~~
+      = the list has no newline, not at its end either (truncate -s -1 takes the last byte away)
+"""
+MARKED_ALLOW = b"sshd: 10.20.30.400, ok, 10.20.0.0/16\nALL: \\\n  EXCEPT b\n# x\nsshd: ::1\nALL: ALL: %% %z %\nsshd: ALL\r\nx"
+
+# A line of a file, and what is warned of it: a part of the message, or None
+WARNINGS = {
+    "hosts.allow": [
+        (b"ALL: ALL: deny", "deny is a word of hosts_options"), (b"sshd: a: SPAWN /bin/x", "spawn is"), (b"sshd: a: severity=info", "severity is"),
+        (b"sshd: a: nice 10", "nice is"), (b"sshd: a: nice -n 10 /bin/x", None), (b"sshd: a: umask 022", "umask is"), (b"sshd: a: /bin/deny", None),
+        (b"sshd: a: denyhosts x", None), (b"sshd: a: /bin/x", None), (b"sshd: 3ffe::1", "write [3ffe::1]"),
+        (b"sshd: a: group staff", "group is"), (b"sshd: a: nice", "nice is"), (b"sshd: a, fe80::1/64", "write [fe80::1]"),
+        (b"sshd: [3ffe::1]", None), (b"sshd: [3ffe::1]: deny", "deny is"),
+        (b"sshd@fe:d:c:b:a:9:8:7: ALL", "write [fe:d:c:b:a:9:8:7]"), (b"sshd: host: x", None), (b"fade: bad: x", None),
+        (b"sshd: 10.20.30.0/255.255.0.0", "the net of this mask is 10.20.0.0"), (b"sshd: a@10.20.30.0/255.255.0.0", "matches no address"),
+        (b"sshd@1.2.3.4/0.0.0.0: ALL", "matches no address"), (b"sshd: 10.20.0.0/255.255.0.0", None), (b"ALL: ALL\nsshd: a", "never reached"),
+        (b"x, all: b ALL\nsshd: a", "never reached"), (b"ALL: ALL EXCEPT a\nsshd: a", None), (b"ALL: a@b ALL\nsshd: a", None), (b"ALL: ALL\n# x\n", None),
+        (b"sshd: ALL\nsshd: a", None)],
+    "byuid": [
+        (b"10.0.0.0/8,80\r", "carriage return"), (b" 10.0.0.0/8,80", "blank"), (b"10.0.0.0/8, 80", "perhaps: 10.0.0.0/8,80"), (b"10.0.0.0/8,http", "no number"),
+        (b"3FFE:0505::/32,http", "no number"),
+        (b"10.0.0.1/8,80", "perhaps: 10.0.0.0/8,80"), (b"3ffe::1/16,80", "perhaps: 3ffe::/16,80"), (b"10.0.0.9-10.0.0.1,80", "perhaps: 10.0.0.1-10.0.0.9,80"),
+        (b"10.0.0.0/8,90-80", "perhaps: 10.0.0.0/8,80-90"), (b"10.0.0.0/8:90,80", "perhaps: 10.0.0.0/8:80,90"), (b"10.0.0.0/8,1024", "not ruled"),
+        (b"10.0.0.0/8,0", "not ruled"), (b"10.0.0.0/8", "no comma"), (b"10.0.0.0/33,80", "not of the form"), (b"10.0.0,80", "not of the form"),
+        (b"10.0.0.0/8,080", "fewest digits"), (b"x" * 300, "no comma"), (b"10.0.0.0/8,80", None), (b"10.0.0.0/8,0-80", None), (b"10.0.0.0/8,1023-2000", None),
+        (b"::/0,80", None), (b"10.0.0.1-10.0.0.9,80-90", None), (b"10.0.0.0/8:80,90", None), (b"# x", None), (b"", None), (b"  \r", None),
+        (b"3FFE:0505::/32,80", None), (b"::ffff:10.0.0.0/128,80", None)],
+}
+
+
+def test_checks(folder):
+    marked = station(folder + "/marked", MARKED_ALLOW, b"", b"", b"uid:1:tcp:1,,gid:2:udp:2\n")
+    expect("faults with their marks", gate("check", ".", cwd=marked), 1, b".: 9 faults\n",
+           b"".join(b"./" + line if line[:2] in (b"ho", b"po") else line for line in MARKED.splitlines(True)))
+    expect("check -q prints nothing", gate("check", "-q", marked), 1, b"", b"")
+    for file, lines in WARNINGS.items():
+        for line, warning in lines:
+            where = station(folder + "/warned", **{file.replace("hosts.", ""): line + b"\n"})
+            done = gate("check", "-W", where)
+            expect(f"{line} warns of {warning}", done, 0, "sound", warning or b"")
+            expect(f"{line} without -W", gate("check", where), 0, "sound", b"")
+    done = gate("check", "-W", station(folder + "/open", b"ALL: ALL\n", b"\nsshd: ALL\n"))
+    expect("a deny file out of reach", done, 0, "1 warning", "hosts.deny:2: warning: never reached, nor any rule behind it: line 1 of hosts.allow")
+    done = gate("check", "-W", station(folder + "/open", b"ALL: ALL\nsshd: a\nsshd: b\n", b"sshd: a\n"))
+    expect("rules out of reach in both files", done, 0, "2 warnings",
+           "hosts.deny:1: warning: never reached")
+    for what, sheet, line in (
+            ("fifteen bytes", bytes(15), b"-(portacl): the sheet ends within a section: its count, of four bytes, is not there whole [1]\n"),
+            ("seventeen bytes", bytes(17), b"-: bytes follow the last section [3]\n"),
+            ("a cut sheet", SHEET[:-1], b"-(portacl): the sheet ends within a section: its count is 29 bytes, and 28 follow [1]\n")):
+        expect(what, gate("check", "-", stdin=sheet), 1, b"-: 1 fault\n", line)
+    expect("sixteen zero bytes", gate("check", "-", stdin=bytes(16)), 0, b"-: sound, 16 bytes\n", b"")
+    expect("a text for a sheet", gate("check", SAMPLE + "/hosts.allow"), 1, "1 fault", "give the folder that holds all four")
+    most = station(folder + "/most", b"x\n" * 8192, b"x\n" * 8191 + b"x", b"x\n" * 4096, b"," * 1024)
+    before = time.monotonic()
+    expect("17,410 faults and as many warnings", gate("check", "-W", most), 1, ": 17410 faults, 4096 warnings", None)
+    if time.monotonic() - before > 2:
+        fail("faults take too long")
+    expect("a text over its limit", gate("check", station(folder + "/over", b"\n" * 16385 + b"x\n")), 1, ": 2 faults", "16387 bytes, and the most is 16384 [2]")
+    for what, text in (("lines", b"x\n" * 100000), ("one line", b"ALL:" + b" a" * 100000)):
+        far = station(folder + "/far", text, text, text, text)
+        expect(f"texts far over their limits: {what}", gate("check", "-W", far), 1, ": 4 faults\n", "over 65536 bytes")
+    for size in (16384, 16385, 65535, 65536, 65537):
+        expect(f"one line of {size} bytes", gate("check", "-W", station(folder + "/line", b"x" * size, b"\\\n" * (size // 2))), 1, " faults\n", "[4]"
+               if size <= 65536 else "[2]")
+
+
+def test_explain(folder):
+    expect("explain lists all", gate("explain"), 0, "\n14  ", b"")
+    for number in range(15):
+        done = gate("explain", str(number))
+        expect(f"explain {number}", done, 0, "What to do", b"")
+        example = re.search(rb"Example, in (hosts.allow|portacl):\n    (.*)\n", done.stdout)
+        if not example or number in (4, 6):
+            continue
+        text = re.sub(rb" \(.*\)", b"", example[2]).replace(b"\\r", b"\r")
+        where = station(folder + "/explained", **{example[1].decode().replace("hosts.", ""): text + (b"\n" if example[1] == b"hosts.allow" else b"")})
+        expect(f"the example of {number}", gate("check", where), 1, ": 1 fault", f"[{number}]\n")
+
+
+# Requests
+
+def test_requests(folder):
+    def requests(text):
+        path = os.path.join(folder, "requests")
+        pathlib.Path(path).write_bytes(text)
+        return path
+    van = b"match sshd 10.1.1.1 --name van7.vans.example"
+    for answer, status in ((b"granted", 0), (b"granted hosts.allow:2", 0), (b"granted hosts.allow:2:", 0), (b" granted ", 0), (b"denied", 1), (b"ask", 1),
+                           (b"granted hosts.allow:3", 1), (b"granted hosts.allow:2: x", 1), (b"granted no rule", 1), (b"granted hosts", 1),
+                           (b"grant", 2), (b"granted:", 2), (b"", 2), (b"GRANTED", 2)):
+        expect(f"expecting {answer}", gate("test", SAMPLE, requests(van + b" => " + answer)), status)
+    expect("what differs is shown", gate("test", SAMPLE, requests(b"\n" + van + b" => denied\n")), 1, "1 request, 1 not as expected\n",
+           "requests:2: not as expected: %s\n    expected  denied\n    answered  granted hosts.allow:2:\n" % van.decode())
+    for line in (b"match sshd", b"verdict a b", van, b"=> granted", b"byuid www-data ::1,80 => granted", b"portacl 1 sctp:80 => denied", b"check => ask",
+                 b"match -q sshd 10.1.1.1 => denied", b"match sshd 10.20.30.400 => denied", b"x" * 5000 + b" => ask", b"byuid 1 ::1,80\0 => ask",
+                 b"match " + b"a " * 40 + b"=> ask"):
+        done = gate("test", SAMPLE, requests(b"# one\n" + line + b"\n" + van + b" => denied\n"))
+        expect(f"{line[:60]} is no request", done, 2, "1 not as expected, 1 not read", "requests:2: ")
+    expect("no request at all", gate("test", SAMPLE, requests(b"# x\n\n")), 2, b"", "holds no request")
+    expect("requests by standard input", gate("test", SAMPLE, "-", stdin=van + b" => granted\n"), 0, b"-: 1 request, all as expected\n", b"")
+    expect("both by standard input", gate("test", "-", "-"), 2, b"", "both")
+    expect("test -q", gate("test", "-q", SAMPLE, requests(van + b" => denied\n")), 1, b"", b"")
+    printed = gate("test", "--print", SAMPLE, SAMPLE + "/requests").stdout
+    expect("what --print prints is as expected", gate("test", SAMPLE, requests(printed)), 0, "13 requests, all as expected", b"")
+
+
+# Files
+
+def left_over(folder):
+    return [path for path in pathlib.Path(folder).rglob(".gate-*")]
+
+
+def test_reading(folder):
+    text = os.path.join(folder, "text")
+    pathlib.Path(text).write_bytes(b"x")
+    for command in ("check", "match", "byuid", "portacl", "test"):
+        rest = {"match": VAN, "byuid": ["1", "::1,80"], "portacl": ["1", "tcp:80"], "test": [SAMPLE + "/requests"]}.get(command, [])
+        for what, path, message in (("a missing file", folder + "/none", "none: No such file"), ("a path through a file", text + "/x", "Not a directory"),
+                                    ("an empty path", "", "(empty): No such file")):
+            expect(f"{command} of {what}", gate(command, path, *rest), 2, b"", message)
+    part = station(folder + "/part")
+    os.unlink(part + "/byuid")
+    expect("a station of three texts", gate("check", part), 2, b"", "part/byuid: No such file: a station has")
+    os.mkdir(part + "/byuid")
+    expect("a folder for a text", gate("check", part), 2, b"", "part/byuid: Is a directory")
+    expect("a missing file of requests", gate("test", SAMPLE, folder + "/none"), 2, b"", "none: No such file")
+    expect("a folder for requests", gate("test", SAMPLE, SAMPLE), 2, b"", "Is a directory")
+    expect("a folder for a sheet", gate("unpack", SAMPLE, folder + "/x"), 2, b"", "Is a directory")
+    os.chmod(text, 0)
+    os.chmod(folder, 0o755)
+    if os.geteuid() == 0:
+        expect("an unreadable file", gate("check", text, user=65534), 2, b"", "text: Permission denied")
+    else:
+        expect("an unreadable file", gate("check", text), 2, b"", "text: Permission denied")
+    for what, arguments in (("explain", ["explain"]), ("check", ["check", SAMPLE]), ("pack", ["pack", SAMPLE, "-"]), ("help", ["--help"]),
+                            ("match", ["match", SAMPLE, *VAN])):
+        with open("/dev/full", "wb") as full:
+            done = gate(*arguments, capture_output=False, stdout=full, stderr=subprocess.PIPE)
+        expect(what + " to a full device", done, 2, None, "standard output: No space left on device")
+    closed = subprocess.run(["/bin/sh", "-c", '"$0" check - <&-', PROGRAM], capture_output=True, check=False)
+    expect("closed standard input", closed, 2, b"", "standard input: Bad file descriptor")
+    closed = subprocess.run(["/bin/sh", "-c", '"$0" explain >&-', PROGRAM], capture_output=True, check=False)
+    expect("closed standard output", closed, 2, None, "standard output: Bad file descriptor")
+
+
+def make_device(path):
+    """a full device of our own, where the system lets us make one"""
+    try:
+        os.mknod(path, 0o600 | stat.S_IFCHR, os.makedev(1, 7))
+    except OSError:
+        return []
+    return [path]
+
+
+def test_pack(folder):
+    sheet, new = folder + "/station.sheet", folder + "/new.sheet"
+    expect("packing", gate("pack", SAMPLE, sheet), 0, b"%s: 396 bytes\n" % sheet.encode(), b"")
+    expect("packing to standard output", gate("pack", SAMPLE, "-"), 0, SHEET, b"")
+    os.chmod(sheet, 0o640)
+    expect("packing again", gate("pack", "-q", SAMPLE, sheet), 0, b"", b"")
+    gate("pack", SAMPLE, new, umask=0o027)
+    for path, mode in ((sheet, 0o640), (new, 0o640)):
+        if pathlib.Path(path).read_bytes() != SHEET or os.stat(path).st_mode & 0o777 != mode:
+            fail(f"bytes and mode of {path}", oct(os.stat(path).st_mode))
+    os.symlink("station.sheet", folder + "/link")
+    os.mkfifo(folder + "/fifo")
+    device = make_device(folder + "/device")
+    own = station(folder + "/own")
+    for what, where, path, message in (
+            ("a folder", SAMPLE, folder, "is a folder"), ("a symbolic link", SAMPLE, folder + "/link", "is a symbolic link"),
+            ("no path", SAMPLE, "", "no path"),
+            *(("a device", SAMPLE, path, "is no regular file") for path in device), ("a pipe", SAMPLE, folder + "/fifo", "is no regular file"),
+            ("a missing folder", SAMPLE, folder + "/none/sheet", "No such file"), ("a text of its own", own, own + "/byuid", "is one of the texts"),
+            ("a sheet for a folder", sheet, new, "is no folder"), ("a missing station", folder + "/none", new, "No such file"),
+            ("a refused station", station(folder + "/bad", b"x\ny\n"), sheet, "refused: 2 faults")):
+        expect("packing to or from " + what, gate("pack", where, path), 2, b"", message)
+    if pathlib.Path(sheet).read_bytes() != SHEET or left_over(folder):
+        fail("refusals leave all as it was")
+
+
+def test_unpack(folder):
+    sheet, out = folder + "/station.sheet", folder + "/out"
+    pathlib.Path(sheet).write_bytes(SHEET)
+
+    def has_texts(where):
+        return [(pathlib.Path(where) / name).read_bytes() for name in NAMES] == TEXTS and sorted(os.listdir(where)) == sorted(NAMES)
+    expect("unpacking", gate("unpack", sheet, out + "//", umask=0o022), 0, b"%s: hosts.allow, hosts.deny, byuid, portacl\n" % out.encode(), b"")
+    modes = {oct(os.stat(path).st_mode & 0o777) for path in (out, out + "/byuid")}
+    if not has_texts(out) or modes != {"0o755", "0o644"}:
+        fail("what is unpacked", modes)
+    os.mkdir(folder + "/empty")
+    expect("unpacking from standard input to a folder", gate("unpack", "-q", "-", folder + "/empty", stdin=SHEET), 0, b"", b"")
+    if not has_texts(folder + "/empty"):
+        fail("what is unpacked to an empty folder")
+    (pathlib.Path(out) / "portacl").write_bytes(b"mine")
+    expect("texts are not replaced", gate("unpack", sheet, out), 2, b"", "hosts.allow: is there already")
+    if (pathlib.Path(out) / "portacl").read_bytes() != b"mine":
+        fail("a text was replaced")
+    os.chmod(out + "/byuid", 0o600)
+    expect("unpacking by force", gate("unpack", "--force", sheet, out), 0, None, b"")
+    if not has_texts(out) or os.stat(out + "/byuid").st_mode & 0o777 != 0o600:
+        fail("what is unpacked by force")
+    os.unlink(out + "/byuid")
+    os.symlink("hosts.deny", out + "/byuid")
+    os.symlink("nowhere", folder + "/dangling")
+    for what, arguments, message in (
+            ("a text that is a link", ["-f", sheet, out], "is a symbolic link"), ("a file for a folder", [sheet, sheet], "is no folder"),
+            ("a missing folder above", [sheet, folder + "/no/such"], "No such file"), ("no path", [sheet, ""], "give a folder"),
+            ("standard output", [sheet, "-"], "give a folder"), ("a link to nowhere", [sheet, folder + "/dangling"], "leads nowhere"),
+            ("a missing sheet", [folder + "/none", out + "2"], "No such file")):
+        expect("unpacking: " + what, gate("unpack", *arguments), 2, b"", message)
+    expect("unpacking a cut sheet", gate("unpack", "-", out + "2", stdin=SHEET[:-1]), 2, b"", "refused: 1 fault")
+    if os.path.exists(out + "2") or left_over(folder):
+        fail("refusals leave nothing")
+
+
+def faulty(library, call, turn, **what):
+    return {**os.environ, "LD_PRELOAD": library, "FAULT_CALL": call, "FAULT_TURN": str(turn), **{"FAULT_" + k.upper(): str(int(v)) for k, v in what.items()}}
+
+
+def test_faults(folder):
+    """signals, full disks and failing calls: what was there stays, and nothing is left beside it"""
+    library = folder + "/faults.so"
+    subprocess.run(["gcc", "-shared", "-fPIC", "-Wall", "-Wextra", "-Werror", str(TOP / "tests/faults.c"), "-o", library], check=True)
+    sheet, old, texts = pathlib.Path(folder) / "station.sheet", b"what was there", folder + "/texts"
+    write_station(texts, [b"", b"", b"", b""])
+    (pathlib.Path(folder) / "one.sheet").write_bytes(SHEET)
+
+    def expect_old(what, status, *arguments, message="as it was", kept=True, **how):
+        sheet.write_bytes(old)
+        shutil.rmtree(folder + "/out", ignore_errors=True)
+        expect(what, gate(*arguments, **how), status, b"", message)
+        if kept and sheet.read_bytes() != old or left_over(folder) or kept and os.path.exists(folder + "/out"):
+            fail(what + " changes nothing", sheet.read_bytes()[:40], left_over(folder), os.listdir(folder))
+
+    pack, unpack, replace = ["pack", SAMPLE, str(sheet)], ["unpack", folder + "/one.sheet", folder + "/out"], ["unpack", "-f", folder + "/one.sheet", texts]
+    for number in (signal.SIGTERM, signal.SIGINT, signal.SIGHUP):
+        for call in ("write", "fsync"):
+            expect_old(f"{number.name} at {call} of pack", -number, *pack, message=None, env=faulty(library, call, 1, signal=number))
+            for turn in range(1, 5):
+                expect_old(f"{number.name} at {call} {turn} of unpack", -number, *unpack, message=None, env=faulty(library, call, turn, signal=number))
+    for turn in range(1, 5):
+        expect_old("a signal before any text is replaced", -signal.SIGTERM, *replace, message=None, env=faulty(library, "fsync", turn, signal=signal.SIGTERM))
+        if any((pathlib.Path(texts) / name).read_bytes() for name in NAMES):
+            fail("a text was replaced before all were on disk")
+    for call, error in (("write", errno.ENOSPC), ("fsync", errno.EIO), ("rename", errno.EACCES)):
+        message = os.strerror(error) + "; nothing was written, and what was there is as it was"
+        expect_old(f"{error} at {call} of pack", 2, *pack, message=message, env=faulty(library, call, 1, errno=error))
+        expect_old(f"{error} at {call} of unpack", 2, *unpack, message=message, env=faulty(library, call, 1, errno=error))
+    expect_old("a folder that can't be synced", 2, *pack, message="perhaps not on disk", kept=False, env=faulty(library, "fsync", 2, errno=errno.EIO))
+    if sheet.read_bytes() != SHEET:
+        fail("a sheet whose folder was not synced is there")
+    expect_old("a file over the size limit", 2, *pack, message="File too large", preexec_fn=lambda: resource.setrlimit(resource.RLIMIT_FSIZE, (100, 100)))
+    expect_old("a signal as the sheet takes its place", -signal.SIGTERM, *pack, message=None, kept=False,
+               env=faulty(library, "rename", 1, signal=signal.SIGTERM))
+    if sheet.read_bytes() != SHEET:
+        fail("a sheet in place is whole")
+    sheet.write_bytes(old)
+    done = gate(*pack, env=faulty(library, "fsync", 1, signal=signal.SIGKILL))
+    if done.returncode != -signal.SIGKILL or sheet.read_bytes() != old:
+        fail("a killed pack leaves the sheet as it was")
+    ignoring = gate(*pack, env=faulty(library, "fsync", 1, signal=signal.SIGHUP), preexec_fn=lambda: signal.signal(signal.SIGHUP, signal.SIG_IGN))
+    expect("a signal that is ignored", ignoring, 0, "396 bytes", b"")
+
+
+# Generated stations beside the reference
+
+def hosts_faults(section, text):
+    found = [(2, section, 0)] if len(text) > ref.LIMITS[section] else []
+    for line in ref.lines(text):
+        numbers = ref.line_faults(line)
+        if 4 in numbers:
+            found.append((4, section, line.number))
+        if numbers - {4} and (line.ended or not line.raw.endswith(b"\\")):
+            found.append((min(numbers - {4}), section, line.number))
+    return found
+
+
+def all_faults(texts):
+    return hosts_faults(1, texts[0]) + hosts_faults(2, texts[1]) + [(12, 4, i) for i, e in enumerate(ref.entries_of(texts[3]), 1) if e is None]
+
+
+def shown_faults(err):
+    found = []
+    for file, line, entry, number in re.findall(rb"^[^\n]*\b(hosts\.allow|hosts\.deny|portacl)\)?(?::(\d+))?: (?:entry (\d+): )?[^\n]*\[(\d+)\]$", err, re.M):
+        found.append((int(number), NAMES.index(file.decode()) + 1, int(entry or line or 0)))
+    return found
+
+
+def test_generated_checks(folder, rng):
+    for _ in range(STATIONS // 2):
+        texts = [gen.hosts_text(rng, False), gen.hosts_text(rng, False), gen.byuid_text(rng)[:8192], gen.portacl_text(rng)[:1024]]
+        faults = all_faults(texts)
+        if bool(faults) != ref.refused(ref.pack(texts, 42000)) or faults and faults[0] != ref.pack(texts, 42000):
+            fail("the reference agrees with itself", faults, texts)
+        for what, done in (("a folder", gate("check", "-W", write_station(folder + "/generated", texts))),
+                           ("a sheet", gate("check", "-", stdin=ref.sheet_of(texts)))):
+            if done.returncode != bool(faults) or shown_faults(done.stderr) != faults:
+                fail("all faults of " + what, texts, done.stderr, shown_faults(done.stderr), faults)
+        sheet = gen.sheet_of(rng, texts)
+        done, answer = gate("check", "-", stdin=sheet), ref.check(sheet)
+        first = re.search(rb"\[(\d+)\]$", done.stderr, re.M)
+        if done.returncode != ref.refused(answer) or ref.refused(answer) and (not first or int(first[1]) != answer[0]):
+            fail("a damaged sheet", sheet, done.stderr, answer)
+
+
+def match_line(r):
+    """the words of a request"""
+    words = [b"match", r["daemon"] + b"@" + ref.address_text(r["server"][1])]
+    user = r["user"] + b"@" if isinstance(r["user"], bytes) else b""
+    words.append(user + ref.address_text(r["client"][1]))
+    for (name, _), option in ((r["client"], b"--"), (r["server"], b"--server-")):
+        words += [option + b"name", name] if isinstance(name, bytes) else [option + b"paranoid"] if name is False else []
+    return words + ([b"--unknown-user"] if r["user"] is None else [])
+
+
+def match_answer(texts, r):
+    word, file, line, _, command = ref.verdict(texts[0], texts[1], r)
+    if not file:
+        return b"granted no rule"
+    answer = b"%s %s:%d" % (word.encode(), NAMES[file - 1].encode(), line)
+    expanded = ref.expand(command, r, 0, 1 << 20)
+    return answer if word == "ask" else answer + b":" + (b" " + expanded if expanded else b"")
+
+
+def byuid_case(rng, texts):
+    address = rng.choice([("4", rng.choice(gen.SMALL)), ("6", rng.choice(gen.WIDE)), ("4", 0x0a000000), ("6", 1)])
+    port, uid = rng.choice([0, 1, 80, 80, 80, 512, 1023, 1024]), rng.choice([0, 432, 432, 432])
+    answer = ref.byuid(texts[2], port, address, uid)
+    if answer == "granted":
+        lines = [ref.byuid(line, port, address, uid) for line in texts[2].split(b"\n")]
+        answer += " byuid:%d" % (lines.index("granted") + 1)
+    return [b"byuid", b"%d" % uid, b"%s,%d" % (ref.address_text(address), port)], answer.encode()
+
+
+def portacl_case(rng, texts):
+    settings = dict(enabled=rng.choice([0, 1, 1, 1]), port_high=rng.choice([79, 1023, 1023]), suser_exempt=rng.choice([0, 1]),
+                    autoport_exempt=rng.choice([0, 1]))
+    uid, groups, protocol, port = rng.choice([0, 80, 432]), rng.sample([0, 80, 432], rng.randrange(3)), rng.choice([b"tcp", b"udp"]), rng.choice([0, 80, 1023])
+    answer = ref.portacl(texts[3], settings, uid, groups, protocol, port)
+    if answer == "granted":
+        entries = [ref.portacl(entry, settings, uid, groups, protocol, port) for entry in texts[3].split(b",")]
+        answer += " portacl entry %d" % (entries.index("granted") + 1)
+    words = [b"portacl", b"%d" % uid, b"%s:%d" % (protocol, port)] + ([b"--groups", b",".join(b"%d" % g for g in groups)] if groups else [])
+    for name, value in settings.items():
+        words += [b"--" + name.replace("_", "-").encode(), b"%d" % value]
+    return words, answer.encode()
+
+
+def generated_request(rng):
+    while True:
+        r = gen.request(rng)
+        names = [r["client"][0], r["server"][0]]
+        if not ref.request_fault(r) and b"unknown" not in names:
+            return r
+
+
+def test_generated_answers(folder, rng):
+    path, seen = pathlib.Path(folder) / "requests", set()
+    for turn in range(STATIONS):
+        texts = gen.texts_of(rng)
+        if ref.refused(ref.pack(texts, 42000)):
+            continue
+        cases = [(match_line(r), match_answer(texts, r)) for r in (generated_request(rng) for _ in range(8))]
+        cases += [case(rng, texts) for case in (byuid_case, portacl_case) for _ in range(4)]
+        path.write_bytes(b"".join(b" ".join(words) + b" => x\n" for words, _ in cases))
+        where = write_station(folder + "/generated", texts)
+        done = gate("test", "--print", where, str(path))
+        expected = b"".join(b" ".join(words) + b" => " + answer + b"\n" for words, answer in cases)
+        if done.returncode or done.stdout != expected:
+            fail("generated requests", texts, done.stderr, *(pair for pair in zip(done.stdout.split(b"\n"), expected.split(b"\n")) if pair[0] != pair[1]))
+        seen |= {answer.split(b" ")[0] for _, answer in cases}
+        if turn % 10 == 0:
+            words, answer = cases[rng.randrange(len(cases))]
+            status = {b"granted": 0, b"exempt": 0, b"denied": 1, b"no": 1, b"ask": 3, b"not": 4}[answer.split(b" ")[0]]
+            done = gate(words[0].decode(), where, *(os.fsdecode(word) for word in words[1:]))
+            expect(f"alone: {words}", done, status, answer.split(b" ")[0].decode(), b"")
+    if seen != {b"granted", b"denied", b"ask", b"no", b"not", b"exempt"}:
+        fail("every answer came up", seen)
+
+
+def run_all():
+    rng = random.Random(1)
+    os.chmod(SCRATCH, 0o755)
+    test_misread()
+    test_read()
+    for test in (test_answers, test_checks, test_explain, test_requests, test_reading, test_pack, test_unpack, test_faults):
+        with tempfile.TemporaryDirectory(dir=SCRATCH) as folder:
+            test(folder)
+    for test in (test_generated_checks, test_generated_answers):
+        with tempfile.TemporaryDirectory(dir=SCRATCH) as folder:
+            test(folder, rng)
+
+
+def main():
+    try:
+        run_all()
+    finally:
+        shutil.rmtree(SCRATCH)
+    if not {0, 1, 2, 3, 4} <= statuses:
+        fail("every exit status came up", statuses)
+    if not failures:
+        print(f"program: {runs} runs as expected")
+    sys.exit(1 if failures else 0)
+
+
+main()

@@ -1,0 +1,354 @@
+/* The stack that the exports need, on the worst inputs known: every call in a thread whose whole stack is GATE_STACK bytes, above a
+ * page that must not be touched. The stack is painted first, so that how far a call went is seen afterwards.
+ *   stack            one line; status 1 where a call goes beyond
+ *   stack --figures  a line for each export: the most bytes that it went below its caller, and the input that made it
+ * A second run in a child, on the whole pages of the most that was seen, must end at the page that must not be touched. */
+#define _GNU_SOURCE
+#include <pthread.h>
+#include <signal.h>
+#include <stdio.h>
+#include <stdlib.h>
+#include <string.h>
+#include <sys/mman.h>
+#include <sys/wait.h>
+#include <unistd.h>
+#include "gate.h"
+
+enum { PAGE = 4096, PAINT = 0xa5, BEYOND = 3 };
+
+/* In the order of `exports`; NOTHING is no call at all, and its bytes are not counted. */
+enum export { VERDICT, SHEET_VERDICT, BYUID, SHEET_BYUID, PORTACL, SHEET_PORTACL, CHECK, UNPACK, PACK, EXPAND, READ_ADDRESS, WRITE_ADDRESS, NOTHING };
+
+struct text {
+    uint8_t bytes[GATE_ALLOW_LIMIT];
+    size_t len;
+};
+
+/* What the calls are given. */
+static struct text allow, deny, byuid, portacl, command, address;
+static uint8_t sheet[GATE_SHEET_LIMIT], out[GATE_EXPANSION_ROOM];
+static size_t sheet_len;
+static struct gate_request request;
+static struct gate_settings settings;
+static struct gate_bind bound = {1, NULL, 0, GATE_UDP, 1};
+static struct gate_host at;
+static uint32_t groups[GATE_GROUPS_LIMIT];
+static char long_name[GATE_NAME_LIMIT], long_user[GATE_USER_LIMIT];
+
+/* What was seen. */
+static const char *input;
+static size_t most[NOTHING + 1];
+static const char *worst[NOTHING + 1];
+
+static uint8_t *stack;
+static size_t stack_len;
+static enum export running;
+static uint32_t answered;
+
+/* Inputs */
+
+static void add(struct text *t, const char *s) {
+    memcpy(t->bytes + t->len, s, strlen(s));
+    t->len += strlen(s);
+}
+
+/* s again and again, while it fits in len bytes. */
+static void fill(struct text *t, const char *s, size_t len) {
+    while (*s && t->len + strlen(s) <= len)
+        add(t, s);
+}
+
+/* One line of 2,047 bytes: begin, then s again and again, then last. */
+static void line(struct text *t, const char *begin, const char *s, const char *last) {
+    t->len = 0;
+    add(t, begin);
+    fill(t, s, GATE_LINE_LIMIT - strlen(last));
+    add(t, last);
+    add(t, "\n");
+}
+
+/* The four texts, and the sheet of them. A text that can't be packed is put into a sheet by hand. */
+static void pack_by_hand(void) {
+    const struct text *texts[] = {&allow, &deny, &byuid, &portacl};
+    sheet_len = 0;
+    for (int i = 0; i < 4; i++) {
+        size_t n = texts[i]->len;
+        const uint8_t count[4] = {0, 0, (uint8_t)(n >> 8), (uint8_t)n};
+        memcpy(sheet + sheet_len, count, 4);
+        memcpy(sheet + sheet_len + 4, texts[i]->bytes, n);
+        sheet_len += 4 + n;
+    }
+}
+
+static void named(struct gate_host *host, const char *name, const char *address_text) {
+    if (gate_host_read(host, address_text, strlen(address_text)) != GATE_ANSWERED)
+        exit(2);
+    gate_host_set_name(host, name, strlen(name));
+}
+
+/* The calls. Their numbers are kept, so that none is left out. */
+static uint32_t verdict(void) { return gate_verdict_for(allow.bytes, allow.len, deny.bytes, deny.len, &request).number; }
+static uint32_t sheet_verdict(void) { return gate_sheet_verdict_for(sheet, sheet_len, &request).number; }
+static uint32_t by_uid(void) { return gate_byuid_for(byuid.bytes, byuid.len, &at, 1023, 432).number; }
+static uint32_t sheet_byuid(void) { return gate_sheet_byuid_for(sheet, sheet_len, &at, 1023, 432).number; }
+static uint32_t port_acl(void) { return gate_portacl_for(portacl.bytes, portacl.len, &settings, &bound).number; }
+static uint32_t sheet_portacl(void) { return gate_sheet_portacl_for(sheet, sheet_len, &settings, &bound).number; }
+static uint32_t check(void) { return gate_check(sheet, sheet_len).number; }
+static uint32_t unpack(void) { return gate_unpack(sheet, sheet_len).number; }
+static uint32_t pack(void) {
+    return gate_pack(out, sizeof out, allow.bytes, allow.len, deny.bytes, deny.len, byuid.bytes, byuid.len, portacl.bytes, portacl.len).number;
+}
+static uint32_t expand(void) { return gate_expand_for(out, sizeof out, command.bytes, command.len, &request, 4294967295u).number; }
+static uint32_t read_address(void) { return gate_read_address(address.bytes, address.len).number; }
+static uint32_t write_address(void) { return gate_host_write(out, sizeof out, &at).number; }
+static uint32_t nothing(void) { return 0; }
+
+static const struct {
+    const char *name;
+    uint32_t (*call)(void);
+} exports[] = {{"gate_verdict", verdict}, {"gate_sheet_verdict", sheet_verdict}, {"gate_byuid", by_uid}, {"gate_sheet_byuid", sheet_byuid},
+               {"gate_portacl", port_acl}, {"gate_sheet_portacl", sheet_portacl}, {"gate_check", check}, {"gate_unpack", unpack}, {"gate_pack", pack},
+               {"gate_expand", expand}, {"gate_read_address", read_address}, {"gate_write_address", write_address}, {"nothing", nothing}};
+
+/* In the thread. */
+
+static void beyond(int signal) {
+    (void)signal;
+    static const char what[] = "stack: a call needs more than its stack: ";
+    if (write(1, what, sizeof what - 1) < 0 || write(1, exports[running].name, strlen(exports[running].name)) < 0 || write(1, "\n", 1) < 0)
+        _exit(2);
+    _exit(BEYOND);
+}
+
+static void watch(void) {
+    static uint8_t other[65536];
+    stack_t away = {.ss_sp = other, .ss_size = sizeof other};
+    struct sigaction action = {.sa_handler = beyond, .sa_flags = SA_ONSTACK};
+    if (sigaltstack(&away, NULL) || sigaction(SIGSEGV, &action, NULL))
+        exit(2);
+}
+
+static void *run(void *unused) {
+    watch();
+    uint8_t *top = __builtin_frame_address(0), *lowest = stack;
+    for (uint8_t *p = stack; p < top - 256; p++)
+        *(volatile uint8_t *)p = PAINT;
+    answered = exports[running].call();
+    while (lowest < top && *lowest == PAINT)
+        lowest++;
+    size_t used = (size_t)(top - lowest) - most[NOTHING];
+    if (used > most[running]) {
+        most[running] = used;
+        worst[running] = input;
+    }
+    return unused;
+}
+
+static void in_thread(enum export e) {
+    pthread_attr_t attributes;
+    pthread_t thread;
+    running = e;
+    if (pthread_attr_init(&attributes) || pthread_attr_setstack(&attributes, stack, stack_len) || pthread_create(&thread, &attributes, run, NULL) ||
+        pthread_join(thread, NULL)) {
+        printf("stack: no thread\n");
+        exit(2);
+    }
+    pthread_attr_destroy(&attributes);
+}
+
+static void every_call(const char *what) {
+    input = what;
+    for (enum export e = 0; e < NOTHING; e++)
+        in_thread(e);
+}
+
+/* Verdicts: lines at their longest, in both files. The chains go as deep as they can: each EXCEPT is reached by a match. */
+
+/* Asks by allow and deny as they stand; the verdict must have this number, so that the input is what it is meant to be. */
+static void ask(const char *what, uint32_t number) {
+    pack_by_hand();
+    every_call(what);
+    in_thread(VERDICT);
+    if (answered != number) {
+        printf("stack: %s: answered %u\n", what, answered);
+        exit(1);
+    }
+}
+
+static void rules(const char *what, const char *begin, const char *s, const char *last, uint32_t number) {
+    line(&allow, begin, s, last);
+    deny = allow;
+    ask(what, number);
+}
+
+static void chains(void) {
+    rules("ALL EXCEPT ALL .., clients", "ALL:", "ALL EXCEPT ", "ALL", 0);
+    rules("ALL EXCEPT ALL .., daemons", "", "ALL EXCEPT ", "ALL:ALL", 0);
+    rules("a EXCEPT a .., clients", "a:", "a EXCEPT ", "a", 0);
+    rules("a EXCEPT a .., daemons", "", "a EXCEPT ", "a:a", 0);
+    rules("a EXCEPT a .., clients, then a user", "a:", "a EXCEPT ", "a@a", 0);
+    rules("a EXCEPT a .., daemons, then a server", "", "a EXCEPT ", "a@a:a", 0);
+    rules("a EXCEPT a .., clients, then an IPv6 net", "a:", "a EXCEPT ", "a@[1:2:3:4:5:6:1.2.3.4]/127", 0);
+    rules("a EXCEPT a .., daemons, then an IPv6 net", "", "a EXCEPT ", "a@[1:2:3:4:5:6:1.2.3.4]/127:a", 0);
+    rules("a EXCEPT a .., clients, then an IPv4 net", "a:", "a EXCEPT ", "255.255.255.255/255.255.255.255", 0);
+    rules("a EXCEPT a .., clients, then a domain", "a:", "a EXCEPT ", ".example", 0);
+    rules("a@a EXCEPT a@a .., clients", "a:", "a@a EXCEPT ", "a@a", 0);
+    rules("a@a EXCEPT a@a .., daemons", "", "a@a EXCEPT ", "a@a:a", 0);
+    rules("two chains", "a EXCEPT a EXCEPT a:", "a EXCEPT ", "a:%c", 0);
+}
+
+static void lists(void) {
+    rules("a:b b b ..", "a:", "b ", "b", 0);
+    rules("b b b .. :a", "", "b ", "b:a", 0);
+    rules("EXCEPT EXCEPT ..", "a:", "EXCEPT ", "a", GATE_MISPLACED_EXCEPT);
+    rules("the last element of no kind", "a:", "a EXCEPT ", "[1:2:3:4:5:6:1.2.3.4]/129", GATE_UNKNOWN_ELEMENT);
+    rules("brackets", "a:", "[::]/0 ", "[::]/0", 0);
+    rules("a long element", "a:", "x", "x", GATE_UNKNOWN_ELEMENT);
+    rules("a long command", "a:a:", "%c", "%s", 0);
+    rules("no colon", "", "a ", "a", GATE_NO_ELEMENT);
+}
+
+/* Files, sheets, ports, expansions and addresses at their fullest. */
+
+static void hosts_files(const char *what, const char *s, uint32_t number) {
+    allow.len = deny.len = 0;
+    fill(&allow, s, GATE_ALLOW_LIMIT);
+    fill(&deny, s, GATE_DENY_LIMIT);
+    ask(what, number);
+}
+
+static void files(void) {
+    hosts_files("files of short rules", "b:b\n", 0);
+    hosts_files("files of empty lines", "\n", 0);
+    hosts_files("files of comments", "#\n", 0);
+    hosts_files("files of dropped pairs", "\\\n", GATE_UNENDED);
+    hosts_files("files of one line", "a", GATE_UNENDED);
+    line(&command, "a:", "b ", "");
+    command.bytes[command.len] = 0;
+    hosts_files("files of long lines", (const char *)command.bytes, 0);
+    line(&command, "a:a:", "x", "");
+    strcpy((char *)command.bytes + command.len - 1, "x\n");
+    hosts_files("files of lines too long", (const char *)command.bytes, GATE_LONG_LINE);
+}
+
+static void port_texts(const char *what, const char *b, const char *p) {
+    byuid.len = portacl.len = 0;
+    fill(&byuid, b, GATE_BYUID_LIMIT);
+    fill(&portacl, p, GATE_PORTACL_LIMIT);
+    if (portacl.len && portacl.bytes[portacl.len - 1] == ',')
+        portacl.len--;
+    pack_by_hand();
+    every_call(what);
+}
+
+static void ports(void) {
+    hosts_files("full sheet", "b:b\n", 0);
+    port_texts("full ports", "::1-ffff:ffff:ffff:ffff:ffff:ffff:255.255.255.255,1-65535\n", "gid:4294967295:udp:65535,");
+    port_texts("full ports, short lines", "::,0\n", "uid:0:tcp:0,");
+    port_texts("full ports, IPv4", "255.255.255.255/32:1023,1023\n", "uid:1:udp:1,");
+    port_texts("full ports, ranges", "0.0.0.0-255.255.255.255,0-65535\n", "uid:1:udp:1,x,");
+    port_texts("full ports, one line", "1", "1");
+    port_texts("no ports", "", "");
+}
+
+static void expansions(void) {
+    const char *directives[] = {"%c", "%s", "%h", "%H", "%a", "%A", "%n", "%N", "%u", "%d", "%p", "%%", "x", "%", "\\\n"};
+    memset(long_name, 'n', sizeof long_name);
+    memset(long_user, ';', sizeof long_user);
+    gate_host_set_name(&request.client, long_name, sizeof long_name);
+    gate_host_set_name(&request.server, long_name, sizeof long_name);
+    gate_request_set_user(&request, long_user, sizeof long_user);
+    request.daemon = long_user;
+    request.daemon_len = sizeof long_user;
+    for (size_t i = 0; i < sizeof directives / sizeof *directives; i++) {
+        command.len = 0;
+        fill(&command, directives[i], GATE_LINE_LIMIT);
+        input = directives[i];
+        in_thread(EXPAND);
+        gate_host_set_name(&request.client, NULL, 0);
+        gate_host_set_name(&request.server, NULL, 0);
+        in_thread(EXPAND);
+        gate_host_set_name(&request.client, long_name, sizeof long_name);
+        gate_host_set_name(&request.server, long_name, sizeof long_name);
+    }
+}
+
+static void addresses(void) {
+    const char *texts[] = {"::", "1:2:3:4:5:6:7:8", "ffff:ffff:ffff:ffff:ffff:ffff:255.255.255.255", "::255.255.255.255", "1::8", "255.255.255.255",
+                           "1:2:3:4:5:6:7::", "1:2:3:4:5:6:7:8:9", ":::", "1.2.3.4.5", "", "x"};
+    for (size_t i = 0; i < sizeof texts / sizeof *texts; i++) {
+        address.len = 0;
+        add(&address, texts[i]);
+        input = texts[i];
+        in_thread(READ_ADDRESS);
+        if (answered == GATE_ANSWERED && gate_host_read(&at, texts[i], strlen(texts[i])) == GATE_ANSWERED)
+            every_call(texts[i]);
+    }
+    address.len = 0;
+    fill(&address, "1:", GATE_ALLOW_LIMIT);
+    input = "a long text";
+    in_thread(READ_ADDRESS);
+}
+
+static void every_input(void) {
+    request = gate_request_to("a", 1);
+    named(&request.client, "a", "1:2:3:4:5:6:102:304");
+    named(&request.server, "a", "1:2:3:4:5:6:102:304");
+    gate_request_set_user(&request, "a", 1);
+    in_thread(NOTHING);
+    settings = gate_settings_default();
+    bound.groups = groups;
+    bound.groups_len = GATE_GROUPS_LIMIT;
+    at = request.client;
+    chains();
+    lists();
+    files();
+    ports();
+    addresses();
+    expansions();
+}
+
+/* A stack of so many bytes, with pages below it that must not be touched. */
+static void make_stack(size_t len) {
+    enum { BELOW = 1 << 20 };
+    uint8_t *whole = mmap(NULL, BELOW + len, PROT_NONE, MAP_PRIVATE | MAP_ANONYMOUS, -1, 0);
+    if (whole == MAP_FAILED || mprotect(whole + BELOW, len, PROT_READ | PROT_WRITE)) {
+        printf("stack: no memory\n");
+        exit(2);
+    }
+    stack = whole + BELOW;
+    stack_len = len;
+}
+
+/* Does a run on so few bytes end beyond them? */
+static int goes_beyond(size_t len) {
+    int status = 0;
+    fflush(stdout);
+    pid_t child = fork();
+    if (child == 0) {
+        if (!freopen("/dev/null", "w", stdout))
+            _exit(2);
+        make_stack(len);
+        every_input();
+        _exit(0);
+    }
+    return child > 0 && waitpid(child, &status, 0) == child && WIFEXITED(status) && WEXITSTATUS(status) == BEYOND;
+}
+
+int main(int argc, char **argv) {
+    enum export top = 0;
+    make_stack(GATE_STACK);
+    every_input();
+    for (enum export e = 0; e < NOTHING; e++) {
+        if (most[e] > most[top])
+            top = e;
+        if (argc > 1 && !strcmp(argv[1], "--figures"))
+            printf("%-20s %6zu  %s\n", exports[e].name, most[e], worst[e]);
+    }
+    if (!goes_beyond(most[top] / PAGE * PAGE)) {
+        printf("stack: less is enough too\n");
+        return 1;
+    }
+    printf("stack: at most %zu bytes by %s (%s), of %d\n", most[top], exports[top].name, worst[top], GATE_STACK);
+    return 0;
+}
