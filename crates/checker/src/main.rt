@@ -4,11 +4,11 @@ use libc::STDERR_FILENO;
 
 fn check(sheet: &[u8]) {
     let c = gate::gate_check(sheet);
-    if c.number != 0 {
-        report::refusal(c.number, c.section, c.line);
+    if report::refused(c.number, c.section, c.line) {
         return;
     }
-    report::text(b"sheet ok\n");
+    report::word(report::SHEET_OK);
+    report::end_line();
 }
 
 // Whether reading stopped at the end of the file, and not at an error.
