@@ -120,7 +120,8 @@ module _ (kind high low : ℕ) where
 -- ## The requests
 
 module _ (state kind high low : ℕ) where
-  pub host-fits : (n : Bool) → n ≡ isSome (nameState state) → (a : Bool) → a ≡ isSome (addressOf kind high low) → (n && a) ≡ hostFits (hostNumbers state kind high low)
+  pub host-fits : (n : Bool) → n ≡ isSome (nameState state) → (a : Bool) → a ≡ isSome (addressOf kind high low)
+      → (n && a) ≡ hostFits (hostNumbers state kind high low)
   host-fits n is-n a is-a = rw (is-n, is-a)
 
   pub host-read : (n : Name) → n ≡ nameBy state → (a : Addr) → a ≡ addrBy kind high low

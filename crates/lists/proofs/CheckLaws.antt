@@ -149,7 +149,8 @@ ruleFault-lists ds cs k =
     (lowest-checked (all isExcept ds) (all isExcept cs) (exceptMisplaced false ds) (exceptMisplaced false cs) (any reservedStart ds) (any reservedStart cs)
     (any (λ e. not (isSome (daemonElement e))) ds) (any (λ e. not (isSome (clientElement e))) cs) (hasBadPercent k))
 
-pub badCommandAfter-is : (j : ℕ) (s k : List ℕ) → k ≡ afterSeparator j s → (t : List ℕ) → t ≡ trimBlanks k → (b : Bool) → b ≡ anyBadPercent t → b ≡ badCommandAfter j s
+pub badCommandAfter-is : (j : ℕ) (s k : List ℕ) → k ≡ afterSeparator j s → (t : List ℕ) → t ≡ trimBlanks k → (b : Bool) → b ≡ anyBadPercent t
+    → b ≡ badCommandAfter j s
 badCommandAfter-is j s k is-k t is-t b is-b = rw (← is-k, ← is-t) is-b
 
 pub restFault-is : (s : List ℕ) (j : ℕ) (d : ListCheck) → j ≡ separatorIndex false s → (c : ListCheck) → c ≡ listCheck clientElement (words (take j s))
