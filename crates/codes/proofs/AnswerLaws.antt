@@ -4,9 +4,11 @@ use Prim.Native.Nat.{ℕ}
 use mathlib.Core.List.{List}
 use mathlib.Core.Path.{_≡_}
 use Rattle.section.specs.declared.Written.{Written}
+use Rattle.section.specs.declared.Written.the-variants as W
 use Rattle.section.specs.declared.Refusal.{Refusal}
 use Rattle.section.specs.Refusal.{Outcome, refused, answered, writtenOf}
 use Rattle.address.specs.declared.Addr.{Addr}
+use Rattle.address.specs.declared.Addr.the-variants as A
 use Rattle.address.specs.declared.read.AddressRead.{AddressRead}
 use Rattle.address.specs.declared.read.AddressRead.the-variants as R
 use Rattle.address.specs.Address.{asRead}
@@ -14,6 +16,7 @@ use Rattle.rules.specs.declared.Answer.{Answer}
 use Rattle.rules.specs.declared.Ruling.{Ruling as VerdictRuling}
 use Rattle.rules.specs.declared.Ruling.the-variants as Ver
 use Rattle.rules.specs.Search as Search
+use Rattle.rules.specs.Search.{fileSection}
 use Rattle.byuid.specs.declared.Decision.{Decision as ByuidDecision}
 use Rattle.byuid.specs.declared.Ruling.{Ruling as ByuidRuling}
 use Rattle.byuid.specs.declared.Ruling.the-variants as B
@@ -31,7 +34,9 @@ use Rattle.codes.specs.declared.GateCheck.{GateCheck}
 use Rattle.codes.specs.declared.GateParts.{GateParts}
 use Rattle.codes.specs.declared.GateWritten.{GateWritten}
 use Rattle.codes.specs.declared.GateAddress.{GateAddress}
-use Rattle.codes.specs.Answers.{refusalAnswer, wordAnswer, byuidCode, portaclCode, addressNumbers, answerNumbers, verdictAnswer, byuidAnswer, portaclAnswer, gateParts, checkAnswer, partsAnswer, writtenAnswer, addressAnswer}
+use Rattle.codes.specs.Answers.{gateAnswer, refusalAnswer, wordAnswer, verdictCode, byuidCode, portaclCode, answerNumbers}
+use Rattle.codes.specs.Answers.{gateCheck, gateParts, gateWritten, gateAddress, addressNumbers}
+use Rattle.codes.specs.Answers.{verdictAnswer, byuidAnswer, portaclAnswer, checkAnswer, partsAnswer, writtenAnswer, addressAnswer}
 use Rattle.codes.specs.Code.{byuidNumbers, portaclNumbers, verdictNumbers, checkNumbers, partsNumbers, writtenNumbers, readNumbers}
 
 pub byuid-numbers : (o : Outcome ByuidDecision) (x : ByuidRuling) (a : GateAnswer) → x ≡ Byuid.rulingOf o → a ≡ byuidNumbers x → a ≡ byuidAnswer o
@@ -106,3 +111,30 @@ read-refused x r a e f = rw e f
 pub read-found : (x : AddressRead) (b : Addr) (a : GateAddress) → x ≡ R.Address b → a ≡ addressNumbers b → a ≡ readNumbers x
 unfolding readNumbers
 read-found x b a e f = rw e f
+
+pub verdict-word : (a : Answer) (w : ℕ) → w ≡ verdictCode (a .verdict) → (f : ℕ) → f ≡ fileSection (a .file)
+    → gateAnswer 0 0 (a .line) w f (a .command .place) (a .command .len) ≡ answerNumbers a
+verdict-word a w is-w f is-f = rw (is-w, is-f)
+
+pub check-refused : (x : Unpacked) (r : Refusal) (a : GateCheck) → x ≡ Un.Refused r → a ≡ checkNumbers (Un.Refused r) → a ≡ checkNumbers x
+check-refused x r a e f = rw e f
+
+pub check-accepted : (x : Unpacked) (p : Parts) → x ≡ Un.Parts p → gateCheck 0 0 0 ≡ checkNumbers x
+unfolding checkNumbers
+check-accepted x p e = rw e
+
+pub written-refused : (x : Written) (r : Refusal) (a : GateWritten) → x ≡ W.Refused r → a ≡ writtenNumbers (W.Refused r) → a ≡ writtenNumbers x
+written-refused x r a e f = rw e f
+
+pub written-count : (x : Written) (n : ℕ) → x ≡ W.Count n → gateWritten 0 0 0 n ≡ writtenNumbers x
+unfolding writtenNumbers
+written-count x n e = rw e
+
+pub address-unknown : (x : Addr) (a : GateAddress) → x ≡ A.Unknown → a ≡ gateAddress 0 0 0 0 0 0 → a ≡ addressNumbers x
+address-unknown x a e f = rw e f
+
+pub address-v4 : (x : Addr) (n : ℕ) (a : GateAddress) → x ≡ A.V4 n → a ≡ gateAddress 0 0 0 4 0 n → a ≡ addressNumbers x
+address-v4 x n a e f = rw e f
+
+pub address-v6 : (x : Addr) (high low : ℕ) (a : GateAddress) → x ≡ A.V6 high low → a ≡ gateAddress 0 0 0 6 high low → a ≡ addressNumbers x
+address-v6 x high low a e f = rw e f

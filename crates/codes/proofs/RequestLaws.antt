@@ -1,7 +1,7 @@
 -- What the tests of a number say of what it stands for, and what the states that were read say of the request.
 -- Assumes nothing.
 use Prim.Native.Nat.{ℕ, _<_, _≤_, _^_}
-use mathlib.Core.Bool.{Bool, true, false, _||_}
+use mathlib.Core.Bool.{Bool, true, false, _&&_, _||_}
 use mathlib.Core.List.{List, []}
 use mathlib.Core.Option.{Option, none, some, Option·getD}
 use mathlib.Core.Path.{_≡_, refl}
@@ -13,6 +13,7 @@ use Rattle.address.specs.declared.Addr.{Addr}
 use Rattle.address.specs.declared.Addr.the-variants as A
 use Rattle.patterns.specs.Host.{endpoint}
 use Rattle.elements.specs.Request.{requestOf}
+use Rattle.patterns.specs.declared.Host.{Host}
 use Rattle.patterns.specs.declared.Name.{Name}
 use Rattle.patterns.specs.declared.Name.the-variants as N
 use Rattle.elements.specs.declared.User.{User}
@@ -22,7 +23,8 @@ use Rattle.portacl.specs.declared.Protocol.the-variants.{Tcp, Udp}
 use Rattle.portacl.specs.Portacl.{Bind}
 use Rattle.codes.specs.declared.request.States.{States}
 use Rattle.codes.specs.declared.request.Target.{Target}
-use Rattle.codes.specs.Requests.{nameState, userState, addressOf, protocolOf, nameBy, userBy, addrBy, protocolBy, HostNumbers, requestNumbers, request, bindBy}
+use Rattle.codes.specs.Requests.{nameState, userState, addressOf, protocolOf, nameBy, userBy, addrBy, protocolBy, portBy, bindBy}
+use Rattle.codes.specs.Requests.{HostNumbers, hostNumbers, hostFits, hostBy, numbersFit, requestNumbers, request}
 use Rattle.codes.specs.Code.{statesOf, targetOf}
 
 -- ## Whether a number is of its kinds
@@ -116,6 +118,30 @@ module _ (kind high low : ℕ) where
   address-else h k = rw (ne-eqb kind 4 h, ne-eqb kind 6 k) (first-else (eqb kind 0) A.Unknown)
 
 -- ## The requests
+
+module _ (state kind high low : ℕ) where
+  pub host-fits : (n : Bool) → n ≡ isSome (nameState state) → (a : Bool) → a ≡ isSome (addressOf kind high low)
+      → (n && a) ≡ hostFits (hostNumbers state kind high low)
+  host-fits n is-n a is-a = rw (is-n, is-a)
+
+  pub host-read : (n : Name) → n ≡ nameBy state → (a : Addr) → a ≡ addrBy kind high low
+      → _≡_ {A = Host} (record { name = n; addr = a }) (hostBy (hostNumbers state kind high low))
+  host-read n is-n a is-a = rw (is-n, is-a)
+
+module _ (client server : HostNumbers) (user : ℕ) where
+  pub numbers-fit : (c : Bool) → c ≡ hostFits client → (s : Bool) → s ≡ hostFits server → (u : Bool) → u ≡ isSome (userState user)
+      → (c && s && u) ≡ numbersFit client server user
+  unfolding numbersFit
+  numbers-fit c is-c s is-s u is-u = rw (is-c, is-s, is-u)
+
+  pub states-read : (f : Bool) → f ≡ numbersFit client server user → (c : Host) → c ≡ hostBy client → (s : Host) → s ≡ hostBy server
+      → (u : User) → u ≡ userBy user
+      → _≡_ {A = States} (record { fit = f; client = c; server = s; user = u }) (statesOf client server user)
+  states-read f is-f c is-c s is-s u is-u = rw (is-f, is-c, is-s, is-u)
+
+pub target-read : (protocol port : ℕ) (f : Bool) → f ≡ isSome (protocolOf protocol) → (p : Protocol) → p ≡ protocolBy protocol → (n : ℕ) → n ≡ portBy port
+    → _≡_ {A = Target} (record { fit = f && ltb port (2 ^ 16); protocol = p; port = n }) (targetOf protocol port)
+target-read protocol port f is-f p is-p n is-n = rw (is-f, is-p, is-n)
 
 pub request-read : (d clientName serverName userName d' : List ℕ) (client server : HostNumbers) (user : ℕ) (x : States)
     → x ≡ statesOf client server user → d' ≡ (if x .fit then d else [])

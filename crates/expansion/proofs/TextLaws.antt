@@ -13,7 +13,7 @@ use lib.ListN.{length, getD, set, length-append, length-map, length-set, List·g
 use lib.Seq.{paste-suc}
 use types.Run.{OneOf}
 use Rattle.text.specs.Basics.{if_then_else_, first, any}
-use Rattle.text.specs.Text.{bytes, inRange}
+use Rattle.text.specs.Text.{bytes, inRange, among, isDigit, isLetter}
 use Rattle.text.proofs.BasicLaws.{and-true}
 use Rattle.text.proofs.Numeral.{length-numeral}
 use Rattle.text.proofs.PasteLaws.{Pasted, pasted-all}
@@ -245,6 +245,11 @@ module _ (d a t : List ℕ) (at : ℕ) (room : at + length (map safeByte (a ++ (
     pub text-all : (q : List ℕ) (n : ℕ) → Wrote (set o p 64) q (map safeByte t) (p + 1) n → Wrote d q (map safeByte (a ++ (bytes "@" ++ t))) at n
     text-all q n v =
         rest-all d _ (map safeByte a) (64 ∷ map safeByte t) at (at-parts a t) room o p w q n (byte-all o (map safeByte t) p 64 left q n v)
+
+-- the tests of a byte of the house set
+pub safe-tests : (b : ℕ) (l : Bool) → l ≡ isLetter b → (d : Bool) → d ≡ isDigit b → (m : Bool) → m ≡ among "@%-_=+:,./" b
+    → (l || d || m) ≡ (isLetter b || isDigit b || among "@%-_=+:,./" b)
+safe-tests b l is-l d is-d m is-m = rw (is-l, is-d, is-m)
 
 -- one byte of a text
 pub safe-step : (d s o : List ℕ) (at j b : ℕ) → Pasted d (map safeByte s) o at j → b ≡ safeByte (getD s j 0)

@@ -11,7 +11,7 @@ use Rattle.section.specs.declared.Fault.the-variants as F
 use Rattle.section.specs.Refusal.{lowest}
 use Rattle.lines.specs.Command.{hasBadPercent}
 use Rattle.lines.specs.Rule.{isExcept, parseRule}
-use Rattle.lines.specs.Parts.{separatorIndex, afterSeparator, words, firstElement, afterElement}
+use Rattle.lines.specs.Parts.{separatorIndex, afterSeparator, words, firstElement, afterElement, trimBlanks, anyBadPercent}
 use Rattle.lines.proofs.RuleLaws.{words-none, words-more, rule, parseRule-none}
 use Rattle.elements.specs.declared.element.ElementFault.{ElementFault}
 use Rattle.elements.specs.declared.element.ElementFault.the-variants as E
@@ -54,6 +54,11 @@ module _ (kind : List ℕ → Element) (w : List ℕ) where
         or-assoc (c .reserved) (reservedStart w) (any reservedStart ws),
         or-assoc (c .unsound) (isUnsound kind w) (any (isUnsound kind) ws),
       )
+
+pub listMore-is : (c : ListCheck) (after x : Bool) (f : ElementFault) (r : Bool) → r ≡ isReserved f → (u : Bool) → u ≡ isFault f
+    → checks (c .empty && x) (c .misplaced || x && not after) (c .reserved || r) (c .unsound || u) ≡ listMore c after x f
+unfolding listMore
+listMore-is c after x f r is-r u is-u = rw (is-r, is-u)
 
 pub listCheck-start : (kind : List ℕ → Element) (s : List ℕ) (c : ListCheck) → c ≡ listStart → listCheck kind (words s) ≡ listFrom kind false c (words s)
 unfolding listCheck listFrom
@@ -143,6 +148,10 @@ ruleFault-lists ds cs k =
     rw (any-append reservedStart ds cs, any-or reservedStart (λ e. not (isSome (daemonElement e))) ds, any-or reservedStart (λ e. not (isSome (clientElement e))) cs)
     (lowest-checked (all isExcept ds) (all isExcept cs) (exceptMisplaced false ds) (exceptMisplaced false cs) (any reservedStart ds) (any reservedStart cs)
     (any (λ e. not (isSome (daemonElement e))) ds) (any (λ e. not (isSome (clientElement e))) cs) (hasBadPercent k))
+
+pub badCommandAfter-is : (j : ℕ) (s k : List ℕ) → k ≡ afterSeparator j s → (t : List ℕ) → t ≡ trimBlanks k → (b : Bool) → b ≡ anyBadPercent t
+    → b ≡ badCommandAfter j s
+badCommandAfter-is j s k is-k t is-t b is-b = rw (← is-k, ← is-t) is-b
 
 pub restFault-is : (s : List ℕ) (j : ℕ) (d : ListCheck) → j ≡ separatorIndex false s → (c : ListCheck) → c ≡ listCheck clientElement (words (take j s))
     → (b : Bool) → b ≡ badCommandAfter j s → (r : Checked) → r ≡ lowestOf d c b → r ≡ restFault d s

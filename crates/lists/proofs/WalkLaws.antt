@@ -79,6 +79,10 @@ module _ (m : List ℕ → Found) (s rest w : List ℕ) (h : Walked (excluded m)
 
 -- ## One rule
 
+pub clientWords-found : (m : List ℕ → Found) (s : List ℕ) (j : ℕ) → j ≡ separatorIndex false s → (r : Found) → r ≡ included m (words (take j s))
+    → r ≡ included m (clientWords s)
+clientWords-found m s j is-j r is-r = is-r ∙ rw is-j
+
 module _ (q : Request) where
   ruleFound-lists : (ds cs : List (List ℕ)) (k : List ℕ)
       → ruleFound q (rule ds cs k)

@@ -94,6 +94,10 @@ module _ (o : Option Refusal) (c : PortaclChecked) (is-c : c ≡ portaclCheckedO
       by none k = refl
       by (some h) k = let z : _≡_ {A = ℕ} 0 1 = cc in absurd (omega arith)
 
+pub placed-in-sheet : (p : Parts) (a : Answer) (n : ℕ) → n ≡ filePlace p (a .file)
+    → answer (a .verdict) (a .file) (a .line) (part (n + a .command .place) (a .command .len)) ≡ inSheet p a
+placed-in-sheet p a n is-n = rw is-n
+
 pub ruling-by-texts : (a d t : List ℕ) (r : Request) (p : Pass) → p ≡ passBoth r a d → (q : Pass) → q ≡ passOf (portaclFault t) none
     → (s : Pass) → s ≡ onward p q → (b : Bool) → b ≡ wellFormed r → (x : Ruling) → x ≡ rulingBy s b → x ≡ decidedBy a d t r
 unfolding decidedBy

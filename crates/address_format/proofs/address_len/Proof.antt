@@ -9,4 +9,6 @@ put-address-requires : tie.Need-put-address-requires
 put-address-requires c κs = omega (arith, length-addrText (c .before .args .a))
 
 pub address-len-spec : {M : Type 1} → statement M
-address-len-spec = tie.close (tie.spec (λ c. search needs) put-address-requires (λ c. search needs))
+address-len-spec =
+    let facts = tie.spec (λ c. search needs) put-address-requires (λ c. search needs) in
+    tie.close facts

@@ -13,8 +13,7 @@ abbrev μ-loop : tie.MeasureT-loop
 
 pub longest-run-spec : {M : Type 1} → statement M
 longest-run-spec =
-    tie.close
-    (tie.spec
+    let facts = tie.spec
     Inv-loop
     μ-loop
     (λ c. search (runs-start, needs))
@@ -25,4 +24,5 @@ longest-run-spec =
     (λ c κs. search needs)
     (λ c. search needs)
     (λ c. search (runs-step, needs))
-    (λ c. search (runs-end, runs-within, needs)))
+    (λ c. search (runs-end, runs-within, needs)) in
+    tie.close facts

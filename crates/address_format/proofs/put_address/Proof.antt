@@ -32,8 +32,7 @@ returns-3 c =
 
 pub put-address-spec : {M : Type 1} → statement M
 put-address-spec =
-    tie.close
-    (tie.spec
+    let facts = tie.spec
     (λ c. search needs)
     (λ c. search needs)
     put-requires
@@ -46,4 +45,5 @@ put-address-spec =
     (λ c. search needs)
     returns-2
     (λ c. search needs)
-    returns-3)
+    returns-3 in
+    tie.close facts

@@ -18,8 +18,7 @@ returns c = groups-end _ _ _ (c .before .before .before .before .pre) _ _ _ (c .
 
 pub put-colon-groups-spec : {M : Type 1} → statement M
 put-colon-groups-spec =
-    tie.close
-    (tie.spec
+    let facts = tie.spec
     Inv-loop
     μ-loop
     (λ c. search (groups-start, needs))
@@ -30,4 +29,5 @@ put-colon-groups-spec =
     (λ c. search needs)
     (λ c. search (groups-step, needs))
     (λ c. search needs)
-    returns)
+    returns in
+    tie.close facts

@@ -35,8 +35,7 @@ returns-2 c =
 
 pub put-compressed-spec : {M : Type 1} → statement M
 put-compressed-spec =
-    tie.close
-    (tie.spec
+    let facts = tie.spec
     (λ c κs. search needs)
     (λ c κs. search (plain-room, needs))
     (λ c. search needs)
@@ -52,4 +51,5 @@ put-compressed-spec =
     (λ c. search needs)
     put-groups-requires-3
     (λ c. search needs)
-    returns-2)
+    returns-2 in
+    tie.close facts

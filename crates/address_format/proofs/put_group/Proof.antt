@@ -33,5 +33,13 @@ returns-2 c =
 
 pub put-group-spec : {M : Type 1} → statement M
 put-group-spec =
-    tie.close
-    (tie.spec put-pair-requires (λ c. search needs) returns put-pair-requires-2 put-digit-requires put-digit-requires-2 (λ c. search needs) returns-2)
+    let facts = tie.spec
+    put-pair-requires
+    (λ c. search needs)
+    returns
+    put-pair-requires-2
+    put-digit-requires
+    put-digit-requires-2
+    (λ c. search needs)
+    returns-2 in
+    tie.close facts

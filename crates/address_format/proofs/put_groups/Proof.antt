@@ -16,8 +16,7 @@ returns-2 c =
 
 pub put-groups-spec : {M : Type 1} → statement M
 put-groups-spec =
-    tie.close
-    (tie.spec
+    let facts = tie.spec
     returns
     (λ c. search needs)
     (λ c κs. search (hexGroups-first-room, needs))
@@ -26,4 +25,5 @@ put-groups-spec =
     (λ c. search needs)
     (λ c κs. search (hexGroups-rest-room, needs))
     (λ c. search needs)
-    returns-2)
+    returns-2 in
+    tie.close facts

@@ -17,4 +17,6 @@ returns : tie.Need-returns
 returns c = let b = c .before .before .before .before .before in byte-all (b .args .out .now) (numeral 16 4 (b .args .g)) (b .args .at) 58 (b .pre) _ _ (c .before .before .put-group .ensures)
 
 pub put-next-group-spec : {M : Type 1} → statement M
-put-next-group-spec = tie.close (tie.spec (λ c. search needs) (λ c. search needs) put-group-requires same-length returns)
+put-next-group-spec =
+    let facts = tie.spec (λ c. search needs) (λ c. search needs) put-group-requires same-length returns in
+    tie.close facts

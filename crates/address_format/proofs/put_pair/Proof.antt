@@ -24,4 +24,5 @@ returns-2 c =
 
 pub put-pair-spec : {M : Type 1} → statement M
 put-pair-spec =
-    tie.close (tie.spec put-digit-requires (λ c. search needs) returns put-digit-requires-2 put-digit-requires-3 (λ c. search needs) returns-2)
+    let facts = tie.spec put-digit-requires (λ c. search needs) returns put-digit-requires-2 put-digit-requires-3 (λ c. search needs) returns-2 in
+    tie.close facts

@@ -35,4 +35,5 @@ returns c =
 
 pub put-v4-spec : {M : Type 1} → statement M
 put-v4-spec =
-    tie.close (tie.spec put-decimal-requires put-next-field-requires put-next-field-requires-2 put-next-field-requires-3 (λ c. search needs) returns)
+    let facts = tie.spec put-decimal-requires put-next-field-requires put-next-field-requires-2 put-next-field-requires-3 (λ c. search needs) returns in
+    tie.close facts

@@ -13,4 +13,6 @@ returns : tie.Need-returns
 returns c = rw (← (c .before .before .before .before .before .groups .ensures)) (c .before .before .put-compressed .ensures)
 
 pub put-v6-spec : {M : Type 1} → statement M
-put-v6-spec = tie.close (tie.spec (λ c κs. search needs) (λ c. search needs) put-compressed-requires (λ c. search needs) returns)
+put-v6-spec =
+    let facts = tie.spec (λ c κs. search needs) (λ c. search needs) put-compressed-requires (λ c. search needs) returns in
+    tie.close facts

@@ -29,8 +29,7 @@ returns-2 c = write-count _ _ _ _ (c .before .before .before .before .before .be
 
 pub write-address-spec : {M : Type 1} → statement M
 write-address-spec =
-    tie.close
-    (tie.spec
+    let facts = tie.spec
     (λ c. search needs)
     put-address-requires
     (λ c κs. search needs)
@@ -39,4 +38,5 @@ write-address-spec =
     slice-aggregate-put
     put-requires
     (λ c. search needs)
-    returns-2)
+    returns-2 in
+    tie.close facts

@@ -15,8 +15,7 @@ expand-line-requires c κs =
 
 pub expand-spec : {M : Type 1} → statement M
 expand-spec =
-    tie.close
-    (tie.spec
+    let facts = tie.spec
     (λ c κs. search needs)
     expand-line-requires
     (λ c. search needs)
@@ -24,4 +23,5 @@ expand-spec =
     (λ c κs. search needs)
     (λ c. length-refused _ _ _ _ _ (c .before .before .before .joined .ensures) (c .before .before .if1 .taken) (omega (arith, c .before .if2 .left)) _ (c .placeless .ensures))
     (λ c κs. search needs)
-    (λ c. byte-refused _ _ _ _ _ (c .before .before .joined .ensures) (c .before .if1 .left) _ (c .placeless2 .ensures)))
+    (λ c. byte-refused _ _ _ _ _ (c .before .before .joined .ensures) (c .before .if1 .left) _ (c .placeless2 .ensures)) in
+    tie.close facts

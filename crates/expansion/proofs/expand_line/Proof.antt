@@ -8,8 +8,7 @@ use Rattle.expansion.proofs.expand_line.Tie as tie
 
 pub expand-line-spec : {M : Type 1} → statement M
 expand-line-spec =
-    tie.close
-    (tie.spec
+    let facts = tie.spec
     (λ c. search needs)
     (λ c κs. search needs)
     (λ c. search needs)
@@ -17,4 +16,5 @@ expand-line-spec =
     (λ c κs. search needs)
     (λ c κs. let j = c .before .before .before .before .join-into in line-short _ _ _ _ (j .ensures .0) (j .ensures .1) _ (c .before .trim .ensures) (c .before .before .before .before .before .before .before .before .before .before .before .before .pre))
     (λ c. search needs)
-    (λ c. let j = c .before .before .before .before .before .before .before .join-into in line-gave _ _ _ _ (j .ensures .0) (j .ensures .1) _ (c .before .before .before .before .trim .ensures) _ _ (c .before .before .before .before .before .before .before .before .before .before .before .before .before .before .before .args .out .now) _ _ (c .before .before .expand-trimmed .ensures)))
+    (λ c. let j = c .before .before .before .before .before .before .before .join-into in line-gave _ _ _ _ (j .ensures .0) (j .ensures .1) _ (c .before .before .before .before .trim .ensures) _ _ (c .before .before .before .before .before .before .before .before .before .before .before .before .before .before .before .args .out .now) _ _ (c .before .before .expand-trimmed .ensures)) in
+    tie.close facts

@@ -25,8 +25,7 @@ returns c =
 
 pub expand-request-spec : {M : Type 1} → statement M
 expand-request-spec =
-    tie.close
-    (tie.spec
+    let facts = tie.spec
     (λ c. search needs)
     (λ c κs. omega (arith, length-addrText (c .before .before .before .before .before .before .before .args .client .addr)))
     (λ c. search needs)
@@ -41,4 +40,5 @@ expand-request-spec =
     (λ c. sym (length-take-le _ _ (front-within _ _ _ _ (c .before .before .before .before .before .put-decimal .ensures) (length-numeral 10 10 (c .before .before .before .before .before .before .before .before .before .before .before .before .before .before .before .before .before .before .before .args .process) .0))))
     expand-texts-requires
     (λ c. search needs)
-    returns)
+    returns in
+    tie.close facts

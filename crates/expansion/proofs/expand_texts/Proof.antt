@@ -20,8 +20,7 @@ returns c =
 
 pub expand-texts-spec : {M : Type 1} → statement M
 expand-texts-spec =
-    tie.close
-    (tie.spec
+    let facts = tie.spec
     (λ c. search needs)
     (λ c. search needs)
     (λ c κs. search needs)
@@ -37,4 +36,5 @@ expand-texts-spec =
     (λ c. search needs)
     write-expansion-requires
     (λ c. search needs)
-    returns)
+    returns in
+    tie.close facts

@@ -8,8 +8,8 @@ use Rattle.expansion.proofs.safe_byte.Tie as tie
 pub safe-byte-spec : {M : Type 1} → statement M
 unfolding safeByte
 safe-byte-spec =
-    tie.close
-    (tie.spec
+    let facts = tie.spec
     (λ c κs. search needs)
     (λ c. rw (sym (c .before .is-safe .ensures) ∙ c .if1 .taken))
-    (λ c. rw (sym (c .before .is-safe .ensures) ∙ c .if1 .left)))
+    (λ c. rw (sym (c .before .is-safe .ensures) ∙ c .if1 .left)) in
+    tie.close facts

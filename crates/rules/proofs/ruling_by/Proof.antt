@@ -16,5 +16,13 @@ returns-3 c = search (ruling-matched, needs)
 
 pub ruling-by-spec : {M : Type 1} → statement M
 ruling-by-spec =
-    tie.close
-    (tie.spec (λ c. search needs) (λ c. search needs) (λ c κs. search needs) (λ c. search needs) (λ c κs. search needs) returns returns-2 returns-3)
+    let facts = tie.spec
+    (λ c. search needs)
+    (λ c. search needs)
+    (λ c κs. search needs)
+    (λ c. search needs)
+    (λ c κs. search needs)
+    returns
+    returns-2
+    returns-3 in
+    tie.close facts

@@ -8,11 +8,11 @@ use Rattle.station.proofs.decide.Tie as tie
 
 pub decide-spec : {M : Type 1} → statement M
 decide-spec =
-    tie.close
-    (tie.spec
+    let facts = tie.spec
     (λ c κs. search needs)
     (λ c. search needs)
     (λ c. search needs)
     (λ c κs. search (is-framed, needs))
     (λ c. search (decide-unframed, needs))
-    (λ c. search needs))
+    (λ c. search needs) in
+    tie.close facts

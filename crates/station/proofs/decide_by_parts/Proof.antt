@@ -7,11 +7,11 @@ use Rattle.station.proofs.decide_by_parts.Tie as tie
 
 pub decide-by-parts-spec : {M : Type 1} → statement M
 decide-by-parts-spec =
-    tie.close
-    (tie.spec
+    let facts = tie.spec
     (λ c κs. search needs)
     (λ c. search needs)
     (λ c. search needs)
     (λ c κs. search (command-fits, needs))
     (λ c. search (parts-refused, needs))
-    (λ c. search (parts-answered, needs)))
+    (λ c. search (parts-answered, needs)) in
+    tie.close facts

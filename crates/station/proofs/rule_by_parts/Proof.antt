@@ -7,10 +7,10 @@ use Rattle.station.proofs.rule_by_parts.Tie as tie
 
 pub rule-by-parts-spec : {M : Type 1} → statement M
 rule-by-parts-spec =
-    tie.close
-    (tie.spec
+    let facts = tie.spec
     (λ c κs. search needs)
     (λ c κs. search needs)
     (λ c κs. search needs)
     (λ c κs. search needs)
-    (λ c. search (ruling-by-parts, needs)))
+    (λ c. search (ruling-by-parts, needs)) in
+    tie.close facts

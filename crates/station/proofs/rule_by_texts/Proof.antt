@@ -7,11 +7,11 @@ use Rattle.station.proofs.rule_by_texts.Tie as tie
 
 pub rule-by-texts-spec : {M : Type 1} → statement M
 rule-by-texts-spec =
-    tie.close
-    (tie.spec
+    let facts = tie.spec
     (λ c κs. search needs)
     (λ c κs. search needs)
     (λ c κs. search needs)
     (λ c κs. search needs)
     (λ c κs. search needs)
-    (λ c. search (ruling-by-texts, needs)))
+    (λ c. search (ruling-by-texts, needs)) in
+    tie.close facts

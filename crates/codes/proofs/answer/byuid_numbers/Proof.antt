@@ -6,12 +6,12 @@ use Rattle.codes.proofs.answer.byuid_numbers.Tie as tie
 
 pub byuid-numbers-spec : {M : Type 1} → statement M
 byuid-numbers-spec =
-    tie.close
-    (tie.spec
+    let facts = tie.spec
     (λ c. search needs)
     (λ c κs. search needs)
     (λ c. search needs)
     (λ c κs. search needs)
     (λ c κs. search needs)
     (λ c. search (byuid-refused, needs))
-    (λ c. search (byuid-answered, needs)))
+    (λ c. search (byuid-answered, needs)) in
+    tie.close facts

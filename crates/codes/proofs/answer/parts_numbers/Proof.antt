@@ -6,11 +6,11 @@ use Rattle.codes.proofs.answer.parts_numbers.Tie as tie
 
 pub parts-numbers-spec : {M : Type 1} → statement M
 parts-numbers-spec =
-    tie.close
-    (tie.spec
+    let facts = tie.spec
     (λ c. search needs)
     (λ c κs. search needs)
     (λ c. search needs)
     (λ c κs. search needs)
     (λ c. search (parts-refused, needs))
-    (λ c. search (parts-found, needs)))
+    (λ c. search (parts-found, needs)) in
+    tie.close facts

@@ -6,12 +6,12 @@ use Rattle.codes.proofs.answer.portacl_numbers.Tie as tie
 
 pub portacl-numbers-spec : {M : Type 1} → statement M
 portacl-numbers-spec =
-    tie.close
-    (tie.spec
+    let facts = tie.spec
     (λ c. search needs)
     (λ c κs. search needs)
     (λ c. search needs)
     (λ c κs. search needs)
     (λ c κs. search needs)
     (λ c. search (portacl-refused, needs))
-    (λ c. search (portacl-answered, needs)))
+    (λ c. search (portacl-answered, needs)) in
+    tie.close facts

@@ -6,11 +6,11 @@ use Rattle.codes.proofs.answer.read_numbers.Tie as tie
 
 pub read-numbers-spec : {M : Type 1} → statement M
 read-numbers-spec =
-    tie.close
-    (tie.spec
+    let facts = tie.spec
     (λ c. search needs)
     (λ c κs. search needs)
     (λ c. search needs)
     (λ c κs. search needs)
     (λ c. search (read-refused, needs))
-    (λ c. search (read-found, needs)))
+    (λ c. search (read-found, needs)) in
+    tie.close facts

@@ -6,11 +6,11 @@ use Rattle.codes.proofs.answer.verdict_numbers.Tie as tie
 
 pub verdict-numbers-spec : {M : Type 1} → statement M
 verdict-numbers-spec =
-    tie.close
-    (tie.spec
+    let facts = tie.spec
     (λ c. search needs)
     (λ c κs. search needs)
     (λ c. search needs)
     (λ c κs. search needs)
     (λ c. search (verdict-refused, needs))
-    (λ c. search (verdict-answered, needs)))
+    (λ c. search (verdict-answered, needs)) in
+    tie.close facts

@@ -1,12 +1,13 @@
 -- What the calls answered, together. Assumes nothing.
 use borrow.Author.Needs.{needs}
+use Rattle.codes.proofs.RequestLaws.{host-read}
 use Rattle.codes.proofs.request.host.Statement.{statement}
 use Rattle.codes.proofs.request.host.Tie as tie
 
 pub host-spec : {M : Type 1} → statement M
 host-spec =
-    tie.close
-    (tie.spec
+    let facts = tie.spec
     (λ c κs. search needs)
     (λ c κs. search needs)
-    (λ c. cc))
+    (λ c. search (host-read, needs)) in
+    tie.close facts

@@ -1,15 +1,14 @@
 -- What the calls answered, together. Assumes nothing.
 use borrow.Author.Needs.{needs}
-use Rattle.codes.specs.Requests.{numbersFit}
+use Rattle.codes.proofs.RequestLaws.{numbers-fit}
 use Rattle.codes.proofs.request.numbers_fit.Statement.{statement}
 use Rattle.codes.proofs.request.numbers_fit.Tie as tie
 
 pub numbers-fit-spec : {M : Type 1} → statement M
-unfolding numbersFit
 numbers-fit-spec =
-    tie.close
-    (tie.spec
+    let facts = tie.spec
     (λ c κs. search needs)
     (λ c κs. search needs)
     (λ c κs. search needs)
-    (λ c. cc))
+    (λ c. search (numbers-fit, needs)) in
+    tie.close facts

@@ -12,8 +12,7 @@ returns-12 c = afterAt-other _ _ (c .before .match .rest)
 pub directive-text-spec : {M : Type 1} → statement M
 unfolding afterAt
 directive-text-spec =
-    tie.close
-    (tie.spec
+    let facts = tie.spec
     (λ c κs. search needs)
     (λ c. search needs)
     (λ c. rw (c .match .keys1))
@@ -27,4 +26,5 @@ directive-text-spec =
     (λ c. rw (c .before .match .keys9) (c .service-text .ensures))
     (λ c. rw (c .match .keys10))
     (λ c. rw (c .match .keys11))
-    returns-12)
+    returns-12 in
+    tie.close facts

@@ -26,8 +26,7 @@ returns-2 c =
 
 pub put-inserted-spec : {M : Type 1} → statement M
 put-inserted-spec =
-    tie.close
-    (tie.spec
+    let facts = tie.spec
     (λ c κs. search needs)
     (λ c κs. search needs)
     (λ c κs. search needs)
@@ -36,4 +35,5 @@ put-inserted-spec =
     returns
     put-safe-requires
     (λ c. search needs)
-    returns-2)
+    returns-2 in
+    tie.close facts

@@ -23,11 +23,11 @@ returns c = let p = c .before .before .before .before .before .before in let s =
 
 pub put-joined-spec : {M : Type 1} → statement M
 put-joined-spec =
-    tie.close
-    (tie.spec
+    let facts = tie.spec
     (λ c κs. let s = c .before .before .before .before in name-room (s .args .out .now) (s .args .name .now) (s .args .text .now) (s .args .at) (s .pre))
     slice-write-out
     add-put-safe
     put-safe-requires-2
     same-length
-    returns)
+    returns in
+    tie.close facts

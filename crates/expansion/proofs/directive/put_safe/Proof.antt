@@ -18,8 +18,7 @@ abbrev μ-loop : tie.MeasureT-loop
 
 pub put-safe-spec : {M : Type 1} → statement M
 put-safe-spec =
-    tie.close
-    (tie.spec
+    let facts = tie.spec
     Inv-loop
     μ-loop
     (λ c. search (pasted-start, needs))
@@ -32,4 +31,5 @@ put-safe-spec =
     (λ c. search (safe-step, needs))
     (λ c. search needs)
     (λ c. search needs)
-    (λ c. safe-all _ (c .before .before .before .before .args .s .now) _ _ _ (c .before .loop .inv) (c .loop-test .left)))
+    (λ c. safe-all _ (c .before .before .before .before .args .s .now) _ _ _ (c .before .loop .inv) (c .loop-test .left)) in
+    tie.close facts

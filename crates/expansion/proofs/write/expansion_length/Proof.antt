@@ -17,8 +17,7 @@ abbrev μ-loop : tie.MeasureT-loop
 
 pub expansion-length-spec : {M : Type 1} → statement M
 expansion-length-spec =
-    tie.close
-    (tie.spec
+    let facts = tie.spec
     Inv-loop
     μ-loop
     (λ c. search (measured-start, needs))
@@ -35,4 +34,5 @@ expansion-length-spec =
     (λ c. search needs)
     (λ c. search needs)
     (λ c. measured-literal _ _ _ _ (c .before .before .before .loop .inv) (c .before .before .loop-test .taken) (c .if1 .left))
-    (λ c. measured-end _ _ _ _ (c .before .loop .inv) (c .loop-test .left)))
+    (λ c. measured-end _ _ _ _ (c .before .loop .inv) (c .loop-test .left)) in
+    tie.close facts

@@ -18,8 +18,7 @@ abbrev μ-loop : tie.MeasureT-loop
 
 pub put-expansion-spec : {M : Type 1} → statement M
 put-expansion-spec =
-    tie.close
-    (tie.spec
+    let facts = tie.spec
     Inv-loop
     μ-loop
     (λ c. search (expanded-start, needs))
@@ -39,4 +38,5 @@ put-expansion-spec =
     (λ c. search needs)
     (λ c. let l = c .before .before .before .before in expanded-literal _ _ _ _ _ _ (l .loop .inv) (l .before .before .before .before .before .before .before .before .before .before .before .before .before .pre) (c .before .before .before .loop-test .taken) (c .before .if1 .left))
     (λ c. c .before .loop .inv .long)
-    (λ c. expanded-end _ _ _ _ _ _ (c .before .loop .inv) (c .loop-test .left)))
+    (λ c. expanded-end _ _ _ _ _ _ (c .before .loop .inv) (c .loop-test .left)) in
+    tie.close facts

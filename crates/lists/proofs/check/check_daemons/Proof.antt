@@ -19,8 +19,7 @@ abbrev μ-loop : tie.MeasureT-loop
 
 pub check-daemons-spec : {M : Type 1} → statement M
 check-daemons-spec =
-    tie.close
-    (tie.spec
+    let facts = tie.spec
     Inv-loop
     μ-loop
     (λ c κs. search needs)
@@ -34,4 +33,5 @@ check-daemons-spec =
     (λ c κs. search needs)
     (λ c κs. search needs)
     (λ c. search (rest-shorter, needs))
-    (λ c. search (listCheck-more, needs)))
+    (λ c. search (listCheck-more, needs)) in
+    tie.close facts

@@ -8,11 +8,11 @@ use Rattle.lists.proofs.check.check_rest.Tie as tie
 
 pub check-rest-spec : {M : Type 1} → statement M
 check-rest-spec =
-    tie.close
-    (tie.spec
+    let facts = tie.spec
     (λ c κs. search needs)
     (λ c. sym (length-take-le _ _ (c .before .separator .ensures .1)))
     (λ c κs. search needs)
     (λ c κs. search needs)
     (λ c κs. search needs)
-    (λ c. search (restFault-is, needs)))
+    (λ c. search (restFault-is, needs)) in
+    tie.close facts

@@ -8,12 +8,12 @@ use Rattle.lists.proofs.check.check_rule.Tie as tie
 
 pub check-rule-spec : {M : Type 1} → statement M
 check-rule-spec =
-    tie.close
-    (tie.spec
+    let facts = tie.spec
     (λ c κs. search needs)
     (λ c. search (checkRule-none, needs))
     (λ c. sym (length-take-le _ _ (c .before .before .separator .ensures .1)))
     (λ c κs. search needs)
     (λ c κs. search needs)
     (λ c κs. search needs)
-    (λ c. search (checkRule-some, needs)))
+    (λ c. search (checkRule-some, needs)) in
+    tie.close facts

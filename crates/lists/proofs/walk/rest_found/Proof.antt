@@ -2,14 +2,15 @@
 use mathlib.Core.Path.{sym}
 use borrow.Author.Needs.{needs}
 use lib.Seq.{length-take-le}
+use Rattle.lists.proofs.WalkLaws.{clientWords-found}
 use Rattle.lists.proofs.walk.rest_found.Statement.{statement}
 use Rattle.lists.proofs.walk.rest_found.Tie as tie
 
 pub rest-found-spec : {M : Type 1} → statement M
 rest-found-spec =
-    tie.close
-    (tie.spec
+    let facts = tie.spec
     (λ c κs. search needs)
     (λ c. sym (length-take-le _ _ (c .before .separator .ensures .1)))
     (λ c κs. search needs)
-    (λ c. cc))
+    (λ c. search (clientWords-found, needs)) in
+    tie.close facts

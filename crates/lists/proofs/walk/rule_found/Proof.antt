@@ -9,8 +9,7 @@ use Rattle.lists.proofs.walk.rule_found.Tie as tie
 
 pub rule-found-spec : {M : Type 1} → statement M
 rule-found-spec =
-    tie.close
-    (tie.spec
+    let facts = tie.spec
     (λ c κs. search needs)
     (λ c. search (lineFound-none, needs))
     (λ c. sym (length-take-le _ _ (c .before .before .separator .ensures .1)))
@@ -22,4 +21,5 @@ rule-found-spec =
     (λ c. search needs)
     (λ c. search (lineFound-yes, needs))
     (λ c. search (lineFound-no, needs))
-    (λ c. search (lineFound-ask, needs)))
+    (λ c. search (lineFound-ask, needs)) in
+    tie.close facts

@@ -9,4 +9,6 @@ returns : tie.Need-returns
 returns c = search (pass-unsought, needs)
 
 pub check-file-spec : {M : Type 1} → statement M
-check-file-spec = tie.close (tie.spec (λ c. search needs) (λ c κs. search needs) returns)
+check-file-spec =
+    let facts = tie.spec (λ c. search needs) (λ c κs. search needs) returns in
+    tie.close facts

@@ -16,5 +16,5 @@ returns c = search (joined-told, needs)
 
 pub joined-told-spec : {M : Type 1} → statement M
 joined-told-spec =
-    tie.close
-    (tie.spec (λ c. search needs) (λ c κs. search needs) (λ c. search needs) slice-aggregate-rule-told rule-told-requires returns)
+    let facts = tie.spec (λ c. search needs) (λ c κs. search needs) (λ c. search needs) slice-aggregate-rule-told rule-told-requires returns in
+    tie.close facts

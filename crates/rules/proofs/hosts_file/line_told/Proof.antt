@@ -25,5 +25,15 @@ returns-4 c = search (line-ruled, needs)
 
 pub line-told-spec : {M : Type 1} → statement M
 line-told-spec =
-    tie.close
-    (tie.spec (λ c κs. search needs) (λ c. search needs) (λ c. search needs) (λ c. search needs) rule-told-requires joined-told-requires returns returns-2 returns-3 returns-4)
+    let facts = tie.spec
+    (λ c κs. search needs)
+    (λ c. search needs)
+    (λ c. search needs)
+    (λ c. search needs)
+    rule-told-requires
+    joined-told-requires
+    returns
+    returns-2
+    returns-3
+    returns-4 in
+    tie.close facts

@@ -42,5 +42,18 @@ returns-2 c = search (passing-end, needs)
 
 pub pass-file-spec : {M : Type 1} → statement M
 pass-file-spec =
-    tie.close
-    (tie.spec Inv-loop μ-loop loop-holds (λ c κs. search needs) (λ c. search needs) returns (λ c. search needs) (λ c. search needs) loop-less loop-again loop-less-2 loop-again-2 returns-2)
+    let facts = tie.spec
+    Inv-loop
+    μ-loop
+    loop-holds
+    (λ c κs. search needs)
+    (λ c. search needs)
+    returns
+    (λ c. search needs)
+    (λ c. search needs)
+    loop-less
+    loop-again
+    loop-less-2
+    loop-again-2
+    returns-2 in
+    tie.close facts

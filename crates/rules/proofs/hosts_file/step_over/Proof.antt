@@ -13,5 +13,14 @@ returns c = search (step-is, needs)
 
 pub step-over-spec : {M : Type 1} → statement M
 step-over-spec =
-    tie.close
-    (tie.spec (λ c κs. search needs) (λ c. search needs) (λ c. search needs) (λ c. search needs) pass-line-requires (λ c. search needs) (λ c. search needs) (λ c. search needs) returns)
+    let facts = tie.spec
+    (λ c κs. search needs)
+    (λ c. search needs)
+    (λ c. search needs)
+    (λ c. search needs)
+    pass-line-requires
+    (λ c. search needs)
+    (λ c. search needs)
+    (λ c. search needs)
+    returns in
+    tie.close facts

@@ -7,12 +7,12 @@ use Rattle.sheet.proofs.frame.frame.Tie as tie
 
 pub frame-spec : {M : Type 1} → statement M
 frame-spec =
-    tie.close
-    (tie.spec
+    let facts = tie.spec
     (λ c κs. search needs)
     (λ c κs. search needs)
     (λ c. search needs)
     (λ c. search needs)
     (λ c κs. search (found-within, needs))
     (λ c. search (allow-refused, needs))
-    (λ c. search (allow-found, needs)))
+    (λ c. search (allow-found, needs)) in
+    tie.close facts

@@ -7,8 +7,7 @@ use Rattle.sheet.proofs.frame.from_byuid.Tie as tie
 
 pub from-byuid-spec : {M : Type 1} → statement M
 from-byuid-spec =
-    tie.close
-    (tie.spec
+    let facts = tie.spec
     (λ c. search needs)
     (λ c κs. search needs)
     (λ c κs. search needs)
@@ -16,4 +15,5 @@ from-byuid-spec =
     (λ c. search needs)
     (λ c κs. search (found-within, needs))
     (λ c. search (byuid-refused, needs))
-    (λ c. search (byuid-found, needs)))
+    (λ c. search (byuid-found, needs)) in
+    tie.close facts

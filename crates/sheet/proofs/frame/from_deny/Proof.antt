@@ -7,8 +7,7 @@ use Rattle.sheet.proofs.frame.from_deny.Tie as tie
 
 pub from-deny-spec : {M : Type 1} → statement M
 from-deny-spec =
-    tie.close
-    (tie.spec
+    let facts = tie.spec
     (λ c. search needs)
     (λ c κs. search needs)
     (λ c κs. search needs)
@@ -16,4 +15,5 @@ from-deny-spec =
     (λ c. search needs)
     (λ c κs. search (found-within, needs))
     (λ c. search (deny-refused, needs))
-    (λ c. search (deny-found, needs)))
+    (λ c. search (deny-found, needs)) in
+    tie.close facts

@@ -7,8 +7,7 @@ use Rattle.sheet.proofs.frame.from_portacl.Tie as tie
 
 pub from-portacl-spec : {M : Type 1} → statement M
 from-portacl-spec =
-    tie.close
-    (tie.spec
+    let facts = tie.spec
     (λ c. search needs)
     (λ c κs. search needs)
     (λ c κs. search needs)
@@ -16,4 +15,5 @@ from-portacl-spec =
     (λ c. search needs)
     (λ c κs. search (found-within, needs))
     (λ c. search (portacl-refused, needs))
-    (λ c. search (portacl-found, needs)))
+    (λ c. search (portacl-found, needs)) in
+    tie.close facts

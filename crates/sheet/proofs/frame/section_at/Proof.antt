@@ -7,8 +7,7 @@ use Rattle.sheet.proofs.frame.section_at.Tie as tie
 
 pub section-at-spec : {M : Type 1} → statement M
 section-at-spec =
-    tie.close
-    (tie.spec
+    let facts = tie.spec
     (λ c κs. search needs)
     (λ c κs. search needs)
     (λ c. search (count-absent, needs))
@@ -19,4 +18,5 @@ section-at-spec =
     (λ c κs. search needs)
     (λ c. search (bytes-absent, needs))
     (λ c. search (count-place, needs))
-    (λ c. search (section-found, needs)))
+    (λ c. search (section-found, needs)) in
+    tie.close facts

@@ -7,8 +7,7 @@ use Rattle.sheet.proofs.pack.pack.Tie as tie
 
 pub pack-spec : {M : Type 1} → statement M
 pack-spec =
-    tie.close
-    (tie.spec
+    let facts = tie.spec
     (λ c κs. search needs)
     (λ c. search needs)
     (λ c. search needs)
@@ -23,4 +22,5 @@ pack-spec =
     (λ c. search needs)
     (λ c.
     let p = c .before .before .before .before in
-    pack-count _ _ _ _ _ (p .before .before .before .check-texts .ensures) (search needs) _ _ _ (p .if1 .left) (c .before .before .put-sheet .ensures)))
+    pack-count _ _ _ _ _ (p .before .before .before .check-texts .ensures) (search needs) _ _ _ (p .if1 .left) (c .before .before .put-sheet .ensures)) in
+    tie.close facts

@@ -7,8 +7,7 @@ use Rattle.sheet.proofs.texts.check_contents.Tie as tie
 
 pub check-contents-spec : {M : Type 1} → statement M
 check-contents-spec =
-    tie.close
-    (tie.spec
+    let facts = tie.spec
     (λ c κs. search needs)
     (λ c. search needs)
     (λ c. search needs)
@@ -18,4 +17,5 @@ check-contents-spec =
     (λ c κs. search needs)
     (λ c. search (contents-allow, needs))
     (λ c. search (contents-deny, needs))
-    (λ c. search (contents-portacl, needs)))
+    (λ c. search (contents-portacl, needs)) in
+    tie.close facts

@@ -7,11 +7,11 @@ use Rattle.sheet.proofs.texts.check_texts.Tie as tie
 
 pub check-texts-spec : {M : Type 1} → statement M
 check-texts-spec =
-    tie.close
-    (tie.spec
+    let facts = tie.spec
     (λ c κs. search needs)
     (λ c. search needs)
     (λ c. search needs)
     (λ c κs. search needs)
     (λ c. search (texts-limits, needs))
-    (λ c. search (texts-contents, needs)))
+    (λ c. search (texts-contents, needs)) in
+    tie.close facts

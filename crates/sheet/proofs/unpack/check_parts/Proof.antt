@@ -7,11 +7,11 @@ use Rattle.sheet.proofs.unpack.check_parts.Tie as tie
 
 pub check-parts-spec : {M : Type 1} → statement M
 check-parts-spec =
-    tie.close
-    (tie.spec
+    let facts = tie.spec
     (λ c κs. search needs)
     (λ c κs. search needs)
     (λ c κs. search needs)
     (λ c κs. search needs)
     (λ c κs. search needs)
-    (λ c. search (texts-in-sheet, needs)))
+    (λ c. search (texts-in-sheet, needs)) in
+    tie.close facts

@@ -7,8 +7,7 @@ use Rattle.sheet.proofs.unpack.unpack.Tie as tie
 
 pub unpack-spec : {M : Type 1} → statement M
 unpack-spec =
-    tie.close
-    (tie.spec
+    let facts = tie.spec
     (λ c κs. search needs)
     (λ c. search needs)
     (λ c. search needs)
@@ -17,4 +16,5 @@ unpack-spec =
     (λ c. search needs)
     (λ c. search (unframed, needs))
     (λ c. search (unpack-refused, needs))
-    (λ c. search (unpack-parts, needs)))
+    (λ c. search (unpack-parts, needs)) in
+    tie.close facts
