@@ -1,3 +1,4 @@
 pub mod LineLaws
 pub mod RuleLaws
 pub mod CommandLaws
+pub mod Examples

@@ -9,7 +9,7 @@ ghost use Rattle.lines.specs.Parts.{isBlankByte, unblankedLength, trimBl
 fn is_blank_byte(b: u8) -> bool
     ensures { λ r. ⌜ r ≡ isBlankByte b ⌝ }
 {
-    (b == 32) | (b == 9)
+    (b == b' ') | (b == b'\t')
 }
 
 // How many spaces and tabs stand at the front of s.
@@ -59,7 +59,18 @@ pub fn trim(s: &[u8]) -> &[u8]
 pub fn is_directive(b: u8) -> bool
     ensures { λ r. ⌜ r ≡ among "aAnNhHucdsp%" b ⌝ }
 {
-    (b == 97) | ((b == 65) | ((b == 110) | ((b == 78) | ((b == 104) | ((b == 72) | ((b == 117) | ((b == 99) | ((b == 100) | ((b == 115) | ((b == 112) | (b == 37)))))))))))
+    (b == b'a')
+        | (b == b'A')
+        | (b == b'n')
+        | (b == b'N')
+        | (b == b'h')
+        | (b == b'H')
+        | (b == b'u')
+        | (b == b'c')
+        | (b == b'd')
+        | (b == b's')
+        | (b == b'p')
+        | (b == b'%')
 }
 
 // Whether a percent of s stands at its end or takes a byte that none may.
@@ -68,7 +79,7 @@ pub fn has_bad_percent(s: &[u8]) -> bool
 {
     let mut i = 0;
     while i < s.len() {
-        if s[i] == 37 {
+        if s[i] == b'%' {
             let k = i + 1;
             if s.len() <= k {
                 return true;

@@ -1,3 +1,4 @@
 pub mod DecideLaws
 pub mod EntryLaws
 pub mod WalkLaws
+pub mod Examples
