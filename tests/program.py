@@ -216,6 +216,15 @@ portacl:1: entry 3: not a portacl entry [12]
 """
 MARKED_ALLOW = b"sshd: 10.20.30.400, ok, 10.20.0.0/16\nALL: \\\n  EXCEPT b\n# x\nsshd: ::1\nALL: ALL: %% %z %\nsshd: ALL\r\nx"
 
+# A line of hosts.allow, and the marks under it
+MARKS = [
+    (b" : ALL", " ^"), (b"ALL: ", "     ^"), (b"ALL", "   ^"), (b"a [b: ALL", "  ^"), (b"a [b] c", "       ^"),
+    (b"a EXCEPT EXCEPT b: ALL", "  ^~~~~~ ^~~~~~"), (b"EXCEPT a: ALL", "^~~~~~"), (b"ALL: a EXCEPT", "       ^~~~~~"),
+    (b"a EXCEPT b: EXCEPT c", "            ^~~~~~"),
+    (b"@a b: c@/d", "^~    ^~~~"), (b"LOCAL: x!, ok", "^~~~~  ^~"), (b"[ x ]: ALL", "^   ^"), (b"ALL: ALL: %a %", "             ^"),
+    (b"\xc3\xa4: \x01", "^^  ^"),
+]
+
 # A line of a file, and what is warned of it: a part of the message, or None
 WARNINGS = {
     "hosts.allow": [
@@ -246,6 +255,8 @@ def test_checks(folder):
     expect("faults with their marks", gate("check", ".", cwd=marked), 1, b".: 9 faults\n",
            b"".join(b"./" + line if line[:2] in (b"ho", b"po") else line for line in MARKED.splitlines(True)))
     expect("check -q prints nothing", gate("check", "-q", marked), 1, b"", b"")
+    for line, marks in MARKS:
+        expect(f"the marks of {line}", gate("check", station(folder + "/one", line + b"\n")), 1, "1 fault", "\n      | %s\n" % marks)
     for file, lines in WARNINGS.items():
         for line, warning in lines:
             where = station(folder + "/warned", **{file.replace("hosts.", ""): line + b"\n"})
