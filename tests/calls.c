@@ -282,7 +282,7 @@ static void rooms(void) {
     uint8_t command[GATE_LINE_LIMIT], name[GATE_NAME_LIMIT], user[GATE_USER_LIMIT];
     memset(name, 'n', sizeof name), memset(user, 'u', sizeof user);
     for (size_t i = 0; i < sizeof command; i++)
-        command[i] = "%c"[i % 2];
+        command[i] = (uint8_t)"%c"[i % 2];
     command[sizeof command - 1] = 'x';
 #define LONGEST(room) gate_expand(out, room, command, sizeof command, user, sizeof user, GATE_NAME_KNOWN, GATE_IPV4, 0, 1, name, sizeof name, \
                                   GATE_NAME_UNKNOWN, GATE_ADDRESS_UNKNOWN, 0, 0, NULL, 0, GATE_USER_KNOWN, user, sizeof user, 7)
