@@ -273,6 +273,7 @@ fn pack(case: &[u8], out: &mut [u8]) {
         byuid,
         portacl,
     );
+    untouched(out, w.count);
     packed(
         w.number,
         w.section,
@@ -280,7 +281,6 @@ fn pack(case: &[u8], out: &mut [u8]) {
         part(out, 0, w.count),
         cases::field(case, 6),
     );
-    untouched(out, w.count);
 }
 
 // How long a sheet is, and whether it begins with the bytes that are expected.
