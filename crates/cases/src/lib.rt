@@ -292,8 +292,11 @@ pub fn user_state(block: &[u8], k: usize) -> u32 {
     }
 }
 
-// The kind of an address that can't be read: `?` is unknown, any other of no kind.
-pub fn no_kind(s: &[u8]) -> u32 {
+// The kind of an address that was read, or refused: `?` is unknown, any other text that is no address of no kind.
+pub fn kind(refused: u32, read: u32, s: &[u8]) -> u32 {
+    if refused == 0 {
+        return read;
+    }
     match first(s) {
         b'?' => 0,
         _ => 5,

@@ -81,7 +81,8 @@ fn nth(texts: &[u8], place: usize) -> &[u8] {
 // Writes the word at a place. Each costs no more than its number where it is written, as they stand in one text.
 pub fn word(place: usize) {
     text(nth(
-        b"|granted|denied|ask|no line|not ruled|exempt|, no file|, allow line |, deny line |refused | section | line |sheet ok|, command:| bytes|, the same|, others|allow at |deny at |byuid at |portacl at |, | -> |touched: |malformed: ",
+        b"|granted|denied|ask|no line|not ruled|exempt|, no file|, allow line |, deny line |refused | section | line |sheet ok|\
+          , command:| bytes|, the same|, others|allow at |deny at |byuid at |portacl at |, | -> |touched: |malformed: ",
         place,
     ));
 }

@@ -1,6 +1,5 @@
 // Runs the cases of its standard input, and writes what the gate's exports answer. The head of the file stdin says how a case is
 // written. A case is handed on as the block that `cases` reads it into.
-use codes::GateAddress;
 use codes::GateAnswer;
 use libc::STDIN_FILENO;
 
@@ -73,15 +72,6 @@ fn text_at(text: usize, place: u64, n: u64) {
 
 // ## The calls
 
-// The address of a field: `?` is unknown, and what can't be read is of no kind.
-fn address(s: &[u8]) -> GateAddress {
-    let mut a = gate::gate_read_address(s);
-    if a.number != 0 {
-        a.kind = cases::no_kind(s);
-    }
-    a
-}
-
 // A request as the gate takes it, but for its texts.
 struct Request {
     client_state: u32,
@@ -97,15 +87,15 @@ struct Request {
 
 // The request in the fields 1 to 6: daemon, client and its address, server and its address, user.
 fn read_request(case: &[u8]) -> Request {
-    let client = address(cases::field(case, 3));
-    let server = address(cases::field(case, 5));
+    let client = gate::gate_read_address(cases::field(case, 3));
+    let server = gate::gate_read_address(cases::field(case, 5));
     Request {
         client_state: cases::name_state(case, 2),
-        client_kind: client.kind,
+        client_kind: cases::kind(client.number, client.kind, cases::field(case, 3)),
         client_high: client.high,
         client_low: client.low,
         server_state: cases::name_state(case, 4),
-        server_kind: server.kind,
+        server_kind: cases::kind(server.number, server.kind, cases::field(case, 5)),
         server_high: server.high,
         server_low: server.low,
         user: cases::user_state(case, 6),
@@ -162,57 +152,90 @@ fn sheet_verdict(case: &[u8]) {
     ruling(a, sheet);
 }
 
+// A request for a byuid decision, in the fields 1 to 3: port, address, uid.
+struct ByuidRequest {
+    port: u32,
+    kind: u32,
+    high: u64,
+    low: u64,
+    uid: u32,
+}
+
+fn read_byuid(case: &[u8]) -> ByuidRequest {
+    let at = gate::gate_read_address(cases::field(case, 2));
+    ByuidRequest {
+        port: cases::number(case, 1),
+        kind: cases::kind(at.number, at.kind, cases::field(case, 2)),
+        high: at.high,
+        low: at.low,
+        uid: cases::number(case, 3),
+    }
+}
+
 fn byuid(case: &[u8]) {
-    let at = address(cases::field(case, 2));
-    decision(gate::gate_byuid(
-        cases::field(case, 4),
-        cases::number(case, 1),
-        at.kind,
-        at.high,
-        at.low,
-        cases::number(case, 3),
-    ));
+    let r = read_byuid(case);
+    let text = cases::field(case, 4);
+    decision(gate::gate_byuid(text, r.port, r.kind, r.high, r.low, r.uid));
 }
 
 fn sheet_byuid(case: &[u8]) {
-    let at = address(cases::field(case, 2));
-    decision(gate::gate_sheet_byuid(
-        cases::field(case, 4),
-        cases::number(case, 1),
-        at.kind,
-        at.high,
-        at.low,
-        cases::number(case, 3),
-    ));
+    let r = read_byuid(case);
+    let sheet = cases::field(case, 4);
+    decision(gate::gate_sheet_byuid(sheet, r.port, r.kind, r.high, r.low, r.uid));
+}
+
+// A request for a portacl decision, in the fields 1 to 7: the four settings, uid, protocol, port. Its groups are in the fields from 9 on.
+struct PortaclRequest {
+    enabled: u32,
+    port_high: u32,
+    suser_exempt: u32,
+    autoport_exempt: u32,
+    uid: u32,
+    protocol: u32,
+    port: u32,
+}
+
+fn read_portacl(case: &[u8]) -> PortaclRequest {
+    PortaclRequest {
+        enabled: cases::number(case, 1),
+        port_high: cases::number(case, 2),
+        suser_exempt: cases::number(case, 3),
+        autoport_exempt: cases::number(case, 4),
+        uid: cases::number(case, 5),
+        protocol: cases::number(case, 6),
+        port: cases::number(case, 7),
+    }
 }
 
 fn portacl(case: &[u8]) {
-    let groups = cases::numbers(case, 9);
+    let r = read_portacl(case);
+    let list = cases::numbers(case, 9);
     decision(gate::gate_portacl(
         cases::field(case, 8),
-        cases::number(case, 1),
-        cases::number(case, 2),
-        cases::number(case, 3),
-        cases::number(case, 4),
-        cases::number(case, 5),
-        cases::front(&groups, cases::from(case, 9)),
-        cases::number(case, 6),
-        cases::number(case, 7),
+        r.enabled,
+        r.port_high,
+        r.suser_exempt,
+        r.autoport_exempt,
+        r.uid,
+        cases::front(&list, cases::from(case, 9)),
+        r.protocol,
+        r.port,
     ));
 }
 
 fn sheet_portacl(case: &[u8]) {
-    let groups = cases::numbers(case, 9);
+    let r = read_portacl(case);
+    let list = cases::numbers(case, 9);
     decision(gate::gate_sheet_portacl(
         cases::field(case, 8),
-        cases::number(case, 1),
-        cases::number(case, 2),
-        cases::number(case, 3),
-        cases::number(case, 4),
-        cases::number(case, 5),
-        cases::front(&groups, cases::from(case, 9)),
-        cases::number(case, 6),
-        cases::number(case, 7),
+        r.enabled,
+        r.port_high,
+        r.suser_exempt,
+        r.autoport_exempt,
+        r.uid,
+        cases::front(&list, cases::from(case, 9)),
+        r.protocol,
+        r.port,
     ));
 }
 
@@ -251,14 +274,20 @@ fn pack(case: &[u8], out: &mut [u8]) {
         portacl,
     );
     untouched(out, w.count);
-    if report::refused(w.number, w.section, w.line) {
-        return;
-    }
-    packed(part(out, 0, w.count), cases::field(case, 6));
+    packed(
+        w.number,
+        w.section,
+        w.line,
+        part(out, 0, w.count),
+        cases::field(case, 6),
+    );
 }
 
 // How long a sheet is, and whether it begins with the bytes that are expected.
-fn packed(sheet: &[u8], expected: &[u8]) {
+fn packed(number: u32, section: u32, line: u64, sheet: &[u8], expected: &[u8]) {
+    if report::refused(number, section, line) {
+        return;
+    }
     report::number(sheet.len() as u64);
     report::word(report::BYTES);
     if text::equal(cases::part(sheet, 0, expected.len()), expected) {
@@ -312,9 +341,10 @@ fn read_address(case: &[u8], out: &mut [u8]) {
 }
 
 fn write_address(case: &[u8], out: &mut [u8]) {
-    let a = address(cases::field(case, 2));
+    let a = gate::gate_read_address(cases::field(case, 2));
+    let kind = cases::kind(a.number, a.kind, cases::field(case, 2));
     let n = cases::number(case, 1);
-    let w = gate::gate_write_address(cases::room(out, n), a.kind, a.high, a.low);
+    let w = gate::gate_write_address(cases::room(out, n), kind, a.high, a.low);
     written(w.number, w.section, w.line, w.count, out);
 }
 
@@ -358,7 +388,8 @@ fn malformed(line: &[u8]) {
 // The place of a case's call. A call is written as its name, a colon and the kinds of its fields: t a text, n a number, . no more.
 fn call(case: &[u8]) -> usize {
     cases::call(
-        b"verdict:tttttttt. sheet_verdict:ttttttt. byuid:ntnt. sheet_byuid:ntnt. portacl:nnnnnnntn sheet_portacl:nnnnnnntn check:t. unpack:t. pack:nttttt. expand:ttttttnnt. read_address:t. write_address:nt.",
+        b"verdict:tttttttt. sheet_verdict:ttttttt. byuid:ntnt. sheet_byuid:ntnt. portacl:nnnnnnntn sheet_portacl:nnnnnnntn \
+          check:t. unpack:t. pack:nttttt. expand:ttttttnnt. read_address:t. write_address:nt.",
         case,
     )
 }
@@ -372,13 +403,26 @@ fn run_case(line: &[u8], case: &[u8]) {
     answer(place, case);
 }
 
-// Runs the case of a line, after the line of the text that is kept.
+// Reads the case of a line into a block, and runs it.
+fn run_in(block: &mut [u8], line: &[u8], kept: &[u8]) {
+    cases::read_line(block, line, kept);
+    run_case(line, block);
+}
+
+fn run_with(line: &[u8], kept: &[u8]) {
+    let mut block = [0u8; 65536];
+    run_in(&mut block, line, kept);
+}
+
+// The same after the line of the text that is kept, which is read into a block of its own.
+fn keep_in(block: &mut [u8], line: &[u8], kept_line: &[u8]) {
+    cases::read_line(block, kept_line, b"");
+    run_with(line, cases::field(block, 1));
+}
+
 fn run(line: &[u8], kept_line: &[u8]) {
-    let mut kept = [0u8; 65536];
-    let mut case = [0u8; 65536];
-    cases::read_line(&mut kept, kept_line, b"");
-    cases::read_line(&mut case, line, cases::field(&kept, 1));
-    run_case(line, &case);
+    let mut block = [0u8; 65536];
+    keep_in(&mut block, line, kept_line);
 }
 
 fn heading(line: &[u8]) {
@@ -413,8 +457,12 @@ fn run_lines(input: &[u8]) {
     }
 }
 
+fn run_input(input: &mut [u8]) {
+    let n = io::read_full(STDIN_FILENO, input);
+    run_lines(cases::part(input, 0, n));
+}
+
 fn main() {
     let mut input = [0u8; 262144];
-    let n = io::read_full(STDIN_FILENO, &mut input);
-    run_lines(&input[..n]);
+    run_input(&mut input);
 }
