@@ -209,7 +209,7 @@ def main():
         status, said = check_edits(top)
         for complaint in COMPLAINTS:
             demand("no complaint: " + complaint, "check-edits: " + complaint in said, said)
-        demand("other complaints, or the wrong status", status == 1 and f"FAILED, {len(COMPLAINTS)} complaints; 4 wrong programs" in said, said)
+        demand("other complaints, or the wrong status", status == 1 and f"FAILED, {len(COMPLAINTS)} complaints; besides 4 wrong programs" in said, said)
     print(f"check_edits: 7 wrong programs accepted, {len(COMPLAINTS)} complaints of planted edits")
 
 
