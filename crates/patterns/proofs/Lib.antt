@@ -1,4 +1,5 @@
 pub mod TestLaws
 pub mod PatternLaws
 pub mod NetLaws
+pub mod DottedLaws
 pub mod CoverLaws

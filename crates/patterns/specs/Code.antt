@@ -14,7 +14,6 @@ use lib.ListN.{length, take, drop}
 use Rattle.text.specs.Basics.{if_then_else_, _>>=_, _orElse_, given, holds, isSome, any, all, each}
 use Rattle.text.specs.Text.{bytes, among, firstAmong, lastAmong, splitOnce, split, isDigit, equalFold, isWord}
 use Rattle.text.specs.Number.{fromDigits, readDecimal}
-use Rattle.text.specs.Scan.{indexOf}
 use Rattle.text.specs.declared.NumberRead.{NumberRead}
 use Rattle.text.specs.declared.NumberRead.the-variants as T
 use Rattle.address.specs.Address.{samePrefix, addrCase, readV4, readV6}
@@ -29,8 +28,6 @@ use Rattle.patterns.specs.declared.net.NetRead.{NetRead}
 use Rattle.patterns.specs.declared.net.NetRead.the-variants as R
 use Rattle.patterns.specs.declared.net.PrefixRead.{PrefixRead}
 use Rattle.patterns.specs.declared.net.PrefixRead.the-variants as P
-use Rattle.patterns.specs.declared.net.Field.{Field}
-use Rattle.patterns.specs.declared.net.Field.the-variants as L
 use Rattle.patterns.specs.Host.{Endpoint, nameCase, nameKnown, addrKnown}
 use Rattle.patterns.specs.Pattern.{Pattern, domainPattern, leadingFields, netMask, bracketPattern, dottedPattern, namePattern, hostPattern}
 
@@ -92,14 +89,6 @@ abbrev pub asNet : Option (ℕ × ℕ) → NetRead
 asNet none = R.Nothing
 asNet (some p) = R.Net (p .0) (p .1)
 
--- a field that a dot follows, and the place after the dot
-abbrev pub fieldWith : ℕ → Option ℕ → Field
-fieldWith i none = L.Nothing
-fieldWith i (some n) = L.Value n (i + 1)
-
-unfoldable pub fieldOf : List ℕ → Field
-fieldOf t = if eqb (indexOf 46 t) (length t) then L.Nothing else fieldWith (indexOf 46 t) (readDecimal 255 (take (indexOf 46 t) t))
-
 -- the net of the k leading fields that write n
 abbrev pub leadingNet : ℕ → ℕ → ℕ × ℕ
 leadingNet k n = (n * 2 ^ (32 - 8 * k), 2 ^ 32 - 2 ^ (32 - 8 * k))
@@ -108,11 +97,11 @@ leadingNet k n = (n * 2 ^ (32 - 8 * k), 2 ^ 32 - 2 ^ (32 - 8 * k))
 unfoldable pub dottedFields : List ℕ → Option (List ℕ)
 dottedFields t = if lastAmong "." t then each (readDecimal 255) (split "." (take (length t - 1) t)) else none
 
--- the net of the fields of t, after k fields that write n
-unfoldable pub fieldsNet : ℕ → ℕ → List ℕ → Option (ℕ × ℕ)
-fieldsNet k n t = do
+-- the net of one to three such fields
+unfoldable pub fieldsNet : List ℕ → Option (ℕ × ℕ)
+fieldsNet t = do
   fs ← dottedFields t
-  given (leb (k + length fs) 3) (leadingNet (k + length fs) (fromDigits 256 n fs))
+  given (leb (length fs) 3) (leadingNet (length fs) (fromDigits 256 0 fs))
 
 abbrev pub pairNet : NumberRead → NumberRead → NetRead
 pairNet T.Nothing m = R.Nothing
@@ -126,11 +115,8 @@ maskNet e = do
   mask ← readV4 (p .1)
   some (net, mask)
 
-unfoldable pub wholeNet : List ℕ → Option (ℕ × ℕ)
-wholeNet e = (readV4 e >>= λ n. some (n, 4294967295)) orElse maskNet e
-
 unfoldable pub dottedNet : List ℕ → Option (ℕ × ℕ)
-dottedNet e = if lastAmong "." e then fieldsNet 0 0 e else wholeNet e
+dottedNet e = (readV4 e >>= λ n. some (n, 4294967295)) orElse fieldsNet e orElse maskNet e
 
 -- an address of 128 bits, and the number of leading bits to compare
 abbrev pub asPrefix : Option (ℕ × ℕ) → PrefixRead
