@@ -3,3 +3,4 @@ pub mod PatternLaws
 pub mod NetLaws
 pub mod DottedLaws
 pub mod CoverLaws
+pub mod SeenLaws

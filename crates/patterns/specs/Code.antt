@@ -1,6 +1,7 @@
 -- Patterns as the code reads them: what the contracts of functions that are called by others cite. Nothing here needs to be believed for
 -- the meaning of document 01: its words are those of Host and Pattern.
 --   hostMatches e h              == e is a host pattern that matches h
+--   patternSeen look p h         == whether p is a pattern and, if it is looked at, matches h
 --   wildcardOf e, formOf e       == the wildcard that e is; what e is read as where it is none
 --   dottedNet e, bracketPrefix e == the net and mask, or the address and prefix length, that a pattern of addresses writes
 -- Assumes nothing: these are definitions.
@@ -20,6 +21,7 @@ use Rattle.address.specs.Address.{samePrefix, addrCase, readV4, readV6}
 use Rattle.address.specs.declared.read.V6Read.{V6Read}
 use Rattle.address.specs.declared.read.V6Read.the-variants as V6
 use Rattle.patterns.specs.declared.Host.{Host}
+use Rattle.patterns.specs.declared.HostSeen.{HostSeen}
 use Rattle.patterns.specs.declared.pattern.Wildcard.{Wildcard}
 use Rattle.patterns.specs.declared.pattern.Wildcard.the-variants as W
 use Rattle.patterns.specs.declared.pattern.Form.{Form}
@@ -65,6 +67,13 @@ wildcardPattern W.Paranoid = some λ h. nameCase h false true false
 
 abbrev pub matchesPattern : Pattern → Endpoint → Bool
 matchesPattern p h = holds (λ f. f h) p
+
+-- whether a text is a pattern and, if it is looked at, matches
+abbrev pub hostSeen : Bool → Bool → HostSeen
+hostSeen sound matches = record { sound = sound; matches = matches }
+
+unfoldable pub patternSeen : Bool → Pattern → Endpoint → HostSeen
+patternSeen look p h = hostSeen (isSome p) (look && matchesPattern p h)
 
 -- a domain pattern, a name pattern, is one and matches a known name
 unfoldable pub domainCovers : List ℕ → List ℕ → Bool
@@ -141,6 +150,10 @@ bracketPrefix e = do
 
 -- ## What patterns of addresses cover
 
+abbrev pub netSound : NetRead → Bool
+netSound R.Nothing = false
+netSound (R.Net n m) = true
+
 abbrev pub netCovers : NetRead → ℕ → Bool
 netCovers R.Nothing a = false
 netCovers (R.Net n m) a = eqb n (bitAnd a m)
@@ -151,6 +164,9 @@ dottedTest e = (readV4 e >>= λ n. some (eqb n)) orElse leadingFields e orElse n
 
 abbrev pub dottedCovers : List ℕ → Host → Bool
 dottedCovers e h = addrCase (h .addr) false (λ a. holds (λ f. f a) (dottedTest e)) (λ a. false)
+
+abbrev pub prefixHolds : ℕ → ℕ → Host → Bool
+prefixHolds n m h = addrCase (h .addr) false (λ a. false) (samePrefix 128 m n)
 
 unfoldable pub prefixCovers : List ℕ → ℕ → Bool
 prefixCovers e a = holds (λ q. samePrefix 128 (q .1) (q .0) a) (bracketPrefix e)

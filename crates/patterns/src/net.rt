@@ -1,7 +1,9 @@
 // Patterns of addresses: the dotted ones of IPv4 are read as a net and a mask, the bracketed ones of IPv6 as a prefix.
 //   dotted_sound(e), bracket_sound(e)                 == e is such a pattern
 //   dotted_matches(e, host), bracket_matches(e, host) == e is one that matches the host's address
+//   dotted_seen(e, look, host), bracket_seen(e, look, host) == both at once, in one reading
 use super::Host;
+use super::HostSeen;
 use address::Addr;
 use address::fields::Run;
 use address::fields::ended_address;
@@ -13,14 +15,15 @@ use address::read::read_v4;
 use address::read::read_v6;
 use text::NumberRead;
 ghost use mathlib.Core.Path.{_≡_};
+ghost use mathlib.Core.Bool.{false, _&&_};
 ghost use mathlib.Core.Option.{some};
 ghost use Prim.Native.Nat.{_+_, _*_, _^_, _<_, _≤_};
 ghost use Rattle.text.specs.Basics.{isSome};
 ghost use Rattle.text.specs.Scan.{asNumber};
 ghost use Rattle.patterns.specs.Pattern.{bracketPattern, dottedPattern};
-ghost use Rattle.patterns.specs.Code.{asNet, leadingNet, pairNet, dottedNet, netCovers, dottedCovers};
+ghost use Rattle.patterns.specs.Code.{hostSeen, asNet, leadingNet, pairNet, dottedNet, netSound, netCovers, dottedCovers};
 ghost use Rattle.patterns.specs.Dotted.{endedNet};
-ghost use Rattle.patterns.specs.Code.{prefixLength, asPrefix, prefixWith, bracketPrefix, prefixCovers, bracketCovers};
+ghost use Rattle.patterns.specs.Code.{prefixLength, asPrefix, prefixWith, bracketPrefix, prefixHolds, prefixCovers, bracketCovers};
 
 // A net and the mask that an address is put under before it is compared with the net.
 enum NetRead {
@@ -168,6 +171,50 @@ pub fn dotted_matches(e: &[u8], host: Host) -> bool
     }
 }
 
+// Whether a net was read, where no address is compared with it.
+fn net_sound(net: NetRead) -> HostSeen
+    ensures { λ r. ⌜ r ≡ hostSeen (netSound net) false ⌝ }
+{
+    match net {
+        NetRead::Nothing => HostSeen {
+            sound: false,
+            matches: false,
+        },
+        NetRead::Net(_, _) => HostSeen {
+            sound: true,
+            matches: false,
+        },
+    }
+}
+
+// Whether a net was read and, if it is looked at, an address lies in it.
+fn net_seen(net: NetRead, look: bool, a: u32) -> HostSeen
+    ensures { λ r. ⌜ r ≡ hostSeen (netSound net) (look && netCovers net a) ⌝ }
+{
+    match net {
+        NetRead::Nothing => HostSeen {
+            sound: false,
+            matches: false,
+        },
+        NetRead::Net(net, mask) => HostSeen {
+            sound: true,
+            matches: look & in_net(net, mask, a),
+        },
+    }
+}
+
+// Whether e is a dotted pattern and, if it is looked at, matches.
+pub fn dotted_seen(e: &[u8], look: bool, host: Host) -> HostSeen
+    ensures { λ r. ⌜ r ≡ hostSeen (isSome (dottedPattern (now (e .entry)))) (look && dottedCovers (now (e .entry)) host) ⌝ }
+{
+    let addr = host.addr;
+    match addr {
+        Addr::Unknown => net_sound(read_dotted(e)),
+        Addr::V4(a) => net_seen(read_dotted(e), look, a),
+        Addr::V6(_, _) => net_sound(read_dotted(e)),
+    }
+}
+
 // Whether e is a bracketed pattern.
 pub fn bracket_sound(e: &[u8]) -> bool
     ensures { λ r. ⌜ r ≡ isSome (bracketPattern (now (e .entry))) ⌝ }
@@ -199,5 +246,35 @@ pub fn bracket_matches(e: &[u8], host: Host) -> bool
         Addr::Unknown => false,
         Addr::V4(_) => false,
         Addr::V6(high, low) => bracket_covers(e, high, low),
+    }
+}
+
+// Whether an IPv6 address has the first m bits of another.
+fn prefix_matches(host: Host, high: u64, low: u64, m: u32) -> bool
+    requires { ⌜ m ≤ 128 ⌝ }
+    ensures { λ r. ⌜ r ≡ prefixHolds (high * 2 ^ 64 + low) m host ⌝ }
+{
+    let addr = host.addr;
+    match addr {
+        Addr::Unknown => false,
+        Addr::V4(_) => false,
+        Addr::V6(h, l) => same_prefix_v6(high, low, h, l, m),
+    }
+}
+
+// Whether e is a bracketed pattern and, if it is looked at, matches.
+pub fn bracket_seen(e: &[u8], look: bool, host: Host) -> HostSeen
+    ensures { λ r. ⌜ r ≡ hostSeen (isSome (bracketPattern (now (e .entry)))) (look && bracketCovers (now (e .entry)) host) ⌝ }
+{
+    let prefix = read_bracket(e);
+    match prefix {
+        PrefixRead::Nothing => HostSeen {
+            sound: false,
+            matches: false,
+        },
+        PrefixRead::Prefix(high, low, m) => HostSeen {
+            sound: true,
+            matches: look & prefix_matches(host, high, low, m),
+        },
     }
 }
