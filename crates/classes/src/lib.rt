@@ -1,6 +1,9 @@
 // The classes of bytes, and an element read with the classes of its bytes, in one loop.
 //   classes()                 == the class of every byte, made once and lent
-//   element_at(class, text, i) == where the element at i ends, and the classes of its bytes
+//   element_at(class, text, i) == where the element at i ends, and the classes of its bytes: a mask
+//   host::host_seen(e, mask, ..) == whether the element e is a host pattern and matches, by its mask
+// A list read in place, element by element: laws list-parting, list-end, element-list of proofs/ReadingLaws. What a mask tells of an element:
+// Told in specs/Class, for what element_at answers law element-told.
 ghost use mathlib.Core.Path.{_≡_};
 ghost use Prim.Native.Nat.{_≤_};
 ghost use lib.ListN.{length, drop};
@@ -304,3 +307,5 @@ pub fn element_at(class: &[u8; 256], text: &[u8], i: usize) -> ClassSpan
     }
     ClassSpan { end: j, mask }
 }
+
+pub mod host;
