@@ -47,7 +47,8 @@ started v (b ∷ t) p h = by (isDigit b) (leb (fieldMore v b) 255) refl refl (λ
     by false y e f ih = simp e
     by true true e f ih = simp (e, f, ne-eqb v 0 (λ z. omega arith)) (ih (leb-true (fieldMore v b) 255 f))
     by true false e f ih =
-        let l : 255 < rest (fieldMore v b) t = omega (arith, leb-false (fieldMore v b) 255 f, fromDigits-le 10 (fieldMore v b) (map digitValue t) (omega arith)) in
+        let m : fieldMore v b ≤ rest (fieldMore v b) t = fromDigits-le 10 (fieldMore v b) (map digitValue t) (omega arith) in
+        let l : 255 < rest (fieldMore v b) t = omega (arith, leb-false (fieldMore v b) 255 f) in
         simp (e, f, lt-leb (rest (fieldMore v b) t) 255 l) (dead (all isDigit t) (not (eqb v 0)) (rest (fieldMore v b) t))
       where
         dead : (x y : Bool) (n : ℕ) → (if y && false then digitsFrom (fieldMore v b) true t else none) ≡ given (x && false) n
@@ -68,7 +69,9 @@ zero-read (c ∷ t) =
 
 digit-read : (b : ℕ) (t : List ℕ) → isDigit b ≡ true → (b ≡ 48 → ⊥) → readDecimal 255 (b ∷ t) ≡ digitsFrom (fieldMore 0 b) true t
 unfolding all fromDigits
-digit-read b t e n = sym (started (fieldMore 0 b) t (omega (arith, digit-low b e)) (omega (arith, digit-high b e)) ∙ by (all isDigit t) (leb (rest (fieldMore 0 b) t) 255) refl refl)
+digit-read b t e n =
+    sym (started (fieldMore 0 b) t (omega (arith, digit-low b e)) (omega (arith, digit-high b e))
+    ∙ by (all isDigit t) (leb (rest (fieldMore 0 b) t) 255) refl refl)
   where
     is-value : value (b ∷ t) ≡ rest (fieldMore 0 b) t
     is-value = ap (λ (x : ℕ). fromDigits 10 (0 * 10 + x) (map digitValue t)) (digitValue-digit b e)
@@ -136,11 +139,13 @@ run-fields v true [] = refl
 run-fields v false [] = refl
 run-fields v d (b ∷ t) = by (eqb b 46) refl (split-cons t) (λ u x. run-fields u x t)
   where
-    by : (p : Bool) → eqb b 46 ≡ p → (w : List ℕ) × (ws : List (List ℕ)) × (split "." t ≡ w ∷ ws) → ((u : ℕ) (x : Bool) → runFields u x t ≡ eachFrom u x (split "." t))
+    by : (p : Bool) → eqb b 46 ≡ p → (w : List ℕ) × (ws : List (List ℕ)) × (split "." t ≡ w ∷ ws)
+        → ((u : ℕ) (x : Bool) → runFields u x t ≡ eachFrom u x (split "." t))
         → runFields v d (b ∷ t) ≡ eachFrom v d (split "." (b ∷ t))
     by true e q ih = simp e (dot-after v d (runFields 0 false t) (each (readDecimal 255) (split "." t)) (ih 0 false ∙ each-split t) d)
     by false e q ih =
-        let g : runFields (fieldMore v b) true t ≡ eachFrom (fieldMore v b) true (q .0 ∷ q .1) = ih (fieldMore v b) true ∙ ap (eachFrom (fieldMore v b) true) (q .2) in
+        let g : runFields (fieldMore v b) true t ≡ eachFrom (fieldMore v b) true (q .0 ∷ q .1) =
+        ih (fieldMore v b) true ∙ ap (eachFrom (fieldMore v b) true) (q .2) in
         simp (e, q .2) (digit-after (fieldMore v b) true (runFields (fieldMore v b) true t) (q .0) (q .1) g (fieldFits v d b))
 
 -- an address, as one pass reads its fields
@@ -170,7 +175,8 @@ each-pos v d (w ∷ ws) fs e = by (digitsFrom v d w) (each (readDecimal 255) ws)
     by (some y) (some ys) (v ∷ fs) e = omega arith
 
 -- no field more after three that a dot ended
-address-full : (k n v : ℕ) (t : List ℕ) → 3 ≤ k → ((runFields 0 false t >>= λ fs. some (v ∷ fs)) >>= λ fs. given (eqb (k + length fs) 4) (fromDigits 256 n fs)) ≡ none
+address-full : (k n v : ℕ) (t : List ℕ) → 3 ≤ k
+    → ((runFields 0 false t >>= λ fs. some (v ∷ fs)) >>= λ fs. given (eqb (k + length fs) 4) (fromDigits 256 n fs)) ≡ none
 address-full k n v t h = by (runFields 0 false t) refl
   where
     by : (o : Option (List ℕ)) → runFields 0 false t ≡ o → ((o >>= λ fs. some (v ∷ fs)) >>= λ fs. given (eqb (k + length fs) 4) (fromDigits 256 n fs)) ≡ none
@@ -217,7 +223,8 @@ pub address-start : (t : List ℕ) → readV4 t ≡ addressFrom 0 0 0 false t
 unfolding readV4
 address-start t = rw (fields-run t) (by (runFields 0 false t))
   where
-    by : (o : Option (List ℕ)) → (o >>= λ fs. given (eqb (length fs) 4) (fromDigits 256 0 fs)) ≡ (o >>= λ fs. given (eqb (0 + length fs) 4) (fromDigits 256 0 fs))
+    by : (o : Option (List ℕ))
+        → (o >>= λ fs. given (eqb (length fs) 4) (fromDigits 256 0 fs)) ≡ (o >>= λ fs. given (eqb (0 + length fs) 4) (fromDigits 256 0 fs))
     by none = refl
     by (some fs) = let e : length fs ≡ 0 + length fs = omega arith in ap (λ (k : ℕ). given (eqb k 4) (fromDigits 256 0 fs)) e
 
@@ -266,14 +273,17 @@ pub record Running (e : List ℕ) (i j n k v : ℕ) (d : Bool) : Type 0 where
   pub so-far : runFrom i 0 0 0 false (drop i e) ≡ runFrom j n k v d (drop j e)
 
 pub running-start : (e : List ℕ) (i : ℕ) → i ≤ length e → Running e i i 0 0 0 false
-running-start e i h = record { from = omega arith; within = h; few = omega arith; small = omega arith; field = omega arith; number = omega arith; so-far = refl }
+running-start e i h =
+    record { from = omega arith; within = h; few = omega arith; small = omega arith; field = omega arith; number = omega arith; so-far = refl }
 
-step-bounds : (n k v : ℕ) (d : Bool) (b m l u : ℕ) (x : Bool) → k ≤ 3 → n < 256 ^ k → v ≤ 255 → stepOf n k v d b ≡ S.Go m l u x → (m < 256 ^ l) × ((l ≤ 3) × (u ≤ 255))
+step-bounds : (n k v : ℕ) (d : Bool) (b m l u : ℕ) (x : Bool) → k ≤ 3 → n < 256 ^ k → v ≤ 255 → stepOf n k v d b ≡ S.Go m l u x
+    → (m < 256 ^ l) × ((l ≤ 3) × (u ≤ 255))
 unfolding stepOf
 step-bounds n k v d b m l u x few small field h = by (eqb b 46) (d && ltb k 3) (leb (fieldMore v b) 255) (isDigit b) (not (d && eqb v 0)) refl refl h
   where
     by : (p q f g o : Bool) → (d && ltb k 3) ≡ q → leb (fieldMore v b) 255 ≡ f
-        → (if p then (if q then S.Go (n * 256 + v) (k + 1) 0 false else S.Nothing) else if g && (o && f) then S.Go n k (fieldMore v b) true else if g then S.Nothing else S.Stop)
+        → (if p then (if q then S.Go (n * 256 + v) (k + 1) 0 false else S.Nothing) else if g && (o && f) then S.Go n k (fieldMore v b) true
+        else if g then S.Nothing else S.Stop)
         ≡ S.Go m l u x
         → (m < 256 ^ l) × ((l ≤ 3) × (u ≤ 255))
     by true true f g o e1 e2 h =
@@ -343,18 +353,20 @@ module _ {X : Type 0} (f : ℕ → ℕ → ℕ → Bool → List ℕ → X) (bad
   Told y R.Failed = y ≡ bad
   Told y (R.At i m l u x) = (y ≡ f m l u x (drop i e)) × Landed e i m l u x
 
-  told : (t : List ℕ) (j n k v : ℕ) (d : Bool) → drop j e ≡ t → j + length t ≡ length e → k ≤ 3 → n < 256 ^ k → v ≤ 255 → Told (f n k v d t) (runFrom j n k v d t)
+  told : (t : List ℕ) (j n k v : ℕ) (d : Bool) → drop j e ≡ t → j + length t ≡ length e → k ≤ 3 → n < 256 ^ k → v ≤ 255
+      → Told (f n k v d t) (runFrom j n k v d t)
   unfolding runFrom
-  told [] j n k v d q l few small field =
-      (ap (f n k v d) (sym q),
-       record {
-        within = omega arith;
-        few = few;
-        small = small;
-        number = omega (arith, pow-le-pow-right {n = 256} (omega arith) few);
-        field = field;
-        stops = λ h. absurd (omega arith);
-      })
+  told [] j n k v d q l few small field = (
+    ap (f n k v d) (sym q),
+    record {
+      within = omega arith;
+      few = few;
+      small = small;
+      number = omega (arith, pow-le-pow-right {n = 256} (omega arith) few);
+      field = field;
+      stops = λ h. absurd (omega arith);
+    },
+  )
   told (b ∷ t) j n k v d q l few small field = by (stepOf n k v d b) refl (λ m o u x h. told t (suc j) m o u x (tail q) (omega arith))
     where
       inside : j < length e
@@ -370,16 +382,17 @@ module _ {X : Type 0} (f : ℕ → ℕ → ℕ → Bool → List ℕ → X) (bad
           → ((m o u : ℕ) (x : Bool) → stepOf n k v d b ≡ S.Go m o u x → o ≤ 3 → m < 256 ^ o → u ≤ 255 → Told (f m o u x t) (runFrom (suc j) m o u x t))
           → Told (f n k v d (b ∷ t)) (onStep s (R.At j n k v d) (λ m l u x. runFrom (suc j) m l u x t))
       by S.Nothing h ih = follows .fails n k v d b t h
-      by S.Stop h ih =
-          (ap (f n k v d) (sym q),
-           record {
-            within = omega arith;
-            few = few;
-            small = small;
-            number = omega (arith, pow-le-pow-right {n = 256} (omega arith) few);
-            field = field;
-            stops = λ i. ap (stepOf n k v d) (head q) ∙ h;
-          })
+      by S.Stop h ih = (
+        ap (f n k v d) (sym q),
+        record {
+          within = omega arith;
+          few = few;
+          small = small;
+          number = omega (arith, pow-le-pow-right {n = 256} (omega arith) few);
+          field = field;
+          stops = λ i. ap (stepOf n k v d) (head q) ∙ h;
+        },
+      )
       by (S.Go m o u x) h ih =
           let g = step-bounds n k v d b m o u x few small field h in
           subst (λ (y : X). Told y (runFrom (suc j) m o u x t)) (sym (follows .goes n k v d b t m o u x h)) (ih m o u x h (g .1 .0) (g .0) (g .1 .1))

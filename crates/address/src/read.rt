@@ -17,7 +17,8 @@ ghost use Rattle.text.specs.Basics.{given};
 ghost use Rattle.text.specs.Text.{bytes};
 ghost use Rattle.text.specs.Scan.{asNumber};
 ghost use Rattle.address.specs.Address.{readV4, readV6, readGroups, readCompressed, readAddress, asRead};
-ghost use Rattle.address.specs.Code.{numberOf, wordsOf, hexValue, groupValue, firstGroup, groupsFrom, readsLast, readTail, sideParts, placeOf, ofGroups, asV6};
+ghost use Rattle.address.specs.Code.{numberOf, wordsOf, hexValue, groupValue, firstGroup, groupsFrom, readsLast, readTail};
+ghost use Rattle.address.specs.Code.{sideParts, placeOf, ofGroups, asV6};
 
 // An IPv6 address that was read, by its two words, or none.
 pub enum V6Read {

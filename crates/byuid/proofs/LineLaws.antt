@@ -119,7 +119,8 @@ module _ (s : List ℕ) (a : ℕ) (h : Held) (is-h : h ≡ heldBy (inside a) (re
   unfolding readerOf
   range-v6 = is-h
 
-  pub net-v6 : h ≡ H.Nothing → (r : Held) → r ≡ heldBy (inside a) (readNet 128 readV6 s) → r ≡ heldBy (inside a) (readRange readV6 s orElse readNet 128 readV6 s)
+  pub net-v6 : h ≡ H.Nothing → (r : Held) → r ≡ heldBy (inside a) (readNet 128 readV6 s)
+      → r ≡ heldBy (inside a) (readRange readV6 s orElse readNet 128 readV6 s)
   net-v6 = or-nothing (inside a) (readRange readV6 s) (readNet 128 readV6 s) h range-v6
 
   pub range-v6-is : (b : Bool) → h ≡ H.Is b → h ≡ heldBy (inside a) (readRange readV6 s orElse readNet 128 readV6 s)

@@ -181,7 +181,9 @@ without-parts z m c = ap (λ (x : ℕ). eqb x 0) (and-or m c z) ∙ by (bitAnd m
   where
     by : (x y : ℕ) → eqb (bitOr x y) 0 ≡ (eqb x 0 && eqb y 0)
     by zero y = rw (or-zero-l y)
-    by (suc x) y = ne-eqb (bitOr (suc x) y) 0 (λ e. let h : suc x ≤ bitOr (suc x) y = or-le (suc x) y in omega arith) ∙ sym (ap (λ (t : Bool). t && eqb y 0) (ne-eqb (suc x) 0 (λ e. omega arith)))
+    by (suc x) y =
+        ne-eqb (bitOr (suc x) y) 0 (λ e. let h : suc x ≤ bitOr (suc x) y = or-le (suc x) y in omega arith)
+        ∙ sym (ap (λ (t : Bool). t && eqb y 0) (ne-eqb (suc x) 0 (λ e. omega arith)))
 
 -- what the tests of a byte say of each other: whether a line may hold it, whether it is a name byte, a digit, a dot, a slash, `@`
 record Tests (l n d p q a : Bool) : Type 0 where
@@ -205,7 +207,8 @@ name-line b e = by (leb 65 b && leb b 90) (leb 97 b && leb b 122) (leb 48 b && l
     is : (x : ℕ) → 32 ≤ x → x ≤ 126 → eqb b x ≡ true → isLineByte b ≡ true
     is x h k f = line (omega (arith, eqb-true b x f)) (omega (arith, eqb-true b x f))
 
-    by : (u v d x y z : Bool) → (leb 65 b && leb b 90) ≡ u → (leb 97 b && leb b 122) ≡ v → (leb 48 b && leb b 57) ≡ d → eqb b 45 ≡ x → eqb b 95 ≡ y → eqb b 46 ≡ z
+    by : (u v d x y z : Bool) → (leb 65 b && leb b 90) ≡ u → (leb 97 b && leb b 122) ≡ v → (leb 48 b && leb b 57) ≡ d → eqb b 45 ≡ x → eqb b 95 ≡ y
+        → eqb b 46 ≡ z
         → ((u || v) || d || (x || (y || (z || false)))) ≡ true → isLineByte b ≡ true
     by true v d x y z e1 e2 e3 e4 e5 e6 f = within 65 90 (omega arith) (omega arith) e1
     by false true d x y z e1 e2 e3 e4 e5 e6 f = within 97 122 (omega arith) (omega arith) e2

@@ -62,7 +62,8 @@ parting-is b h = by (eqb b 32) (eqb b 9) (eqb b 44) refl refl refl h
     at : (x : ℕ) → eqb b x ≡ true → eqb x 10 ≡ false → eqb x 58 ≡ false → eqb x 91 ≡ false → (eqb b 10 ≡ false) × ((eqb b 58 ≡ false) × (eqb b 91 ≡ false))
     at x e f g h = rw (eqb-true b x e) (f, (g, h))
 
-    by : (x y z : Bool) → eqb b 32 ≡ x → eqb b 9 ≡ y → eqb b 44 ≡ z → (x || (y || (z || false))) ≡ true → (eqb b 10 ≡ false) × ((eqb b 58 ≡ false) × (eqb b 91 ≡ false))
+    by : (x y z : Bool) → eqb b 32 ≡ x → eqb b 9 ≡ y → eqb b 44 ≡ z → (x || (y || (z || false))) ≡ true
+        → (eqb b 10 ≡ false) × ((eqb b 58 ≡ false) × (eqb b 91 ≡ false))
     by true y z e f g k = at 32 e refl refl refl
     by false true z e f g k = at 9 f refl refl refl
     by false false true e f g k = at 44 g refl refl refl
@@ -115,7 +116,8 @@ lead (b ∷ t) h = by (isStop b) refl (lead t)
     by true e ih = record { count = part-stop b t e ∙ simp e; same = simp e; rest = simp e }
     by false e ih =
         let k : (isPlainByte b && all isPlainByte (take (spanLen isInner t) t)) ≡ true = simp e at h in
-        let q : (isPlainByte b ≡ true) × (all isPlainByte (take (spanLen isInner t) t) ≡ true) = and-true (isPlainByte b) (all isPlainByte (take (spanLen isInner t) t)) k in
+        let q : (isPlainByte b ≡ true) × (all isPlainByte (take (spanLen isInner t) t) ≡ true) =
+        and-true (isPlainByte b) (all isPlainByte (take (spanLen isInner t) t)) k in
         let i : (isParting b ≡ false) × ((eqb b 58 ≡ false) × (eqb b 10 ≡ false)) = inner-is b e in
         let m : listPart (b ∷ t) ≡ b ∷ listPart t = part-more b t (i .1 .1) (i .1 .0) (plain-is b (q .0)) in
         let r : Lead t = ih (q .1) in

@@ -518,7 +518,8 @@ pub printable-start : (t : List ℕ) (start : ℕ) → start ≤ length t → Pr
 unfolding printableFront
 printable-start t start h = record { from = omega arith; within = h; front = rw (sub-self start) }
 
-pub printable-more : (t : List ℕ) (start i : ℕ) → PrintableTo t start i → (x : Bool) → x ≡ printableFront 16 (drop i t) → x ≡ true → PrintableTo t start (i + 16)
+pub printable-more : (t : List ℕ) (start i : ℕ) → PrintableTo t start i → (x : Bool) → x ≡ printableFront 16 (drop i t) → x ≡ true
+    → PrintableTo t start (i + 16)
 printable-more t start i p x is-x e =
     let b : printableFront 16 (drop i t) ≡ true = sym is-x ∙ e in
     let k : start + (i - start) ≡ i = omega (arith, p .from) in

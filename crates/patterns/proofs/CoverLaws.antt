@@ -130,13 +130,16 @@ module _ (p : (ℕ → Bool) → Bool) (q : ℕ × ℕ → Bool) (like : Alike p
     unfolding leadingFields fieldsNet dottedFields
     fieldsNet-same = by (lastAmong "." e) refl (each (readDecimal 255) (split "." (take (length e - 1) e))) refl
       where
-        by : (b : Bool) → lastAmong "." e ≡ b → (o : Option (List ℕ)) → each (readDecimal 255) (split "." (take (length e - 1) e)) ≡ o → Same (leadingFields e) (fieldsNet e)
+        by : (b : Bool) → lastAmong "." e ≡ b → (o : Option (List ℕ)) → each (readDecimal 255) (split "." (take (length e - 1) e)) ≡ o
+            → Same (leadingFields e) (fieldsNet e)
         by false h o r = rw (leadingFields-none e h, h) (refl, refl)
         by true h none r = rw (h, r) (refl, refl)
         by true h (some fs) r = rw (h, r) (within (leb (length fs) 3) refl)
           where
-            within : (b : Bool) → leb (length fs) 3 ≡ b → Same (given b (λ a. startsWith fs (toDigits 256 4 a))) (given b (leadingNet (length fs) (fromDigits 256 0 fs)))
-            within true l = (refl, like .leading fs (each-below (split "." (take (length e - 1) e)) fs r) (dottedFields-pos e fs (rw h r)) (leb-true (length fs) 3 l))
+            within : (b : Bool) → leb (length fs) 3 ≡ b
+                → Same (given b (λ a. startsWith fs (toDigits 256 4 a))) (given b (leadingNet (length fs) (fromDigits 256 0 fs)))
+            within true l =
+                (refl, like .leading fs (each-below (split "." (take (length e - 1) e)) fs r) (dottedFields-pos e fs (rw h r)) (leb-true (length fs) 3 l))
             within false l = (refl, refl)
 
     maskNet-same : Same (netMask e) (maskNet e)

@@ -53,7 +53,8 @@ dotted-more v d b r s true ih = by (eqb b 46) refl (split-cons s)
     by : (p : Bool) → eqb b 46 ≡ p → (w : List ℕ) × (ws : List (List ℕ)) × (split "." s ≡ w ∷ ws) → runDotted v d (b ∷ r) ≡ eachFrom v d (split "." (b ∷ s))
     by true e q = simp e (dot-after v d (runDotted 0 false r) (each (readDecimal 255) (split "." s)) (ih 0 false ∙ each-split s) d)
     by false e q =
-        let g : runDotted (fieldMore v b) true r ≡ eachFrom (fieldMore v b) true (q .0 ∷ q .1) = ih (fieldMore v b) true ∙ ap (eachFrom (fieldMore v b) true) (q .2) in
+        let g : runDotted (fieldMore v b) true r ≡ eachFrom (fieldMore v b) true (q .0 ∷ q .1) =
+        ih (fieldMore v b) true ∙ ap (eachFrom (fieldMore v b) true) (q .2) in
         simp (e, q .2) (digit-after (fieldMore v b) true (runDotted (fieldMore v b) true r) (q .0) (q .1) g (fieldFits v d b))
 dotted-more v d b r s false ih = by (eqb b 46) refl
   where
@@ -143,10 +144,13 @@ follows-leading = record {
 leading-start : (t : List ℕ) → fieldsNet t ≡ leadingFrom 0 0 0 false t
 unfolding fieldsNet dottedFields runDotted
 leading-start [] = refl
-leading-start (b ∷ t) = by (dottedFields (b ∷ t)) refl ∙ ap (λ (o : Option (List ℕ)). o >>= λ fs. leadingGiven (0 + length fs) (fromDigits 256 0 fs)) (dotted-run (b ∷ t) (λ z. omega arith))
+leading-start (b ∷ t) =
+    by (dottedFields (b ∷ t)) refl
+    ∙ ap (λ (o : Option (List ℕ)). o >>= λ fs. leadingGiven (0 + length fs) (fromDigits 256 0 fs)) (dotted-run (b ∷ t) (λ z. omega arith))
   where
     by : (o : Option (List ℕ)) → dottedFields (b ∷ t) ≡ o
-        → (o >>= λ fs. given (leb (length fs) 3) (leadingNet (length fs) (fromDigits 256 0 fs))) ≡ (o >>= λ fs. leadingGiven (0 + length fs) (fromDigits 256 0 fs))
+        → (o >>= λ fs. given (leb (length fs) 3) (leadingNet (length fs) (fromDigits 256 0 fs)))
+        ≡ (o >>= λ fs. leadingGiven (0 + length fs) (fromDigits 256 0 fs))
     by none e = refl
     by (some fs) e =
         let p : 0 < length fs = dottedFields-pos (b ∷ t) fs e in
@@ -186,7 +190,8 @@ follows-mask : Follows maskFrom none
 unfolding maskFrom maskOf
 follows-mask = record {
   fails = λ n k v d b t q. mask-more n k v d b t (no-slash n k v d b (λ z. unlike q z)) ∙ none-of n k v d b q (splitOnce (bytes "/") t);
-  goes = λ n k v d b t m l u x q. mask-more n k v d b t (no-slash n k v d b (λ z. unlike-go m l u x q z)) ∙ same-of n k v d b m l u x q (splitOnce (bytes "/") t);
+  goes = λ n k v d b t m l u x q.
+      mask-more n k v d b t (no-slash n k v d b (λ z. unlike-go m l u x q z)) ∙ same-of n k v d b m l u x q (splitOnce (bytes "/") t);
 }
   where
     unlike : {s : Step} → s ≡ S.Nothing → s ≡ S.Stop → ⊥
@@ -199,7 +204,8 @@ follows-mask = record {
     none-of n k v d b q none = refl
     none-of n k v d b q (some p) = rw (follows-address .fails n k v d b (p .0) q)
 
-    same-of : (n k v : ℕ) (d : Bool) (b m l u : ℕ) (x : Bool) → stepOf n k v d b ≡ S.Go m l u x → (o : Option (List ℕ × List ℕ)) → maskOf n k v d (consFirst b o) ≡ maskOf m l u x o
+    same-of : (n k v : ℕ) (d : Bool) (b m l u : ℕ) (x : Bool) → stepOf n k v d b ≡ S.Go m l u x → (o : Option (List ℕ × List ℕ))
+        → maskOf n k v d (consFirst b o) ≡ maskOf m l u x o
     same-of n k v d b m l u x q none = refl
     same-of n k v d b m l u x q (some p) = ap (λ (a : Option ℕ). maskAfter a (p .1)) (follows-address .goes n k v d b (p .0) m l u x q)
 
@@ -234,7 +240,8 @@ dotted-start : (e : List ℕ) → dottedNet e ≡ netOf (addressFrom 0 0 0 false
 unfolding dottedNet maskNet maskFrom
 dotted-start e = rw (address-start e, leading-start e) (ap (netOf (addressFrom 0 0 0 false e) (leadingFrom 0 0 0 false e)) (by (splitOnce (bytes "/") e)))
   where
-    by : (o : Option (List ℕ × List ℕ)) → (o >>= λ p. readV4 (p .0) >>= λ n. readV4 (p .1) >>= λ m. some (n, m)) ≡ (o >>= λ p. maskAfter (addressFrom 0 0 0 false (p .0)) (p .1))
+    by : (o : Option (List ℕ × List ℕ)) → (o >>= λ p. readV4 (p .0) >>= λ n. readV4 (p .1) >>= λ m. some (n, m))
+        ≡ (o >>= λ p. maskAfter (addressFrom 0 0 0 false (p .0)) (p .1))
     by none = refl
     by (some p) = ap (λ (a : Option ℕ). maskAfter a (p .1)) (address-start (p .0))
 
@@ -278,8 +285,10 @@ module _ (e : List ℕ) (r : Run) (is-r : r ≡ runFrom 0 0 0 0 false e) where
 
     dotted-at : dottedNet e ≡ netOf (addressFrom n k v d (drop i e)) (leadingFrom n k v d (drop i e)) (maskFrom n k v d (drop i e))
     dotted-at =
-        dotted-start e
-        ∙ rw (run-at addressFrom none follows-address e r is-r i n k v d q .0, run-at leadingFrom none follows-leading e r is-r i n k v d q .0, run-at maskFrom none follows-mask e r is-r i n k v d q .0)
+        let a : addressFrom 0 0 0 false e ≡ addressFrom n k v d (drop i e) = run-at addressFrom none follows-address e r is-r i n k v d q .0 in
+        let l : leadingFrom 0 0 0 false e ≡ leadingFrom n k v d (drop i e) = run-at leadingFrom none follows-leading e r is-r i n k v d q .0 in
+        let m : maskFrom 0 0 0 false e ≡ maskFrom n k v d (drop i e) = run-at maskFrom none follows-mask e r is-r i n k v d q .0 in
+        dotted-start e ∙ rw (a, l, m)
 
     pub dotted-ended : length e ≤ i → (x : NetRead) → x ≡ asNet (endedNet n k v d) → x ≡ asNet (dottedNet e)
     dotted-ended h x p =
@@ -290,8 +299,9 @@ module _ (e : List ℕ) (r : Run) (is-r : r ≡ runFrom 0 0 0 0 false e) where
       -- the byte that the pass stopped at, and what follows it
       dotted-stop : dottedNet e ≡ maskFrom n k v d (getD e i 0 ∷ drop (suc i) e)
       dotted-stop =
-          dotted-at
-          ∙ rw (drop-cons e i 0 h, address-stops n k v d (getD e i 0) (drop (suc i) e) (state .stops h), leading-stops n k v d (getD e i 0) (drop (suc i) e) (state .stops h))
+          let a = address-stops n k v d (getD e i 0) (drop (suc i) e) (state .stops h) in
+          let l = leading-stops n k v d (getD e i 0) (drop (suc i) e) (state .stops h) in
+          dotted-at ∙ rw (drop-cons e i 0 h, a, l)
 
       pub dotted-stopped : (getD e i 0 ≡ 47 → ⊥) → N.Nothing ≡ asNet (dottedNet e)
       dotted-stopped z = sym (ap asNet (dotted-stop ∙ mask-stops n k v d (getD e i 0) (drop (suc i) e) z (state .stops h)))
@@ -300,7 +310,7 @@ module _ (e : List ℕ) (r : Run) (is-r : r ≡ runFrom 0 0 0 0 false e) where
           → y ≡ asNumber (readV4 (take (length e - (i + 1)) (drop (i + 1) e))) → (p : NetRead) → p ≡ pairNet x y → p ≡ asNet (dottedNet e)
       dotted-slash z x y is-x is-y p is-p =
           let m : dottedNet e ≡ maskAfter (endedAddress n k v d) (drop (suc i) e) =
-              dotted-stop ∙ ap (λ (b : ℕ). maskFrom n k v d (b ∷ drop (suc i) e)) z ∙ mask-slash n k v d (drop (suc i) e) in
+          dotted-stop ∙ ap (λ (b : ℕ). maskFrom n k v d (b ∷ drop (suc i) e)) z ∙ mask-slash n k v d (drop (suc i) e) in
           is-p ∙ ap₂ pairNet is-x (is-y ∙ ap (λ (t : List ℕ). asNumber (readV4 t)) (take-rest e (i + 1)))
           ∙ pairNet-read (endedAddress n k v d) (readV4 (drop (i + 1) e))
           ∙ ap (λ (t : List ℕ). asNet (maskAfter (endedAddress n k v d) t)) (ap (λ (j : ℕ). drop j e) (add-one i))
@@ -308,8 +318,10 @@ module _ (e : List ℕ) (r : Run) (is-r : r ≡ runFrom 0 0 0 0 false e) where
 
 -- ## A net without a slash
 
-pub ended-address : (n k v : ℕ) (d : Bool) → d ≡ true → (x : NumberRead) → x ≡ asNumber (endedAddress n k v d) → (p : NetRead) → p ≡ pairNet x (T.Value 4294967295) → p ≡ asNet (endedNet n k v d)
-ended-address n k v true z x is-x p is-p = is-p ∙ ap (λ (y : NumberRead). pairNet y (T.Value 4294967295)) is-x ∙ pairNet-read (endedAddress n k v true) (some 4294967295)
+pub ended-address : (n k v : ℕ) (d : Bool) → d ≡ true → (x : NumberRead) → x ≡ asNumber (endedAddress n k v d) → (p : NetRead)
+    → p ≡ pairNet x (T.Value 4294967295) → p ≡ asNet (endedNet n k v d)
+ended-address n k v true z x is-x p is-p =
+    is-p ∙ ap (λ (y : NumberRead). pairNet y (T.Value 4294967295)) is-x ∙ pairNet-read (endedAddress n k v true) (some 4294967295)
 ended-address n k v false z x is-x p is-p = absurd (true≢false (sym z))
 
 pub ended-none : (n k v : ℕ) (d : Bool) → d ≡ false → k ≡ 0 → N.Nothing ≡ asNet (endedNet n k v d)

@@ -51,7 +51,8 @@ module _ (e : List ℕ) (look : Bool) (host : Host) (name : List ℕ) (x : Bool)
 
   pub domain-unknown : (look && x) ≡ false → false ≡ (look && matchesPattern (domainPattern e) (endpoint host name))
   domain-unknown t =
-      unknown t (matchesPattern (domainPattern e) (endpoint host name)) (domainCovers e name) (domainPattern-matches e host name x is-x (domainCovers e name) refl)
+      unknown t (matchesPattern (domainPattern e) (endpoint host name)) (domainCovers e name)
+      (domainPattern-matches e host name x is-x (domainCovers e name) refl)
 
   pub plain-known : (look && x) ≡ true → (y : Bool) → y ≡ plainCovers e name → y ≡ (look && matchesPattern (namePattern e) (endpoint host name))
   plain-known t y is-y = known t (matchesPattern (namePattern e) (endpoint host name)) y (namePattern-matches e host name x is-x y is-y)
@@ -132,10 +133,12 @@ module _ (e : List ℕ) (f : Form) (is-f : f ≡ formOf e) (look : Bool) (host :
   at : (v : Form) → f ≡ v → (x : HostSeen) → x ≡ patternSeen look (formPattern v e) (endpoint host name) → Seen x
   at v q x is-x = rw (← is-f, q) is-x
 
-  pub seen-domain : f ≡ F.Domain → (s m : Bool) → s ≡ isSome (domainPattern e) → m ≡ (look && matchesPattern (domainPattern e) (endpoint host name)) → Seen (hostSeen s m)
+  pub seen-domain : f ≡ F.Domain → (s m : Bool) → s ≡ isSome (domainPattern e) → m ≡ (look && matchesPattern (domainPattern e) (endpoint host name))
+      → Seen (hostSeen s m)
   seen-domain q s m is-s is-m = at F.Domain q (hostSeen s m) (seen-by look (domainPattern e) (endpoint host name) s m is-s is-m)
 
-  pub seen-plain : f ≡ F.Plain → (s m : Bool) → s ≡ isSome (namePattern e) → m ≡ (look && matchesPattern (namePattern e) (endpoint host name)) → Seen (hostSeen s m)
+  pub seen-plain : f ≡ F.Plain → (s m : Bool) → s ≡ isSome (namePattern e) → m ≡ (look && matchesPattern (namePattern e) (endpoint host name))
+      → Seen (hostSeen s m)
   seen-plain q s m is-s is-m = at F.Plain q (hostSeen s m) (seen-by look (namePattern e) (endpoint host name) s m is-s is-m)
 
   pub seen-bracket : f ≡ F.Bracket → (x : HostSeen) → x ≡ hostSeen (isSome (bracketPattern e)) (look && bracketCovers e host) → Seen x
@@ -157,7 +160,8 @@ module _ (e : List ℕ) (w : Wildcard) (is-w : w ≡ wildcardOf e) (look : Bool)
   found : (v : Wildcard) → w ≡ v → (x : HostSeen) → x ≡ patternSeen look (wildcardPattern v orElse formPattern (formOf e) e) (endpoint host name) → Found x
   found v q x is-x = rw (hostPattern-at e w v is-w q) is-x
 
-  wildcard-seen : (v : Wildcard) (f : Endpoint → Bool) → wildcardPattern v ≡ some f → w ≡ v → (x : Bool) → x ≡ f (endpoint host name) → Found (hostSeen true (look && x))
+  wildcard-seen : (v : Wildcard) (f : Endpoint → Bool) → wildcardPattern v ≡ some f → w ≡ v → (x : Bool) → x ≡ f (endpoint host name)
+      → Found (hostSeen true (look && x))
   unfolding patternSeen
   wildcard-seen v f p q x is-x = found v q (hostSeen true (look && x)) (rw (p, is-x))
 
@@ -173,7 +177,8 @@ module _ (e : List ℕ) (w : Wildcard) (is-w : w ≡ wildcardOf e) (look : Bool)
   pub seen-known : w ≡ W.Known → (x : Bool) → x ≡ (nameKnown (endpoint host []) && addrKnown (endpoint host [])) → Found (hostSeen true (look && x))
   seen-known q x is-x = wildcard-seen W.Known (λ h. nameKnown h && addrKnown h) refl q x is-x
 
-  pub seen-unknown : w ≡ W.Unknown → (x : Bool) → x ≡ (nameCase (endpoint host []) true false false || not (addrKnown (endpoint host []))) → Found (hostSeen true (look && x))
+  pub seen-unknown : w ≡ W.Unknown → (x : Bool) → x ≡ (nameCase (endpoint host []) true false false || not (addrKnown (endpoint host [])))
+      → Found (hostSeen true (look && x))
   seen-unknown q x is-x = wildcard-seen W.Unknown (λ h. nameCase h true false false || not (addrKnown h)) refl q x is-x
 
   pub seen-paranoid : w ≡ W.Paranoid → (x : Bool) → x ≡ nameCase (endpoint host []) false true false → Found (hostSeen true (look && x))

@@ -124,11 +124,7 @@ fn read_form(e: &[u8], dotted: bool) -> Form
     if b == 91 {
         return Form::Bracket;
     }
-    if dotted {
-        Form::Dotted
-    } else {
-        Form::Plain
-    }
+    if dotted { Form::Dotted } else { Form::Plain }
 }
 
 // Whether a host's name is known.
@@ -365,7 +361,14 @@ pub fn host_matches(e: &[u8], host: Host, name: &[u8]) -> bool
 
 // Whether e is a host pattern and, if it is looked at, matches the host: both in one reading, where it is known whether every byte of e may
 // stand in a name, and whether every one may stand in a dotted pattern.
-pub fn host_seen(e: &[u8], names: bool, dotted: bool, look: bool, host: Host, name: &[u8]) -> HostSeen
+pub fn host_seen(
+    e: &[u8],
+    names: bool,
+    dotted: bool,
+    look: bool,
+    host: Host,
+    name: &[u8],
+) -> HostSeen
     requires { ⌜ names ≡ all isNameByte (now e) ⌝ }
     requires { ⌜ dotted ≡ all isDottedByte (now e) ⌝ }
     ensures { λ r. ⌜ r ≡ patternSeen look (hostPattern (now (e .entry))) (endpoint host (now (name .entry))) ⌝ }
