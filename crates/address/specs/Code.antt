@@ -2,7 +2,7 @@
 -- of document 01: the calls are stated over Address alone.
 --   bitAt w i a       == the bit of a, a number of w bits, at place i from the most significant
 --   sameBits w n a b  == the first n bits of a and b are equal, compared one by one; samePrefix is proved equal to it
---   firstField t      == what the code finds at the front of a dotted text, and firstGroup t of one with colons
+--   firstGroup t      == what the code finds at the front of a text with colons
 --   numberOf w        == the number of two words, and wordsOf n the words of a number
 --   hexValue b        == the value of a hex digit, 16 where b is none
 --   groupValue t      == the number of a group
@@ -20,8 +20,6 @@ use Rattle.text.specs.Text.{startsWith, inRange, charRange, isDigit, split}
 use Rattle.text.specs.Number.{fromDigits, toDigits, digitValue, readDecimal}
 use Rattle.text.specs.Scan.{indexOf}
 use Rattle.address.specs.Address.{readV4, readGroup, readLastGroup}
-use Rattle.address.specs.declared.read.Field.{Field}
-use Rattle.address.specs.declared.read.Field.the-variants as F
 use Rattle.address.specs.declared.read.Group.{Group}
 use Rattle.address.specs.declared.read.Group.the-variants as G
 use Rattle.address.specs.declared.read.GroupsRead.{GroupsRead}
@@ -40,14 +38,6 @@ sameBits w zero a b = true
 sameBits w (suc n) a b = sameBits w n a b && eqb (bitAt w n a) (bitAt w n b)
 
 -- ## Reading
-
--- a field that ends at i, before the end or at it
-abbrev pub fieldAt : ℕ → Bool → Option ℕ → Field
-fieldAt i more none = F.Nothing
-fieldAt i more (some n) = if more then F.More n (i + 1) else F.Last n
-
-unfoldable pub firstField : List ℕ → Field
-firstField t = fieldAt (indexOf 46 t) (ltb (indexOf 46 t) (length t)) (readDecimal 255 (take (indexOf 46 t) t))
 
 abbrev pub numberOf : Words → ℕ
 numberOf w = w .high * 2 ^ 64 + w .low

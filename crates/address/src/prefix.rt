@@ -1,5 +1,5 @@
-// Masks and prefixes: whole words compared, and only the last one under a mask.
-//   same_prefix_v6(a_high, a_low, b_high, b_low, n) == the first n bits of two IPv6 addresses are equal
+// Masks and prefixes: whole words compared, and only the last one under a mask; words of 32 bits for IPv4, of 64 for IPv6.
+//   same_prefix_v4(a, b, n), same_prefix_v6(a_high, a_low, b_high, b_low, n) == the first n bits of two addresses are equal
 //   in_net(net, mask, addr)                         == net is the bitwise AND of the address and the mask
 //   clear_beyond_v4(n, len), clear_beyond_v6(..)    == no bit beyond the first len is set
 ghost use mathlib.Core.Path.{_≡_};
@@ -50,6 +50,26 @@ pub fn same_prefix_v6(a_high: u64, a_low: u64, b_high: u64, b_low: u64, n: u32) 
     same_word(a_low, b_low, n - 64)
 }
 
+// The word of 32 bits whose bits beyond the first n are ones.
+fn mask_beyond_v4(n: u32) -> u32
+    requires { ⌜ n ≤ 32 ⌝ }
+    ensures { λ r. ⌜ r ≡ 2 ^ (32 - n) - 1 ⌝ }
+{
+    if n == 32 {
+        return 0;
+    }
+    4294967295 >> n
+}
+
+// Whether two IPv4 addresses agree in their first n bits.
+pub fn same_prefix_v4(a: u32, b: u32, n: u32) -> bool
+    requires { ⌜ n ≤ 32 ⌝ }
+    ensures { λ r. ⌜ r ≡ samePrefix 32 n a b ⌝ }
+{
+    let m = !mask_beyond_v4(n);
+    (a & m) == (b & m)
+}
+
 // Whether net is the bitwise AND of an IPv4 address and the mask. The net itself is never masked.
 pub fn in_net(net: u32, mask: u32, addr: u32) -> bool
     ensures { λ r. ⌜ r ≡ eqb net (bitAnd addr mask) ⌝ }
@@ -62,7 +82,7 @@ pub fn clear_beyond_v4(n: u32, len: u32) -> bool
     requires { ⌜ len ≤ 32 ⌝ }
     ensures { λ r. ⌜ r ≡ eqb (n % 2 ^ (32 - len)) 0 ⌝ }
 {
-    clear_word(n as u64, len + 32)
+    (n & mask_beyond_v4(len)) == 0
 }
 
 // Whether no bit of an IPv6 address beyond the first len is set.

@@ -1,8 +1,11 @@
-// Reading addresses: the text's parts are found by its dots and colons, and each is read once.
+// Reading addresses: IPv4 text in one pass over its fields; the groups of IPv6 text are found by its colons, and each is read once.
 //   read_v4(s)      == the number of the IPv4 address that s writes
 //   read_v6(s)      == the two words of the IPv6 address that s writes
 //   read_address(s) == the address that s writes, of either kind, or the refusal
 use crate::Addr;
+use crate::fields::Run;
+use crate::fields::ended_address;
+use crate::fields::run_over;
 use section::Fault;
 use section::Refusal;
 use text::NumberRead;
@@ -14,7 +17,8 @@ ghost use Rattle.text.specs.Basics.{given};
 ghost use Rattle.text.specs.Text.{bytes};
 ghost use Rattle.text.specs.Scan.{asNumber};
 ghost use Rattle.address.specs.Address.{readV4, readV6, readGroups, readCompressed, readAddress, asRead};
-ghost use Rattle.address.specs.Code.{firstField, numberOf, wordsOf, hexValue, groupValue, firstGroup, groupsFrom, readsLast, readTail, sideParts, placeOf, ofGroups, asV6};
+ghost use Rattle.address.specs.Code.{numberOf, wordsOf, hexValue, groupValue, firstGroup, groupsFrom, readsLast, readTail};
+ghost use Rattle.address.specs.Code.{sideParts, placeOf, ofGroups, asV6};
 
 // An IPv6 address that was read, by its two words, or none.
 pub enum V6Read {
@@ -26,13 +30,6 @@ pub enum V6Read {
 pub enum AddressRead {
     Refused(Refusal),
     Address(Addr),
-}
-
-// The field at the front of a dotted text: none, the last one, or one with the place after its dot.
-enum Field {
-    Nothing,
-    Last(u32),
-    More(u32, usize),
 }
 
 // The group at the front of a text with colons: one that is none, the last one, or one with the place after its colon.
@@ -54,51 +51,20 @@ enum GroupsRead {
     Groups(u32, Words),
 }
 
-// The field at the front of s.
-fn first_field(s: &[u8]) -> Field
-    ensures { λ r. ⌜ r ≡ firstField (now (s .entry)) ⌝ }
-{
-    let i = text::index_of(s, 46);
-    let v = text::read_decimal(&s[..i], 255);
-    match v {
-        NumberRead::Nothing => Field::Nothing,
-        NumberRead::Value(n) => {
-            if i < s.len() {
-                Field::More(n, i + 1)
-            } else {
-                Field::Last(n)
-            }
-        }
-    }
-}
-
 // The number of the IPv4 address that s writes: four fields, parted by dots.
 pub fn read_v4(s: &[u8]) -> NumberRead
     ensures { λ r. ⌜ r ≡ asNumber (readV4 (now (s .entry))) ⌝ }
 {
-    let mut at = 0;
-    let mut n: u32 = 0;
-    let mut count: u32 = 0;
-    while count < 4 {
-        let f = first_field(&s[at..]);
-        match f {
-            Field::Nothing => {
+    let run = run_over(s, 0);
+    match run {
+        Run::Failed => NumberRead::Nothing,
+        Run::At(j, n, k, v, begun) => {
+            if j < s.len() {
                 return NumberRead::Nothing;
             }
-            Field::Last(v) => {
-                if count == 3 {
-                    return NumberRead::Value(n * 256 + v);
-                }
-                return NumberRead::Nothing;
-            }
-            Field::More(v, next) => {
-                n = n * 256 + v;
-                at += next;
-                count += 1;
-            }
+            ended_address(n, k, v, begun)
         }
     }
-    NumberRead::Nothing
 }
 
 // The value of a hex digit, 16 where b is none.

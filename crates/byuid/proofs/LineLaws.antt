@@ -9,16 +9,19 @@ use native.Mathlib.Omega.{arith}
 use lib.ListN.{length, take, drop}
 use Rattle.text.specs.Basics.{_>>=_, _orElse_, holds}
 use Rattle.text.specs.Text.{bytes, splitOnce}
-use Rattle.text.specs.Scan.{indexOf}
+use Rattle.text.specs.Scan.{indexOf, asNumber}
+use Rattle.text.specs.declared.NumberRead.{NumberRead}
+use Rattle.text.specs.declared.NumberRead.the-variants as N
 use Rattle.text.proofs.ScanLaws.{take-rest, splitOnce-mark, splitOnce-no-mark}
 use Rattle.address.specs.Address.{readV4, readV6}
+use Rattle.address.proofs.ReadLaws.{asNumber-none, asNumber-some}
 use Rattle.address.specs.Code.{asV6}
 use Rattle.address.specs.declared.Addr.{Addr}
 use Rattle.address.specs.declared.Addr.the-variants as A
 use Rattle.address.specs.declared.read.V6Read.{V6Read}
 use Rattle.address.specs.declared.read.V6Read.the-variants as W
 use Rattle.byuid.specs.Byuid.{Range, readRange, readNet, readPort, readCommaForm, readColonForm, lineGrants}
-use Rattle.byuid.specs.Code.{readerOf, bitsOf, inside, insideBoth, heldBy, isHeld, bothOf, betweenOf, endsOf, netFrom, portsOf}
+use Rattle.byuid.specs.Code.{readerOf, inside, insideBoth, heldBy, isHeld, bothOf, betweenOf, endsOf, netFrom, portsOf}
 use Rattle.byuid.specs.declared.line.Kind.the-variants as K
 use Rattle.byuid.specs.declared.line.Held.{Held}
 use Rattle.byuid.specs.declared.line.Held.the-variants as H
@@ -89,6 +92,40 @@ module _ (w : ℕ) (f : List ℕ → Option ℕ) (s : List ℕ) (i : ℕ) (is-i 
     unfolding readNet netFrom
     net-mark a b e r q = q ∙ rw (take-rest s (i + 1), splitOnce-mark 47 s i is-i h, asV6-some (f (take i s)) a b (sym is-v ∙ e))
 
+  -- the same where the address was read as one word
+  module _ (h : i < length s) (v : NumberRead) (is-v : v ≡ asNumber (f (take i s))) where
+    pub word-nothing : v ≡ N.Nothing → H.Nothing ≡ heldBy (inside n) (readNet w f s)
+    unfolding readNet heldBy
+    word-nothing e = rw (splitOnce-mark 47 s i is-i h, asNumber-none (f (take i s)) (sym is-v ∙ e))
+
+    pub word-mark : (a : ℕ) → v ≡ N.Value a → (r : Held) → r ≡ heldBy (inside n) (netFrom w a (rest s i)) → r ≡ heldBy (inside n) (readNet w f s)
+    unfolding readNet netFrom
+    word-mark a e r q = q ∙ rw (take-rest s (i + 1), splitOnce-mark 47 s i is-i h, asNumber-some (f (take i s)) a (sym is-v ∙ e))
+
+-- a net is read where no range was
+module _ (s : List ℕ) (a : ℕ) (h : Held) (is-h : h ≡ heldBy (inside (0 * 2 ^ 64 + a)) (readRange (readerOf K.V4) s)) where
+  range-v4 : h ≡ heldBy (inside a) (readRange readV4 s)
+  unfolding readerOf
+  range-v4 = rw (one-word a) at is-h
+
+  pub net-v4 : h ≡ H.Nothing → (r : Held) → r ≡ heldBy (inside a) (readNet 32 readV4 s) → r ≡ heldBy (inside a) (readRange readV4 s orElse readNet 32 readV4 s)
+  net-v4 = or-nothing (inside a) (readRange readV4 s) (readNet 32 readV4 s) h range-v4
+
+  pub range-v4-is : (b : Bool) → h ≡ H.Is b → h ≡ heldBy (inside a) (readRange readV4 s orElse readNet 32 readV4 s)
+  range-v4-is = or-is (inside a) (readRange readV4 s) (readNet 32 readV4 s) h range-v4
+
+module _ (s : List ℕ) (a : ℕ) (h : Held) (is-h : h ≡ heldBy (inside a) (readRange (readerOf K.V6) s)) where
+  range-v6 : h ≡ heldBy (inside a) (readRange readV6 s)
+  unfolding readerOf
+  range-v6 = is-h
+
+  pub net-v6 : h ≡ H.Nothing → (r : Held) → r ≡ heldBy (inside a) (readNet 128 readV6 s)
+      → r ≡ heldBy (inside a) (readRange readV6 s orElse readNet 128 readV6 s)
+  net-v6 = or-nothing (inside a) (readRange readV6 s) (readNet 128 readV6 s) h range-v6
+
+  pub range-v6-is : (b : Bool) → h ≡ H.Is b → h ≡ heldBy (inside a) (readRange readV6 s orElse readNet 128 readV6 s)
+  range-v6-is = or-is (inside a) (readRange readV6 s) (readNet 128 readV6 s) h range-v6
+
 -- ## Forms
 
 module _ (w : ℕ) (f : List ℕ → Option ℕ) (l : List ℕ) (i : ℕ) (is-i : i ≡ indexOf 44 l) (a p : ℕ) where
@@ -134,26 +171,22 @@ module _ (l : List ℕ) (i : ℕ) (is-i : i ≡ indexOf 58 l) (a p : ℕ) where
   unfolding readColonForm heldBy
   colon-no-mark h = rw (splitOnce-no-mark 58 l i is-i h)
 
-  pub colon-mark : i < length l → (x y r : Held) → x ≡ heldBy (inside (0 * 2 ^ 64 + a)) (readNet (bitsOf K.V4) (readerOf K.V4) (take i l))
+  pub colon-mark : i < length l → (x y r : Held) → x ≡ heldBy (inside a) (readNet 32 readV4 (take i l))
       → y ≡ heldBy (inside p) (portsOf (rest l i)) → r ≡ bothOf x y → r ≡ heldBy (insideBoth a p) (readColonForm l)
-  unfolding readColonForm readerOf bitsOf
+  unfolding readColonForm
   colon-mark h x y r is-x is-y e =
-      e ∙ rw (is-x, is-y, one-word a, take-rest l (i + 1), splitOnce-mark 58 l i is-i h)
+      e ∙ rw (is-x, is-y, take-rest l (i + 1), splitOnce-mark 58 l i is-i h)
       (both-held a p (readNet 32 readV4 (take i l)) (portsOf (drop (i + 1) l)) ∙ ap (heldBy (insideBoth a p)) (ports-after (readNet 32 readV4 (take i l)) (drop (i + 1) l)))
 
 -- ## Lines
 
 -- at an IPv4 address
-module _ (l : List ℕ) (a p : ℕ) (h : Held) (is-h : h ≡ heldBy (insideBoth (0 * 2 ^ 64 + a) p) (readCommaForm (bitsOf K.V4) (readerOf K.V4) l)) where
-  comma-v4 : h ≡ heldBy (insideBoth a p) (readCommaForm 32 readV4 l)
-  unfolding readerOf bitsOf
-  comma-v4 = rw (one-word a) at is-h
-
+module _ (l : List ℕ) (a p : ℕ) (h : Held) (is-h : h ≡ heldBy (insideBoth a p) (readCommaForm 32 readV4 l)) where
   pub v4-colon : h ≡ H.Nothing → (r : Held) → r ≡ heldBy (insideBoth a p) (readColonForm l) → r ≡ heldBy (insideBoth a p) (readCommaForm 32 readV4 l orElse readColonForm l)
-  v4-colon = or-nothing (insideBoth a p) (readCommaForm 32 readV4 l) (readColonForm l) h comma-v4
+  v4-colon = or-nothing (insideBoth a p) (readCommaForm 32 readV4 l) (readColonForm l) h is-h
 
   pub v4-comma : (b : Bool) → h ≡ H.Is b → h ≡ heldBy (insideBoth a p) (readCommaForm 32 readV4 l orElse readColonForm l)
-  v4-comma = or-is (insideBoth a p) (readCommaForm 32 readV4 l) (readColonForm l) h comma-v4
+  v4-comma = or-is (insideBoth a p) (readCommaForm 32 readV4 l) (readColonForm l) h is-h
 
 isHeld-heldBy : {A : Type 0} (p : A → Bool) (o : Option A) → isHeld (heldBy p o) ≡ holds p o
 unfolding heldBy
@@ -170,8 +203,8 @@ module _ (addr : Addr) (p : ℕ) (l : List ℕ) where
     unfolding lineGrants insideBoth inside
     grants-v4 n e f = is-r ∙ ap isHeld f ∙ isHeld-heldBy (insideBoth n p) (readCommaForm 32 readV4 l orElse readColonForm l) ∙ rw e
 
-    pub grants-v6 : (a b : ℕ) → addr ≡ A.V6 a b → h ≡ heldBy (insideBoth (a * 2 ^ 64 + b) p) (readCommaForm (bitsOf K.V6) (readerOf K.V6) l) → r ≡ lineGrants addr p l
-    unfolding lineGrants insideBoth inside readerOf bitsOf
+    pub grants-v6 : (a b : ℕ) → addr ≡ A.V6 a b → h ≡ heldBy (insideBoth (a * 2 ^ 64 + b) p) (readCommaForm 128 readV6 l) → r ≡ lineGrants addr p l
+    unfolding lineGrants insideBoth inside
     grants-v6 a b e f = is-r ∙ ap isHeld f ∙ isHeld-heldBy (insideBoth (a * 2 ^ 64 + b) p) (readCommaForm 128 readV6 l) ∙ rw e
 
 -- a line of no bytes

@@ -22,7 +22,7 @@ use Rattle.address.specs.declared.read.V6Read.{V6Read}
 use Rattle.address.specs.declared.read.V6Read.the-variants as W
 use Rattle.address.proofs.ReadLaws.{readDecimal-le, asNumber-none, asNumber-some}
 use Rattle.byuid.specs.Byuid.{Range}
-use Rattle.byuid.specs.Code.{readerOf, bitsOf, wideOf, inside, heldBy, betweenOf, endsOf, netFrom}
+use Rattle.byuid.specs.Code.{readerOf, wideOf, inside, heldBy, betweenOf, endsOf, netFrom}
 use Rattle.byuid.specs.declared.line.Kind.{Kind}
 use Rattle.byuid.specs.declared.line.Kind.the-variants as K
 use Rattle.byuid.specs.declared.line.Held.{Held}
@@ -144,44 +144,25 @@ module _ (k n a : ℕ) (clear : n % 2 ^ k ≡ 0) where
           let h : a / size < n / size = leb-false (n / size) (a / size) p in
           rw (ne-eqb (n / size) (a / size) (λ e. omega arith), lt-leb n a (omega (arith, first, split-at .1, next (a / size) (n / size) h)))
 
-module _ (k : Kind) (width : ℕ) (is-width : width ≡ bitsOf k) where
-  pub width-le : width ≤ 128
-  unfolding bitsOf
-  width-le = by k is-width
-    where
-      by : (k : Kind) → width ≡ bitsOf k → width ≤ 128
-      by K.Port e = omega arith
-      by K.V4 e = omega arith
-      by K.V6 e = omega arith
+-- the net of n, of w bits, with its length in t
+module _ (w n a : ℕ) (t : List ℕ) (v : NumberRead) (is-v : v ≡ asNumber (readDecimal w t)) where
+  pub len-nothing : v ≡ N.Nothing → H.Nothing ≡ heldBy (inside a) (netFrom w n t)
+  unfolding netFrom heldBy
+  len-nothing e = rw (asNumber-none (readDecimal w t) (sym is-v ∙ e))
 
-  module _ (n a : ℕ) (t : List ℕ) (v : NumberRead) (is-v : v ≡ asNumber (readDecimal width t)) where
-    pub len-nothing : v ≡ N.Nothing → H.Nothing ≡ heldBy (inside a) (netFrom (bitsOf k) n t)
-    unfolding netFrom heldBy
-    len-nothing e = rw (← is-width, asNumber-none (readDecimal width t) (sym is-v ∙ e))
+  module _ (m : ℕ) (e : v ≡ N.Value m) where
+    is-read : readDecimal w t ≡ some m
+    is-read = asNumber-some (readDecimal w t) m (sym is-v ∙ e)
 
-    module _ (m : ℕ) (e : v ≡ N.Value m) where
-      is-read : readDecimal width t ≡ some m
-      is-read = asNumber-some (readDecimal width t) m (sym is-v ∙ e)
+    pub len-le : m ≤ w
+    len-le = readDecimal-le w m t is-read
 
-      pub len-le : m + (128 - width) ≤ 128
-      len-le = omega (arith, width-le, readDecimal-le width m t is-read)
+    module _ (x : Bool) (is-x : x ≡ eqb (n % 2 ^ (w - m)) 0) where
+      pub len-set : x ≡ false → H.Nothing ≡ heldBy (inside a) (netFrom w n t)
+      unfolding netFrom heldBy
+      len-set f = rw (is-read, ← is-x, f)
 
-      pub len-fits : m + (128 - width) < 4294967296
-      len-fits = omega (arith, len-le)
-
-      beyond : 128 - (m + (128 - width)) ≡ width - m
-      beyond = omega (arith, width-le, readDecimal-le width m t is-read)
-
-      module _ (x : Bool) (is-x : x ≡ eqb (n % 2 ^ (128 - (m + (128 - width)))) 0) where
-        is-clear : x ≡ eqb (n % 2 ^ (width - m)) 0
-        is-clear = rw beyond at is-x
-
-        pub len-set : x ≡ false → H.Nothing ≡ heldBy (inside a) (netFrom (bitsOf k) n t)
-        unfolding netFrom heldBy
-        len-set f = rw (← is-width, is-read, ← is-clear, f)
-
-        pub len-clear : x ≡ true → (y : Bool) → y ≡ samePrefix 128 (m + (128 - width)) n a → H.Is y ≡ heldBy (inside a) (netFrom (bitsOf k) n t)
-        unfolding netFrom heldBy inside samePrefix
-        len-clear f y is-y =
-            rw (← is-width, is-read, ← is-clear, f)
-            (ap H.Is (is-y ∙ rw beyond (sym (inRange-prefix (width - m) n a (eqb-true (n % 2 ^ (width - m)) 0 (sym is-clear ∙ f))))))
+      pub len-clear : x ≡ true → (y : Bool) → y ≡ samePrefix w m n a → H.Is y ≡ heldBy (inside a) (netFrom w n t)
+      unfolding netFrom heldBy inside samePrefix
+      len-clear f y is-y =
+          rw (is-read, ← is-x, f) (ap H.Is (is-y ∙ sym (inRange-prefix (w - m) n a (eqb-true (n % 2 ^ (w - m)) 0 (sym is-x ∙ f)))))

@@ -1,6 +1,6 @@
 -- What the contracts inside the crate cite. Nothing here needs to be believed for the meaning of document 01: the public promise is stated
 -- over Byuid alone.
---   readerOf k, bitsOf k == what reads a number of a kind, and its bits
+--   readerOf k           == what reads a number of a kind
 --   wideOf v             == a number of at most 32 bits, as the code answers one of two words
 --   inside a g           == the range g holds a; insideBoth a p g == the two ranges of a line hold a and p
 --   heldBy p o           == whether p holds of o, as the code answers it
@@ -42,11 +42,6 @@ unfoldable pub readerOf : Kind → List ℕ → Option ℕ
 readerOf K.Port = readPort
 readerOf K.V4 = readV4
 readerOf K.V6 = readV6
-
-unfoldable pub bitsOf : Kind → ℕ
-bitsOf K.Port = 16
-bitsOf K.V4 = 32
-bitsOf K.V6 = 128
 
 abbrev pub wideOf : NumberRead → V6Read
 wideOf N.Nothing = W.Nothing

@@ -1,16 +1,22 @@
-// One line of a byuid file. A number of any kind is held as its two words, the high one first.
+// One line of a byuid file. An end of a range, of any kind, is held as its two words, the high one first; nets of IPv4 are words of 32 bits.
 //   grants(l, addr, port) == the line l grants the port at the address
 use address::Addr;
+use address::prefix::clear_beyond_v4;
+use address::prefix::clear_beyond_v6;
+use address::prefix::same_prefix_v4;
+use address::prefix::same_prefix_v6;
 use address::read::V6Read;
+use address::read::read_v4;
+use address::read::read_v6;
 use text::NumberRead;
 ghost use mathlib.Core.Path.{_≡_};
 ghost use Prim.Native.Nat.{_+_, _*_, _^_};
 ghost use lib.Dec.{leb};
 ghost use Rattle.text.specs.Basics.{_orElse_};
-ghost use Rattle.address.specs.Address.{readV4};
+ghost use Rattle.address.specs.Address.{readV4, readV6};
 ghost use Rattle.address.specs.Code.{asV6};
 ghost use Rattle.byuid.specs.Byuid.{readRange, readNet, readCommaForm, readColonForm, lineGrants};
-ghost use Rattle.byuid.specs.Code.{readerOf, bitsOf, wideOf, inside, insideBoth, heldBy, isHeld, bothOf, betweenOf, endsOf, netFrom, portsOf};
+ghost use Rattle.byuid.specs.Code.{readerOf, wideOf, inside, insideBoth, heldBy, isHeld, bothOf, betweenOf, endsOf, netFrom, portsOf};
 
 // What a number of a line stands for.
 enum Kind {
@@ -23,17 +29,6 @@ enum Kind {
 enum Held {
     Nothing,
     Is(bool),
-}
-
-// The bits of a number.
-fn bits(kind: Kind) -> u32
-    ensures { λ r. ⌜ r ≡ bitsOf kind ⌝ }
-{
-    match kind {
-        Kind::Port => 16,
-        Kind::V4 => 32,
-        Kind::V6 => 128,
-    }
 }
 
 // A number of at most 32 bits as two words.
@@ -52,8 +47,8 @@ fn read_number(s: &[u8], kind: Kind) -> V6Read
 {
     match kind {
         Kind::Port => widen(text::read_decimal(s, 65535)),
-        Kind::V4 => widen(address::read::read_v4(s)),
-        Kind::V6 => address::read::read_v6(s),
+        Kind::V4 => widen(read_v4(s)),
+        Kind::V6 => read_v6(s),
     }
 }
 
@@ -101,18 +96,16 @@ fn range_holds(s: &[u8], kind: Kind, high: u64, low: u64) -> Held
     between(n, n, high, low)
 }
 
-// Whether the net of an address, with its length in t, holds a number.
-fn len_holds(t: &[u8], kind: Kind, net_high: u64, net_low: u64, high: u64, low: u64) -> Held
-    ensures { λ r. ⌜ r ≡ heldBy (inside (high * 2 ^ 64 + low)) (netFrom (bitsOf kind) («net_high» * 2 ^ 64 + «net_low») (now (t .entry))) ⌝ }
+// Whether the net of an IPv4 address, with its length in t, holds one.
+fn len_holds_v4(t: &[u8], net: u32, addr: u32) -> Held
+    ensures { λ r. ⌜ r ≡ heldBy (inside addr) (netFrom 32 net (now (t .entry))) ⌝ }
 {
-    let width = bits(kind);
-    let v = text::read_decimal(t, width);
+    let v = text::read_decimal(t, 32);
     match v {
         NumberRead::Nothing => Held::Nothing,
         NumberRead::Value(n) => {
-            let len = n + (128 - width);
-            if address::prefix::clear_beyond_v6(net_high, net_low, len) {
-                Held::Is(address::prefix::same_prefix_v6(net_high, net_low, high, low, len))
+            if clear_beyond_v4(net, n) {
+                Held::Is(same_prefix_v4(net, addr, n))
             } else {
                 Held::Nothing
             }
@@ -120,29 +113,73 @@ fn len_holds(t: &[u8], kind: Kind, net_high: u64, net_low: u64, high: u64, low: 
     }
 }
 
-// Whether the net addr/len in s holds a number.
-fn net_holds(s: &[u8], kind: Kind, high: u64, low: u64) -> Held
-    ensures { λ r. ⌜ r ≡ heldBy (inside (high * 2 ^ 64 + low)) (readNet (bitsOf kind) (readerOf kind) (now (s .entry))) ⌝ }
+// Whether the net of an IPv6 address, with its length in t, holds one.
+fn len_holds_v6(t: &[u8], net_high: u64, net_low: u64, high: u64, low: u64) -> Held
+    ensures { λ r. ⌜ r ≡ heldBy (inside (high * 2 ^ 64 + low)) (netFrom 128 («net_high» * 2 ^ 64 + «net_low») (now (t .entry))) ⌝ }
+{
+    let v = text::read_decimal(t, 128);
+    match v {
+        NumberRead::Nothing => Held::Nothing,
+        NumberRead::Value(n) => {
+            if clear_beyond_v6(net_high, net_low, n) {
+                Held::Is(same_prefix_v6(net_high, net_low, high, low, n))
+            } else {
+                Held::Nothing
+            }
+        }
+    }
+}
+
+// Whether the net addr/len in s holds an IPv4 address.
+fn net_holds_v4(s: &[u8], addr: u32) -> Held
+    ensures { λ r. ⌜ r ≡ heldBy (inside addr) (readNet 32 readV4 (now (s .entry))) ⌝ }
 {
     let i = text::index_of(s, 47);
     if i < s.len() {
-        let v = read_number(&s[..i], kind);
+        let v = read_v4(&s[..i]);
         match v {
-            V6Read::Nothing => Held::Nothing,
-            V6Read::Value(a, b) => len_holds(&s[i + 1..], kind, a, b, high, low),
+            NumberRead::Nothing => Held::Nothing,
+            NumberRead::Value(n) => len_holds_v4(&s[i + 1..], n, addr),
         }
     } else {
         Held::Nothing
     }
 }
 
-// Whether the addresses before a comma hold one.
-fn addresses_hold(s: &[u8], kind: Kind, high: u64, low: u64) -> Held
-    ensures { λ r. ⌜ r ≡ heldBy (inside (high * 2 ^ 64 + low)) (readRange (readerOf kind) (now (s .entry)) orElse readNet (bitsOf kind) (readerOf kind) (now (s .entry))) ⌝ }
+// Whether the net addr/len in s holds an IPv6 address.
+fn net_holds_v6(s: &[u8], high: u64, low: u64) -> Held
+    ensures { λ r. ⌜ r ≡ heldBy (inside (high * 2 ^ 64 + low)) (readNet 128 readV6 (now (s .entry))) ⌝ }
 {
-    let h = range_holds(s, kind, high, low);
+    let i = text::index_of(s, 47);
+    if i < s.len() {
+        let v = read_v6(&s[..i]);
+        match v {
+            V6Read::Nothing => Held::Nothing,
+            V6Read::Value(a, b) => len_holds_v6(&s[i + 1..], a, b, high, low),
+        }
+    } else {
+        Held::Nothing
+    }
+}
+
+// Whether the addresses before a comma hold an IPv4 address.
+fn addresses_hold_v4(s: &[u8], addr: u32) -> Held
+    ensures { λ r. ⌜ r ≡ heldBy (inside addr) (readRange readV4 (now (s .entry)) orElse readNet 32 readV4 (now (s .entry))) ⌝ }
+{
+    let h = range_holds(s, Kind::V4, 0, addr as u64);
     match h {
-        Held::Nothing => net_holds(s, kind, high, low),
+        Held::Nothing => net_holds_v4(s, addr),
+        Held::Is(_) => h,
+    }
+}
+
+// Whether the addresses before a comma hold an IPv6 address.
+fn addresses_hold_v6(s: &[u8], high: u64, low: u64) -> Held
+    ensures { λ r. ⌜ r ≡ heldBy (inside (high * 2 ^ 64 + low)) (readRange readV6 (now (s .entry)) orElse readNet 128 readV6 (now (s .entry))) ⌝ }
+{
+    let h = range_holds(s, Kind::V6, high, low);
+    match h {
+        Held::Nothing => net_holds_v6(s, high, low),
         Held::Is(_) => h,
     }
 }
@@ -160,13 +197,27 @@ fn both(a: Held, b: Held) -> Held
     }
 }
 
-// Whether a line min[-max],pmin[-pmax] or addr[/len],pmin[-pmax] holds the request.
-fn comma_form(l: &[u8], kind: Kind, high: u64, low: u64, port: u16) -> Held
-    ensures { λ r. ⌜ r ≡ heldBy (insideBoth (high * 2 ^ 64 + low) port) (readCommaForm (bitsOf kind) (readerOf kind) (now (l .entry))) ⌝ }
+// Whether a line min[-max],pmin[-pmax] or addr[/len],pmin[-pmax] holds the request, at an IPv4 address.
+fn comma_form_v4(l: &[u8], addr: u32, port: u16) -> Held
+    ensures { λ r. ⌜ r ≡ heldBy (insideBoth addr port) (readCommaForm 32 readV4 (now (l .entry))) ⌝ }
 {
     let i = text::index_of(l, 44);
     if i < l.len() {
-        let a = addresses_hold(&l[..i], kind, high, low);
+        let a = addresses_hold_v4(&l[..i], addr);
+        let p = range_holds(&l[i + 1..], Kind::Port, 0, port as u64);
+        both(a, p)
+    } else {
+        Held::Nothing
+    }
+}
+
+// The same at an IPv6 address.
+fn comma_form_v6(l: &[u8], high: u64, low: u64, port: u16) -> Held
+    ensures { λ r. ⌜ r ≡ heldBy (insideBoth (high * 2 ^ 64 + low) port) (readCommaForm 128 readV6 (now (l .entry))) ⌝ }
+{
+    let i = text::index_of(l, 44);
+    if i < l.len() {
+        let a = addresses_hold_v6(&l[..i], high, low);
         let p = range_holds(&l[i + 1..], Kind::Port, 0, port as u64);
         both(a, p)
     } else {
@@ -192,7 +243,7 @@ fn colon_form(l: &[u8], addr: u32, port: u16) -> Held
 {
     let i = text::index_of(l, 58);
     if i < l.len() {
-        let a = net_holds(&l[..i], Kind::V4, 0, addr as u64);
+        let a = net_holds_v4(&l[..i], addr);
         let p = ports_hold(&l[i + 1..], port);
         both(a, p)
     } else {
@@ -204,7 +255,7 @@ fn colon_form(l: &[u8], addr: u32, port: u16) -> Held
 fn held_v4(l: &[u8], addr: u32, port: u16) -> Held
     ensures { λ r. ⌜ r ≡ heldBy (insideBoth addr port) (readCommaForm 32 readV4 (now (l .entry)) orElse readColonForm (now (l .entry))) ⌝ }
 {
-    let h = comma_form(l, Kind::V4, 0, addr as u64, port);
+    let h = comma_form_v4(l, addr, port);
     match h {
         Held::Nothing => colon_form(l, addr, port),
         Held::Is(_) => h,
@@ -228,6 +279,6 @@ pub(crate) fn grants(l: &[u8], addr: Addr, port: u16) -> bool
     match addr {
         Addr::Unknown => false,
         Addr::V4(n) => is_held(held_v4(l, n, port)),
-        Addr::V6(a, b) => is_held(comma_form(l, Kind::V6, a, b, port)),
+        Addr::V6(a, b) => is_held(comma_form_v6(l, a, b, port)),
     }
 }

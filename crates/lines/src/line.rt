@@ -11,7 +11,7 @@ ghost use lib.ListN.{length, drop};
 ghost use Rattle.text.specs.Basics.{all};
 ghost use Rattle.text.specs.Text.{among, firstAmong};
 ghost use Rattle.lines.specs.Line.{join, hasBadByte};
-ghost use Rattle.lines.specs.Scan.{spanAt, scanLine, SpanBounds, slashBefore, pairAt};
+ghost use Rattle.lines.specs.Scan.{printable, printableFront, PrintableTo, spanAt, scanLine, SpanBounds, slashBefore, pairAt};
 
 // A logical line that was found: its end, whether a newline stands there, how many pairs of a backslash and a newline are dropped
 // from it, and whether every byte that remains is one that a line may hold.
@@ -28,13 +28,53 @@ pub struct JoinedText {
     pub clean: bool,
 }
 
-// The logical line that starts at start.
+// Whether every byte of s is printable. No byte ends the loop, so that many are compared at once.
+fn is_printable(s: &[u8]) -> bool
+    ensures { λ r. ⌜ r ≡ all printable (now (s .entry)) ⌝ }
+{
+    let mut all = true;
+    let mut i = 0;
+    while i < s.len() {
+        let b = s[i];
+        all = all & ((32 <= b) & (b <= 126));
+        i += 1;
+    }
+    all
+}
+
+// Whether sixteen printable bytes stand from i on.
+fn printable_block(text: &[u8], i: usize) -> bool
+    ensures { λ r. ⌜ r ≡ printableFront 16 (drop i (now (text .entry))) ⌝ }
+{
+    if text.len() < 16 {
+        return false;
+    }
+    if text.len() - 16 < i {
+        return false;
+    }
+    let end = i + 16;
+    is_printable(&text[i..end])
+}
+
+// The place after the blocks of printable bytes that stand from start on.
+fn printable_end(text: &[u8], start: usize) -> usize
+    requires { ⌜ start ≤ length (now text) ⌝ }
+    ensures { λ r. ⌜ PrintableTo (now (text .entry)) start r ⌝ }
+{
+    let mut i = start;
+    while printable_block(text, i) {
+        i += 16;
+    }
+    i
+}
+
+// The logical line that starts at start: what is printable is passed by blocks, then each byte is looked at.
 pub fn scan_line(text: &[u8], start: usize) -> LineSpan
     requires { ⌜ start ≤ length (now text) ⌝ }
     ensures scanned { λ r. ⌜ r ≡ spanAt start (scanLine (drop start (now (text .entry)))) ⌝ }
     ensures bounds { λ r. ⌜ SpanBounds (length (now (text .entry))) start r ⌝ }
 {
-    let mut i = start;
+    let mut i = printable_end(text, start);
     let mut joins = 0;
     let mut clean = true;
     while i < text.len() {

@@ -1,5 +1,4 @@
 -- Laws of the patterns of addresses: what they match is what their nets and prefixes cover.
--- A dotted pattern that ends in a dot is no address and no net/mask, since the last field of either is not empty.
 -- Assumes nothing.
 use Prim.Native.Nat.{ℕ, zero, suc, _+_, _-_, _*_, _/_, _%_, _^_, _<_, _≤_}
 use mathlib.Core.Bool.{Bool, true, false, true≢false}
@@ -29,73 +28,14 @@ use Rattle.address.proofs.PrefixLaws.{eqb-iff, and-leading}
 use Rattle.address.proofs.ReadLaws.{readDecimal-le}
 use Rattle.patterns.specs.Host.{Endpoint}
 use Rattle.patterns.specs.Pattern.{Pattern, bracketPattern, leadingFields, netMask, dottedPattern}
-use Rattle.patterns.specs.Code.{asNet, leadingNet, dottedFields, fieldsNet, maskNet, wholeNet, dottedNet, matchesPattern, netCovers, dottedTest, dottedCovers}
+use Rattle.patterns.specs.Code.{asNet, leadingNet, dottedFields, fieldsNet, maskNet, dottedNet, matchesPattern, netCovers, dottedTest, dottedCovers}
 use Rattle.patterns.specs.Code.{asPrefix, bracketPrefix, prefixLength, prefixCovers, bracketCovers}
 use Rattle.patterns.specs.declared.net.NetRead.{NetRead}
 use Rattle.patterns.specs.declared.net.NetRead.the-variants as R
 use Rattle.patterns.specs.declared.net.PrefixRead.{PrefixRead}
 use Rattle.patterns.specs.declared.net.PrefixRead.the-variants as P
-use Rattle.patterns.proofs.NetLaws.{dottedFields-pos}
+use Rattle.patterns.proofs.DottedLaws.{dottedFields-pos}
 use Rattle.patterns.proofs.TestLaws.{ends-in-dot, getD-indexOf, indexOf-length, lastAmong-drop}
-
--- ## A dotted pattern that ends in a dot
-
--- the last field of a text that ends in a dot is empty, and not its first
-record Trailing (t : List ℕ) : Type 0 where
-  first : List ℕ
-  rest : List (List ℕ)
-  parts : split "." t ≡ first ∷ rest
-  empty : any isEmpty rest ≡ true
-
-trailing : (t : List ℕ) → lastAmong "." t ≡ true → Trailing t
-unfolding split any
-trailing [] e = absurd (true≢false (sym e))
-trailing (x ∷ []) e = record { first = []; rest = [] ∷ []; parts = rw e; empty = refl }
-trailing (x ∷ y ∷ t) e = by (among "." x) refl (trailing (y ∷ t) (lastAmong-drop (x ∷ y ∷ t) 1 (omega arith) ∙ e))
-  where
-    by : (b : Bool) → among "." x ≡ b → Trailing (y ∷ t) → Trailing (x ∷ y ∷ t)
-    by true q r = record { first = []; rest = r .first ∷ r .rest; parts = rw (q, r .parts); empty = rw (r .empty) (Bool.or-true (isEmpty (r .first))) }
-    by false q r = record { first = x ∷ r .first; rest = r .rest; parts = rw (q, r .parts); empty = r .empty }
-
-readDecimal-nil : readDecimal 255 [] ≡ none
-unfolding readDecimal fromDigits numeral equal
-readDecimal-nil = refl
-
-readV4-dot : (t : List ℕ) → lastAmong "." t ≡ true → readV4 t ≡ none
-unfolding readV4 any
-readV4-dot t e =
-    let r = trailing t e in
-    rw (each-none (readDecimal 255) isEmpty by (split "." t) (rw (r .parts, r .empty) (Bool.or-true (isEmpty (r .first)))))
-  where
-    by : (w : List ℕ) → isEmpty w ≡ true → readDecimal 255 w ≡ none
-    by [] q = readDecimal-nil
-    by (x ∷ w) q = absurd (true≢false (sym q))
-
-netMask-dot : (e : List ℕ) → lastAmong "." e ≡ true → netMask e ≡ none
-unfolding netMask
-netMask-dot e h = by (eqb i (length e)) refl (eqb (i + 1) (length e)) refl
-  where
-    i : ℕ
-    i = indexOf 47 e
-
-    -- the byte at i is a slash
-    slash : i < length e → i + 1 ≡ length e → ⊥
-    slash l q =
-        let n : length e - 1 ≡ i = omega arith in
-        let z : eqb (getD e i 0) 46 ≡ true = sym (ends-in-dot e (λ z. omega arith) ∙ ap (λ (k : ℕ). eqb (getD e k 0) 46) n) ∙ h in
-        omega (arith, eqb-true (getD e i 0) 46 z, getD-indexOf 47 e l)
-
-    second : (o : Option ℕ) → _≡_ {A = Option (ℕ → Bool)} (o >>= λ n. none) none
-    second none = refl
-    second (some n) = refl
-
-    by : (b : Bool) → eqb i (length e) ≡ b → (c : Bool) → eqb (i + 1) (length e) ≡ c → netMask e ≡ none
-    by true p c q = rw (splitOnce-no-mark 47 e i refl (omega (arith, eqb-true i (length e) p)))
-    by false p true q = absurd (slash (omega (arith, indexOf-length 47 e, eqb-false i (length e) p)) (eqb-true (i + 1) (length e) q))
-    by false p false q =
-        let l : i < length e = omega (arith, indexOf-length 47 e, eqb-false i (length e) p) in
-        let k : i + 1 < length e = omega (arith, eqb-false (i + 1) (length e) q) in
-        rw (splitOnce-mark 47 e i refl l, readV4-dot (drop (i + 1) e) (lastAmong-drop e (i + 1) k ∙ h)) (second (readV4 (take i e)))
 
 -- ## Leading fields
 
@@ -170,52 +110,59 @@ record Alike (p : (ℕ → Bool) → Bool) (q : ℕ × ℕ → Bool) : Type 0 wh
   leading : (fs : List ℕ) → all (λ d. ltb d 256) fs ≡ true → 1 ≤ length fs → length fs ≤ 3
       → p (λ a. startsWith fs (toDigits 256 4 a)) ≡ q (leadingNet (length fs) (fromDigits 256 0 fs))
 
--- holds of the test that is read, and of the net
-module _ (p : (ℕ → Bool) → Bool) (q : ℕ × ℕ → Bool) (like : Alike p q) (e : List ℕ) where
-  fieldsNet-alike : lastAmong "." e ≡ true → holds p (leadingFields e) ≡ holds q (fieldsNet 0 0 e)
-  unfolding leadingFields fieldsNet dottedFields
-  fieldsNet-alike h = rw h (by (each (readDecimal 255) (split "." (take (length e - 1) e))) refl)
-    where
-      by : (o : Option (List ℕ)) → each (readDecimal 255) (split "." (take (length e - 1) e)) ≡ o
-          → holds p (o >>= λ fs. given (leb (length fs) 3) (λ a. startsWith fs (toDigits 256 4 a)))
-          ≡ holds q (o >>= λ fs. given (leb (0 + length fs) 3) (leadingNet (0 + length fs) (fromDigits 256 0 fs)))
-      by none r = refl
-      by (some fs) r = rw (zero-add (length fs)) (within (leb (length fs) 3) refl)
-        where
-          within : (b : Bool) → leb (length fs) 3 ≡ b
-              → holds p (given b (λ a. startsWith fs (toDigits 256 4 a))) ≡ holds q (given b (leadingNet (length fs) (fromDigits 256 0 fs)))
-          within true l = like .leading fs (each-below (split "." (take (length e - 1) e)) fs r) (dottedFields-pos e fs (rw h r)) (leb-true (length fs) 3 l)
-          within false l = refl
+-- the test that is read and the net: both are read, and alike, or neither is
+module _ (p : (ℕ → Bool) → Bool) (q : ℕ × ℕ → Bool) (like : Alike p q) where
+  abbrev Same : Option (ℕ → Bool) → Option (ℕ × ℕ) → Type 0
+  Same o r = (isSome o ≡ isSome r) × (holds p o ≡ holds q r)
 
-  maskNet-alike : holds p (netMask e) ≡ holds q (maskNet e)
-  unfolding netMask maskNet
-  maskNet-alike = by (splitOnce (bytes "/") e)
-    where
-      both : (o r : Option ℕ) → holds p (o >>= λ n. r >>= λ m. some (λ a. eqb n (bitAnd a m))) ≡ holds q (o >>= λ n. r >>= λ m. some (n, m))
-      both none r = refl
-      both (some n) none = refl
-      both (some n) (some m) = like .masked n m
+  orElse-same : (o u : Option (ℕ → Bool)) (r v : Option (ℕ × ℕ)) → Same o r → Same u v → Same (o orElse u) (r orElse v)
+  orElse-same none u none v h k = k
+  orElse-same none u (some n) v h k = absurd (true≢false (sym (h .0)))
+  orElse-same (some f) u none v h k = absurd (true≢false (h .0))
+  orElse-same (some f) u (some n) v h k = h
 
-      by : (o : Option (List ℕ × List ℕ)) → holds p (o >>= λ t. readV4 (t .0) >>= λ n. readV4 (t .1) >>= λ m. some (λ a. eqb n (bitAnd a m)))
-          ≡ holds q (o >>= λ t. readV4 (t .0) >>= λ n. readV4 (t .1) >>= λ m. some (n, m))
-      by none = refl
-      by (some t) = both (readV4 (t .0)) (readV4 (t .1))
+  address-same : (o : Option ℕ) → Same (o >>= λ n. some (eqb n)) (o >>= λ n. some (n, 4294967295))
+  address-same none = (refl, refl)
+  address-same (some n) = (refl, like .address n)
 
-  dottedNet-alike : holds p (dottedTest e) ≡ holds q (dottedNet e)
-  unfolding dottedTest dottedNet wholeNet
-  dottedNet-alike = by (lastAmong "." e) refl
-    where
-      last : (o : Option (ℕ → Bool)) → holds p (o orElse none) ≡ holds p o
-      last none = refl
-      last (some f) = refl
+  module _ (e : List ℕ) where
+    fieldsNet-same : Same (leadingFields e) (fieldsNet e)
+    unfolding leadingFields fieldsNet dottedFields
+    fieldsNet-same = by (lastAmong "." e) refl (each (readDecimal 255) (split "." (take (length e - 1) e))) refl
+      where
+        by : (b : Bool) → lastAmong "." e ≡ b → (o : Option (List ℕ)) → each (readDecimal 255) (split "." (take (length e - 1) e)) ≡ o
+            → Same (leadingFields e) (fieldsNet e)
+        by false h o r = rw (leadingFields-none e h, h) (refl, refl)
+        by true h none r = rw (h, r) (refl, refl)
+        by true h (some fs) r = rw (h, r) (within (leb (length fs) 3) refl)
+          where
+            within : (b : Bool) → leb (length fs) 3 ≡ b
+                → Same (given b (λ a. startsWith fs (toDigits 256 4 a))) (given b (leadingNet (length fs) (fromDigits 256 0 fs)))
+            within true l =
+                (refl, like .leading fs (each-below (split "." (take (length e - 1) e)) fs r) (dottedFields-pos e fs (rw h r)) (leb-true (length fs) 3 l))
+            within false l = (refl, refl)
 
-      either : (o : Option ℕ) → holds p ((o >>= λ n. some (eqb n)) orElse none orElse netMask e) ≡ holds q ((o >>= λ n. some (n, 4294967295)) orElse maskNet e)
-      either none = maskNet-alike
-      either (some n) = like .address n
+    maskNet-same : Same (netMask e) (maskNet e)
+    unfolding netMask maskNet
+    maskNet-same = by (splitOnce (bytes "/") e)
+      where
+        both : (o r : Option ℕ) → Same (o >>= λ n. r >>= λ m. some (λ a. eqb n (bitAnd a m))) (o >>= λ n. r >>= λ m. some (n, m))
+        both none r = (refl, refl)
+        both (some n) none = (refl, refl)
+        both (some n) (some m) = (refl, like .masked n m)
 
-      by : (b : Bool) → lastAmong "." e ≡ b → holds p (dottedTest e) ≡ holds q (dottedNet e)
-      by true h = rw (readV4-dot e h, netMask-dot e h, h) (last (leadingFields e) ∙ fieldsNet-alike h)
-      by false h = rw (leadingFields-none e h, h) (either (readV4 e))
+        by : (o : Option (List ℕ × List ℕ)) → Same (o >>= λ t. readV4 (t .0) >>= λ n. readV4 (t .1) >>= λ m. some (λ a. eqb n (bitAnd a m)))
+            (o >>= λ t. readV4 (t .0) >>= λ n. readV4 (t .1) >>= λ m. some (n, m))
+        by none = (refl, refl)
+        by (some t) = both (readV4 (t .0)) (readV4 (t .1))
+
+    dottedNet-alike : holds p (dottedTest e) ≡ holds q (dottedNet e)
+    unfolding dottedTest dottedNet
+    dottedNet-alike =
+        let a : Option (ℕ → Bool) = readV4 e >>= λ n. some (eqb n) in
+        let n : Option (ℕ × ℕ) = readV4 e >>= λ n. some (n, 4294967295) in
+        orElse-same (a orElse leadingFields e) (netMask e) (n orElse fieldsNet e) (maskNet e)
+        (orElse-same a (leadingFields e) n (fieldsNet e) (address-same (readV4 e)) fieldsNet-same) maskNet-same .1
 
 -- of an address of 32 bits, as the code finds it
 module _ (e : List ℕ) (a : ℕ) (small : a < 4294967296) where

@@ -227,7 +227,7 @@ hostPattern-is e = rw (wildcard-of e) (by (firstAmong "." e) (firstAmong "[" e) 
     by false false false = refl
 
 module _ (e : List ℕ) (w v : Wildcard) (is-w : w ≡ wildcardOf e) (is-v : w ≡ v) where
-  hostPattern-at : hostPattern e ≡ wildcardPattern v orElse formPattern (formOf e) e
+  pub hostPattern-at : hostPattern e ≡ wildcardPattern v orElse formPattern (formOf e) e
   hostPattern-at = hostPattern-is e ∙ rw (← is-w, is-v)
 
   pub hostPattern-sound : (r : Bool) → r ≡ isSome (wildcardPattern v orElse formPattern (formOf e) e) → r ≡ isSome (hostPattern e)

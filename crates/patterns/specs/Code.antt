@@ -1,6 +1,7 @@
 -- Patterns as the code reads them: what the contracts of functions that are called by others cite. Nothing here needs to be believed for
 -- the meaning of document 01: its words are those of Host and Pattern.
 --   hostMatches e h              == e is a host pattern that matches h
+--   patternSeen look p h         == whether p is a pattern and, if it is looked at, matches h
 --   wildcardOf e, formOf e       == the wildcard that e is; what e is read as where it is none
 --   dottedNet e, bracketPrefix e == the net and mask, or the address and prefix length, that a pattern of addresses writes
 -- Assumes nothing: these are definitions.
@@ -14,13 +15,13 @@ use lib.ListN.{length, take, drop}
 use Rattle.text.specs.Basics.{if_then_else_, _>>=_, _orElse_, given, holds, isSome, any, all, each}
 use Rattle.text.specs.Text.{bytes, among, firstAmong, lastAmong, splitOnce, split, isDigit, equalFold, isWord}
 use Rattle.text.specs.Number.{fromDigits, readDecimal}
-use Rattle.text.specs.Scan.{indexOf}
 use Rattle.text.specs.declared.NumberRead.{NumberRead}
 use Rattle.text.specs.declared.NumberRead.the-variants as T
 use Rattle.address.specs.Address.{samePrefix, addrCase, readV4, readV6}
 use Rattle.address.specs.declared.read.V6Read.{V6Read}
 use Rattle.address.specs.declared.read.V6Read.the-variants as V6
 use Rattle.patterns.specs.declared.Host.{Host}
+use Rattle.patterns.specs.declared.HostSeen.{HostSeen}
 use Rattle.patterns.specs.declared.pattern.Wildcard.{Wildcard}
 use Rattle.patterns.specs.declared.pattern.Wildcard.the-variants as W
 use Rattle.patterns.specs.declared.pattern.Form.{Form}
@@ -29,8 +30,6 @@ use Rattle.patterns.specs.declared.net.NetRead.{NetRead}
 use Rattle.patterns.specs.declared.net.NetRead.the-variants as R
 use Rattle.patterns.specs.declared.net.PrefixRead.{PrefixRead}
 use Rattle.patterns.specs.declared.net.PrefixRead.the-variants as P
-use Rattle.patterns.specs.declared.net.Field.{Field}
-use Rattle.patterns.specs.declared.net.Field.the-variants as L
 use Rattle.patterns.specs.Host.{Endpoint, nameCase, nameKnown, addrKnown}
 use Rattle.patterns.specs.Pattern.{Pattern, domainPattern, leadingFields, netMask, bracketPattern, dottedPattern, namePattern, hostPattern}
 
@@ -69,6 +68,13 @@ wildcardPattern W.Paranoid = some λ h. nameCase h false true false
 abbrev pub matchesPattern : Pattern → Endpoint → Bool
 matchesPattern p h = holds (λ f. f h) p
 
+-- whether a text is a pattern and, if it is looked at, matches
+abbrev pub hostSeen : Bool → Bool → HostSeen
+hostSeen sound matches = record { sound = sound; matches = matches }
+
+unfoldable pub patternSeen : Bool → Pattern → Endpoint → HostSeen
+patternSeen look p h = hostSeen (isSome p) (look && matchesPattern p h)
+
 -- a domain pattern, a name pattern, is one and matches a known name
 unfoldable pub domainCovers : List ℕ → List ℕ → Bool
 domainCovers e n = (ltb (length e) (length n) && equalFold e (drop (length n - length e) n)) && isSome (domainPattern e)
@@ -92,14 +98,6 @@ abbrev pub asNet : Option (ℕ × ℕ) → NetRead
 asNet none = R.Nothing
 asNet (some p) = R.Net (p .0) (p .1)
 
--- a field that a dot follows, and the place after the dot
-abbrev pub fieldWith : ℕ → Option ℕ → Field
-fieldWith i none = L.Nothing
-fieldWith i (some n) = L.Value n (i + 1)
-
-unfoldable pub fieldOf : List ℕ → Field
-fieldOf t = if eqb (indexOf 46 t) (length t) then L.Nothing else fieldWith (indexOf 46 t) (readDecimal 255 (take (indexOf 46 t) t))
-
 -- the net of the k leading fields that write n
 abbrev pub leadingNet : ℕ → ℕ → ℕ × ℕ
 leadingNet k n = (n * 2 ^ (32 - 8 * k), 2 ^ 32 - 2 ^ (32 - 8 * k))
@@ -108,11 +106,11 @@ leadingNet k n = (n * 2 ^ (32 - 8 * k), 2 ^ 32 - 2 ^ (32 - 8 * k))
 unfoldable pub dottedFields : List ℕ → Option (List ℕ)
 dottedFields t = if lastAmong "." t then each (readDecimal 255) (split "." (take (length t - 1) t)) else none
 
--- the net of the fields of t, after k fields that write n
-unfoldable pub fieldsNet : ℕ → ℕ → List ℕ → Option (ℕ × ℕ)
-fieldsNet k n t = do
+-- the net of one to three such fields
+unfoldable pub fieldsNet : List ℕ → Option (ℕ × ℕ)
+fieldsNet t = do
   fs ← dottedFields t
-  given (leb (k + length fs) 3) (leadingNet (k + length fs) (fromDigits 256 n fs))
+  given (leb (length fs) 3) (leadingNet (length fs) (fromDigits 256 0 fs))
 
 abbrev pub pairNet : NumberRead → NumberRead → NetRead
 pairNet T.Nothing m = R.Nothing
@@ -126,11 +124,8 @@ maskNet e = do
   mask ← readV4 (p .1)
   some (net, mask)
 
-unfoldable pub wholeNet : List ℕ → Option (ℕ × ℕ)
-wholeNet e = (readV4 e >>= λ n. some (n, 4294967295)) orElse maskNet e
-
 unfoldable pub dottedNet : List ℕ → Option (ℕ × ℕ)
-dottedNet e = if lastAmong "." e then fieldsNet 0 0 e else wholeNet e
+dottedNet e = (readV4 e >>= λ n. some (n, 4294967295)) orElse fieldsNet e orElse maskNet e
 
 -- an address of 128 bits, and the number of leading bits to compare
 abbrev pub asPrefix : Option (ℕ × ℕ) → PrefixRead
@@ -155,6 +150,10 @@ bracketPrefix e = do
 
 -- ## What patterns of addresses cover
 
+abbrev pub netSound : NetRead → Bool
+netSound R.Nothing = false
+netSound (R.Net n m) = true
+
 abbrev pub netCovers : NetRead → ℕ → Bool
 netCovers R.Nothing a = false
 netCovers (R.Net n m) a = eqb n (bitAnd a m)
@@ -165,6 +164,9 @@ dottedTest e = (readV4 e >>= λ n. some (eqb n)) orElse leadingFields e orElse n
 
 abbrev pub dottedCovers : List ℕ → Host → Bool
 dottedCovers e h = addrCase (h .addr) false (λ a. holds (λ f. f a) (dottedTest e)) (λ a. false)
+
+abbrev pub prefixHolds : ℕ → ℕ → Host → Bool
+prefixHolds n m h = addrCase (h .addr) false (λ a. false) (samePrefix 128 m n)
 
 unfoldable pub prefixCovers : List ℕ → ℕ → Bool
 prefixCovers e a = holds (λ q. samePrefix 128 (q .1) (q .0) a) (bracketPrefix e)

@@ -1,3 +1,4 @@
 pub mod Host
 pub mod Pattern
 pub mod Code
+pub mod Dotted

@@ -1,8 +1,13 @@
 // Patterns of addresses: the dotted ones of IPv4 are read as a net and a mask, the bracketed ones of IPv6 as a prefix.
 //   dotted_sound(e), bracket_sound(e)                 == e is such a pattern
 //   dotted_matches(e, host), bracket_matches(e, host) == e is one that matches the host's address
+//   dotted_seen(e, look, host), bracket_seen(e, look, host) == both at once, in one reading
 use super::Host;
+use super::HostSeen;
 use address::Addr;
+use address::fields::Run;
+use address::fields::ended_address;
+use address::fields::run_over;
 use address::prefix::in_net;
 use address::prefix::same_prefix_v6;
 use address::read::V6Read;
@@ -10,13 +15,15 @@ use address::read::read_v4;
 use address::read::read_v6;
 use text::NumberRead;
 ghost use mathlib.Core.Path.{_≡_};
+ghost use mathlib.Core.Bool.{false, _&&_};
 ghost use mathlib.Core.Option.{some};
 ghost use Prim.Native.Nat.{_+_, _*_, _^_, _<_, _≤_};
 ghost use Rattle.text.specs.Basics.{isSome};
 ghost use Rattle.text.specs.Scan.{asNumber};
 ghost use Rattle.patterns.specs.Pattern.{bracketPattern, dottedPattern};
-ghost use Rattle.patterns.specs.Code.{fieldOf, asNet, leadingNet, fieldsNet, maskNet, pairNet, wholeNet, dottedNet, netCovers, dottedCovers};
-ghost use Rattle.patterns.specs.Code.{prefixLength, asPrefix, prefixWith, bracketPrefix, prefixCovers, bracketCovers};
+ghost use Rattle.patterns.specs.Code.{hostSeen, asNet, leadingNet, pairNet, dottedNet, netSound, netCovers, dottedCovers};
+ghost use Rattle.patterns.specs.Dotted.{endedNet};
+ghost use Rattle.patterns.specs.Code.{prefixLength, asPrefix, prefixWith, bracketPrefix, prefixHolds, prefixCovers, bracketCovers};
 
 // A net and the mask that an address is put under before it is compared with the net.
 enum NetRead {
@@ -30,27 +37,6 @@ enum PrefixRead {
     Prefix(u64, u64, u32),
 }
 
-// A field that a dot follows, and the place after the dot.
-enum Field {
-    Nothing,
-    Value(u32, usize),
-}
-
-// The field at the front of s.
-fn first_field(s: &[u8]) -> Field
-    ensures { λ r. ⌜ r ≡ fieldOf (now (s .entry)) ⌝ }
-{
-    let i = text::index_of(s, 46);
-    if i == s.len() {
-        return Field::Nothing;
-    }
-    let v = text::read_decimal(&s[..i], 255);
-    match v {
-        NumberRead::Nothing => Field::Nothing,
-        NumberRead::Value(n) => Field::Value(n, i + 1),
-    }
-}
-
 // The net of count leading fields, which write n.
 fn leading_net(n: u32, count: u32) -> NetRead
     requires { ⌜ (1 ≤ count) × (count ≤ 3) × (n < 256 ^ count) ⌝ }
@@ -58,32 +44,6 @@ fn leading_net(n: u32, count: u32) -> NetRead
 {
     let shift = 32 - 8 * count;
     NetRead::Net(n << shift, (4294967295 >> shift) << shift)
-}
-
-// One to three fields, each followed by a dot.
-fn read_fields(e: &[u8]) -> NetRead
-    ensures { λ r. ⌜ r ≡ asNet (fieldsNet 0 0 (now (e .entry))) ⌝ }
-{
-    let mut at = 0;
-    let mut n: u32 = 0;
-    let mut count: u32 = 0;
-    while count < 3 {
-        let f = first_field(&e[at..]);
-        match f {
-            Field::Nothing => {
-                return NetRead::Nothing;
-            }
-            Field::Value(v, next) => {
-                n = n * 256 + v;
-                at += next;
-                count += 1;
-                if at == e.len() {
-                    return leading_net(n, count);
-                }
-            }
-        }
-    }
-    NetRead::Nothing
 }
 
 // A net and a mask, where both were read.
@@ -99,41 +59,40 @@ fn pair_net(net: NumberRead, mask: NumberRead) -> NetRead
     }
 }
 
-// net/mask.
-fn read_mask(e: &[u8]) -> NetRead
-    ensures { λ r. ⌜ r ≡ asNet (maskNet (now (e .entry))) ⌝ }
+// The net of a dotted pattern without a slash, by the state of the pass over its fields: an address, as the net of that address alone, or one
+// to three fields, each with its dot.
+fn ended_net(n: u32, k: u32, v: u32, begun: bool) -> NetRead
+    requires { ⌜ n < 16777216 ⌝ }
+    requires { ⌜ v ≤ 255 ⌝ }
+    requires { ⌜ (k ≤ 3) × (n < 256 ^ k) ⌝ }
+    ensures { λ r. ⌜ r ≡ asNet (endedNet n k v begun) ⌝ }
 {
-    let i = text::index_of(e, 47);
-    if i == e.len() {
+    if begun {
+        return pair_net(ended_address(n, k, v, begun), NumberRead::Value(4294967295));
+    }
+    if k == 0 {
         return NetRead::Nothing;
     }
-    let after = i + 1;
-    pair_net(read_v4(&e[..i]), read_v4(&e[after..]))
+    leading_net(n, k)
 }
 
-// An address, as the net of that address alone, or net/mask.
-fn read_whole(e: &[u8]) -> NetRead
-    ensures { λ r. ⌜ r ≡ asNet (wholeNet (now (e .entry))) ⌝ }
-{
-    let v = read_v4(e);
-    match v {
-        NumberRead::Nothing => read_mask(e),
-        NumberRead::Value(n) => NetRead::Net(n, 4294967295),
-    }
-}
-
-// The net of a dotted pattern: fields where it ends in a dot, else an address or net/mask.
+// The net of a dotted pattern, read in one pass: where a slash stops it, the mask follows.
 fn read_dotted(e: &[u8]) -> NetRead
     ensures { λ r. ⌜ r ≡ asNet (dottedNet (now (e .entry))) ⌝ }
 {
-    if e.len() == 0 {
-        return NetRead::Nothing;
-    }
-    let last = e.len() - 1;
-    if e[last] == 46 {
-        read_fields(e)
-    } else {
-        read_whole(e)
+    let run = run_over(e, 0);
+    match run {
+        Run::Failed => NetRead::Nothing,
+        Run::At(j, n, k, v, begun) => {
+            if e.len() <= j {
+                return ended_net(n, k, v, begun);
+            }
+            if e[j] != 47 {
+                return NetRead::Nothing;
+            }
+            let after = j + 1;
+            pair_net(ended_address(n, k, v, begun), read_v4(&e[after..]))
+        }
     }
 }
 
@@ -212,6 +171,50 @@ pub fn dotted_matches(e: &[u8], host: Host) -> bool
     }
 }
 
+// Whether a net was read, where no address is compared with it.
+fn net_sound(net: NetRead) -> HostSeen
+    ensures { λ r. ⌜ r ≡ hostSeen (netSound net) false ⌝ }
+{
+    match net {
+        NetRead::Nothing => HostSeen {
+            sound: false,
+            matches: false,
+        },
+        NetRead::Net(_, _) => HostSeen {
+            sound: true,
+            matches: false,
+        },
+    }
+}
+
+// Whether a net was read and, if it is looked at, an address lies in it.
+fn net_seen(net: NetRead, look: bool, a: u32) -> HostSeen
+    ensures { λ r. ⌜ r ≡ hostSeen (netSound net) (look && netCovers net a) ⌝ }
+{
+    match net {
+        NetRead::Nothing => HostSeen {
+            sound: false,
+            matches: false,
+        },
+        NetRead::Net(net, mask) => HostSeen {
+            sound: true,
+            matches: look & in_net(net, mask, a),
+        },
+    }
+}
+
+// Whether e is a dotted pattern and, if it is looked at, matches.
+pub fn dotted_seen(e: &[u8], look: bool, host: Host) -> HostSeen
+    ensures { λ r. ⌜ r ≡ hostSeen (isSome (dottedPattern (now (e .entry)))) (look && dottedCovers (now (e .entry)) host) ⌝ }
+{
+    let addr = host.addr;
+    match addr {
+        Addr::Unknown => net_sound(read_dotted(e)),
+        Addr::V4(a) => net_seen(read_dotted(e), look, a),
+        Addr::V6(_, _) => net_sound(read_dotted(e)),
+    }
+}
+
 // Whether e is a bracketed pattern.
 pub fn bracket_sound(e: &[u8]) -> bool
     ensures { λ r. ⌜ r ≡ isSome (bracketPattern (now (e .entry))) ⌝ }
@@ -243,5 +246,35 @@ pub fn bracket_matches(e: &[u8], host: Host) -> bool
         Addr::Unknown => false,
         Addr::V4(_) => false,
         Addr::V6(high, low) => bracket_covers(e, high, low),
+    }
+}
+
+// Whether an IPv6 address has the first m bits of another.
+fn prefix_matches(host: Host, high: u64, low: u64, m: u32) -> bool
+    requires { ⌜ m ≤ 128 ⌝ }
+    ensures { λ r. ⌜ r ≡ prefixHolds (high * 2 ^ 64 + low) m host ⌝ }
+{
+    let addr = host.addr;
+    match addr {
+        Addr::Unknown => false,
+        Addr::V4(_) => false,
+        Addr::V6(h, l) => same_prefix_v6(high, low, h, l, m),
+    }
+}
+
+// Whether e is a bracketed pattern and, if it is looked at, matches.
+pub fn bracket_seen(e: &[u8], look: bool, host: Host) -> HostSeen
+    ensures { λ r. ⌜ r ≡ hostSeen (isSome (bracketPattern (now (e .entry)))) (look && bracketCovers (now (e .entry)) host) ⌝ }
+{
+    let prefix = read_bracket(e);
+    match prefix {
+        PrefixRead::Nothing => HostSeen {
+            sound: false,
+            matches: false,
+        },
+        PrefixRead::Prefix(high, low, m) => HostSeen {
+            sound: true,
+            matches: look & prefix_matches(host, high, low, m),
+        },
     }
 }

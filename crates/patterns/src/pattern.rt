@@ -1,11 +1,15 @@
 // Host patterns: wildcards, domains and names, and which form a pattern has.
 //   host_sound(e)               == e is a host pattern
 //   host_matches(e, host, name) == e is one that matches the host
+//   host_seen(e, names, dotted, look, host, name) == both at once, by what is known of the bytes of e
 use super::Host;
+use super::HostSeen;
 use super::Name;
 use super::net::bracket_matches;
+use super::net::bracket_seen;
 use super::net::bracket_sound;
 use super::net::dotted_matches;
+use super::net::dotted_seen;
 use super::net::dotted_sound;
 use address::Addr;
 use text::equal_fold;
@@ -16,7 +20,7 @@ ghost use Rattle.text.specs.Basics.{isSome, any, all};
 ghost use Rattle.text.specs.Text.{among};
 ghost use Rattle.patterns.specs.Host.{endpoint, nameCase, nameKnown, addrKnown};
 ghost use Rattle.patterns.specs.Pattern.{isNameByte, domainPattern, namePattern, hostPattern};
-ghost use Rattle.patterns.specs.Code.{wildcardOf, formOf, isDottedByte, formPattern, matchesPattern, hostMatches, domainCovers, plainCovers};
+ghost use Rattle.patterns.specs.Code.{wildcardOf, formOf, isDottedByte, formPattern, matchesPattern, patternSeen, hostMatches, domainCovers, plainCovers};
 
 // The wildcard that a text is.
 pub enum Wildcard {
@@ -105,8 +109,9 @@ fn is_dotted(s: &[u8]) -> bool
     true
 }
 
-// What e is read as, where it is no wildcard.
-fn read_form(e: &[u8]) -> Form
+// What e is read as, where it is no wildcard; dotted: whether it has only digits, dots and slashes.
+fn read_form(e: &[u8], dotted: bool) -> Form
+    requires { ⌜ dotted ≡ all isDottedByte (now e) ⌝ }
     ensures { λ r. ⌜ r ≡ formOf (now (e .entry)) ⌝ }
 {
     if e.len() == 0 {
@@ -119,11 +124,7 @@ fn read_form(e: &[u8]) -> Form
     if b == 91 {
         return Form::Bracket;
     }
-    if is_dotted(e) {
-        Form::Dotted
-    } else {
-        Form::Plain
-    }
+    if dotted { Form::Dotted } else { Form::Plain }
 }
 
 // Whether a host's name is known.
@@ -205,8 +206,9 @@ fn is_local(host: Host, name: &[u8]) -> bool
     }
 }
 
-// Whether e is a domain pattern.
-fn domain_sound(e: &[u8]) -> bool
+// Whether e is a domain pattern; names: whether every byte of it may stand in a name.
+fn domain_sound(e: &[u8], names: bool) -> bool
+    requires { ⌜ names ≡ all isNameByte (now e) ⌝ }
     ensures { λ r. ⌜ r ≡ isSome (domainPattern (now (e .entry))) ⌝ }
 {
     if e.len() < 2 {
@@ -215,7 +217,7 @@ fn domain_sound(e: &[u8]) -> bool
     if 255 < e.len() {
         return false;
     }
-    is_name(e)
+    names
 }
 
 // Whether the domain pattern e matches a known name: a longer one that ends in it.
@@ -223,14 +225,15 @@ fn domain_covers(e: &[u8], name: &[u8]) -> bool
     ensures { λ r. ⌜ r ≡ domainCovers (now (e .entry)) (now (name .entry)) ⌝ }
 {
     if text::ends_with_fold(name, e) {
-        domain_sound(e)
+        domain_sound(e, is_name(e))
     } else {
         false
     }
 }
 
-// Whether e is a name that a pattern may be.
-fn plain_sound(e: &[u8]) -> bool
+// Whether e is a name that a pattern may be; names: whether every byte of it may stand in a name.
+fn plain_sound(e: &[u8], names: bool) -> bool
+    requires { ⌜ names ≡ all isNameByte (now e) ⌝ }
     ensures { λ r. ⌜ r ≡ isSome (namePattern (now (e .entry))) ⌝ }
 {
     if e.len() == 0 {
@@ -243,7 +246,7 @@ fn plain_sound(e: &[u8]) -> bool
     if e[last] == 46 {
         return false;
     }
-    is_name(e)
+    names
 }
 
 // Whether the name pattern e matches a known name: an equal one.
@@ -251,36 +254,44 @@ fn plain_covers(e: &[u8], name: &[u8]) -> bool
     ensures { λ r. ⌜ r ≡ plainCovers (now (e .entry)) (now (name .entry)) ⌝ }
 {
     if equal_fold(e, name) {
-        plain_sound(e)
+        plain_sound(e, is_name(e))
     } else {
         false
     }
 }
 
-// Whether the domain pattern e matches.
-fn domain_matches(e: &[u8], host: Host, name: &[u8]) -> bool
-    ensures { λ r. ⌜ r ≡ matchesPattern (domainPattern (now (e .entry))) (endpoint host (now (name .entry))) ⌝ }
+// Whether the domain pattern e matches, if it is looked at. A name that is not known is not read.
+fn domain_matches(e: &[u8], look: bool, host: Host, name: &[u8]) -> bool
+    ensures { λ r. ⌜ r ≡ (look && matchesPattern (domainPattern (now (e .entry))) (endpoint host (now (name .entry)))) ⌝ }
 {
-    name_known(host) & domain_covers(e, name)
+    if look & name_known(host) {
+        domain_covers(e, name)
+    } else {
+        false
+    }
 }
 
-// Whether the name pattern e matches.
-fn plain_matches(e: &[u8], host: Host, name: &[u8]) -> bool
-    ensures { λ r. ⌜ r ≡ matchesPattern (namePattern (now (e .entry))) (endpoint host (now (name .entry))) ⌝ }
+// Whether the name pattern e matches, if it is looked at. A name that is not known is not read.
+fn plain_matches(e: &[u8], look: bool, host: Host, name: &[u8]) -> bool
+    ensures { λ r. ⌜ r ≡ (look && matchesPattern (namePattern (now (e .entry))) (endpoint host (now (name .entry)))) ⌝ }
 {
-    name_known(host) & plain_covers(e, name)
+    if look & name_known(host) {
+        plain_covers(e, name)
+    } else {
+        false
+    }
 }
 
 // Whether e, no wildcard, is a pattern.
 fn form_sound(e: &[u8]) -> bool
     ensures { λ r. ⌜ r ≡ isSome (formPattern (formOf (now (e .entry))) (now (e .entry))) ⌝ }
 {
-    let f = read_form(e);
+    let f = read_form(e, is_dotted(e));
     match f {
-        Form::Domain => domain_sound(e),
+        Form::Domain => domain_sound(e, is_name(e)),
         Form::Bracket => bracket_sound(e),
         Form::Dotted => dotted_sound(e),
-        Form::Plain => plain_sound(e),
+        Form::Plain => plain_sound(e, is_name(e)),
     }
 }
 
@@ -288,12 +299,33 @@ fn form_sound(e: &[u8]) -> bool
 fn form_matches(e: &[u8], host: Host, name: &[u8]) -> bool
     ensures { λ r. ⌜ r ≡ matchesPattern (formPattern (formOf (now (e .entry))) (now (e .entry))) (endpoint host (now (name .entry))) ⌝ }
 {
-    let f = read_form(e);
+    let f = read_form(e, is_dotted(e));
     match f {
-        Form::Domain => domain_matches(e, host, name),
+        Form::Domain => domain_matches(e, true, host, name),
         Form::Bracket => bracket_matches(e, host),
         Form::Dotted => dotted_matches(e, host),
-        Form::Plain => plain_matches(e, host, name),
+        Form::Plain => plain_matches(e, true, host, name),
+    }
+}
+
+// Whether e, no wildcard, is a pattern and, if it is looked at, matches.
+fn form_seen(e: &[u8], names: bool, dotted: bool, look: bool, host: Host, name: &[u8]) -> HostSeen
+    requires { ⌜ names ≡ all isNameByte (now e) ⌝ }
+    requires { ⌜ dotted ≡ all isDottedByte (now e) ⌝ }
+    ensures { λ r. ⌜ r ≡ patternSeen look (formPattern (formOf (now (e .entry))) (now (e .entry))) (endpoint host (now (name .entry))) ⌝ }
+{
+    let f = read_form(e, dotted);
+    match f {
+        Form::Domain => HostSeen {
+            sound: domain_sound(e, names),
+            matches: domain_matches(e, look, host, name),
+        },
+        Form::Bracket => bracket_seen(e, look, host),
+        Form::Dotted => dotted_seen(e, look, host),
+        Form::Plain => HostSeen {
+            sound: plain_sound(e, names),
+            matches: plain_matches(e, look, host, name),
+        },
     }
 }
 
@@ -324,5 +356,45 @@ pub fn host_matches(e: &[u8], host: Host, name: &[u8]) -> bool
         Wildcard::Known => is_known(host),
         Wildcard::Unknown => is_unknown(host),
         Wildcard::Paranoid => name_paranoid(host),
+    }
+}
+
+// Whether e is a host pattern and, if it is looked at, matches the host: both in one reading, where it is known whether every byte of e may
+// stand in a name, and whether every one may stand in a dotted pattern.
+pub fn host_seen(
+    e: &[u8],
+    names: bool,
+    dotted: bool,
+    look: bool,
+    host: Host,
+    name: &[u8],
+) -> HostSeen
+    requires { ⌜ names ≡ all isNameByte (now e) ⌝ }
+    requires { ⌜ dotted ≡ all isDottedByte (now e) ⌝ }
+    ensures { λ r. ⌜ r ≡ patternSeen look (hostPattern (now (e .entry))) (endpoint host (now (name .entry))) ⌝ }
+{
+    let w = read_wildcard(e);
+    match w {
+        Wildcard::Nothing => form_seen(e, names, dotted, look, host, name),
+        Wildcard::All => HostSeen {
+            sound: true,
+            matches: look,
+        },
+        Wildcard::Local => HostSeen {
+            sound: true,
+            matches: look & is_local(host, name),
+        },
+        Wildcard::Known => HostSeen {
+            sound: true,
+            matches: look & is_known(host),
+        },
+        Wildcard::Unknown => HostSeen {
+            sound: true,
+            matches: look & is_unknown(host),
+        },
+        Wildcard::Paranoid => HostSeen {
+            sound: true,
+            matches: look & name_paranoid(host),
+        },
     }
 }

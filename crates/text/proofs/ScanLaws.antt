@@ -74,6 +74,14 @@ module _ {e : List ℕ → List ℕ → Bool} {k : ℕ → ℕ} (by : ByBytes e 
     pub agrees : x ≡ y → e a b ≡ e (drop (i + 1) a) (drop (i + 1) b)
     agrees q = step ∙ rw (eq-eqb x y q)
 
+  -- the same where the bytes were compared by k before
+  module _ (h : i < length a) (q : Bool) (is-q : q ≡ eqb (k (getD a i 0)) (k (getD b i 0))) where
+    pub told-differ : q ≡ false → false ≡ e a b
+    told-differ f = sym (step h (k (getD a i 0)) (k (getD b i 0)) refl refl ∙ rw (← is-q, f))
+
+    pub told-agree : q ≡ true → e a b ≡ e (drop (i + 1) a) (drop (i + 1) b)
+    told-agree f = step h (k (getD a i 0)) (k (getD b i 0)) refl refl ∙ rw (← is-q, f)
+
   pub all-agree : length a ≤ i → true ≡ e a b
   all-agree h = let l : length b ≤ i = omega arith in sym (so-far ∙ rw (drop-of-length-le a h, drop-of-length-le b l) (by .ended))
 

@@ -2,7 +2,7 @@
 ghost use mathlib.Core.Path.{_≡_};
 ghost use mathlib.Core.Bool.{_&&_};
 ghost use Prim.Native.Nat.{_+_, _-_, _≤_};
-ghost use lib.Dec.{ltb};
+ghost use lib.Dec.{eqb, ltb};
 ghost use lib.ListN.{length, drop};
 ghost use Rattle.text.specs.Text.{isDigit, isLetter};
 ghost use Rattle.text.specs.Text.{lower as lowerOf, equal as equalTo, equalFold};
@@ -59,6 +59,16 @@ pub fn equal(a: &[u8], b: &[u8]) -> bool
     true
 }
 
+// Whether two bytes are equal but for ASCII case. Most that are equal are the same byte.
+fn same_letter(x: u8, y: u8) -> bool
+    ensures { λ r. ⌜ r ≡ eqb (lowerOf x) (lowerOf y) ⌝ }
+{
+    if x == y {
+        return true;
+    }
+    lower(x) == lower(y)
+}
+
 // Whether two texts are equal but for ASCII case.
 pub fn equal_fold(a: &[u8], b: &[u8]) -> bool
     ensures { λ r. ⌜ r ≡ equalFold (now (a .entry)) (now (b .entry)) ⌝ }
@@ -68,10 +78,11 @@ pub fn equal_fold(a: &[u8], b: &[u8]) -> bool
     }
     let mut i = 0;
     while i < a.len() {
-        if lower(a[i]) != lower(b[i]) {
+        if same_letter(a[i], b[i]) {
+            i += 1;
+        } else {
             return false;
         }
-        i += 1;
     }
     true
 }

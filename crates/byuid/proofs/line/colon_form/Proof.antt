@@ -6,14 +6,14 @@ use Rattle.byuid.proofs.LineLaws.{colon-mark, colon-no-mark}
 use Rattle.byuid.proofs.line.colon_form.Statement.{statement}
 use Rattle.byuid.proofs.line.colon_form.Tie as tie
 
-slice-aggregate-net-holds : tie.Need-slice-aggregate-net-holds
-slice-aggregate-net-holds c = sym (length-take-le _ _ (search needs))
+slice-aggregate-net-holds-v4 : tie.Need-slice-aggregate-net-holds-v4
+slice-aggregate-net-holds-v4 c = sym (length-take-le _ _ (search needs))
 
 pub colon-form-spec : {M : Type 1} → statement M
 colon-form-spec =
     let facts = tie.spec
     (λ c κs. search needs)
-    slice-aggregate-net-holds
+    slice-aggregate-net-holds-v4
     (λ c κs. search needs)
     (λ c. search needs)
     (λ c. search needs)

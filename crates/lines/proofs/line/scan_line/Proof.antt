@@ -3,7 +3,7 @@
 use Prim.Native.Nat.{_-_}
 use lib.ListN.{length}
 use borrow.Author.Needs.{needs}
-use Rattle.lines.proofs.LineLaws.{Scanning, scanning-start, scanning-plain, scanning-pair, scanning-stop, scanning-other, scanning-end, scanLine-bounds}
+use Rattle.lines.proofs.LineLaws.{Scanning, scanning-after, scanning-plain, scanning-pair, scanning-stop, scanning-other, scanning-end, scanLine-bounds}
 use Rattle.lines.proofs.line.scan_line.Statement.{statement}
 use Rattle.lines.proofs.line.scan_line.Tie as tie
 
@@ -18,7 +18,8 @@ scan-line-spec =
     let facts = tie.spec
     Inv-loop
     μ-loop
-    (λ c. search (scanning-start, needs))
+    (λ c κs. search needs)
+    (λ c. search (scanning-after, needs))
     (λ c. search needs)
     (λ c. search needs)
     (λ c. search needs)

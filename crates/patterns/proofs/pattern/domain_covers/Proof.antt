@@ -9,6 +9,7 @@ domain-covers-spec =
     let facts = tie.spec
     (λ c κs. search needs)
     (λ c κs. search needs)
+    (λ c κs. search needs)
     (λ c. search (domainCovers-ends, needs))
     (λ c. search (domainCovers-differs, needs)) in
     tie.close facts

@@ -1,10 +1,14 @@
 -- `patterns::pattern::domain_matches` meets its contract. A known name that is covered. Assumes nothing.
 use borrow.Author.Needs.{needs}
-use Rattle.patterns.proofs.PatternLaws.{domainPattern-matches}
+use Rattle.patterns.proofs.SeenLaws.{domain-known, domain-unknown}
 use Rattle.patterns.proofs.pattern.domain_matches.Statement.{statement}
 use Rattle.patterns.proofs.pattern.domain_matches.Tie as tie
 
 pub domain-matches-spec : {M : Type 1} → statement M
 domain-matches-spec =
-    let facts = tie.spec (λ c κs. search needs) (λ c κs. search needs) (λ c. search (domainPattern-matches, needs)) in
-    tie.close facts
+    tie.close
+    (tie.spec
+    (λ c κs. search needs)
+    (λ c κs. search needs)
+    (λ c. search (domain-known, needs))
+    (λ c. search (domain-unknown, needs)))

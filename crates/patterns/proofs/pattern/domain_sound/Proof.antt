@@ -9,6 +9,5 @@ domain-sound-spec =
     let facts = tie.spec
     (λ c. search (domainPattern-short, needs))
     (λ c. search (domainPattern-long, needs))
-    (λ c κs. search needs)
     (λ c. search (domainPattern-fits, needs)) in
     tie.close facts

@@ -11,6 +11,7 @@ pub form-matches-spec : {M : Type 1} → statement M
 form-matches-spec =
     let facts = tie.spec
     (λ c κs. search needs)
+    (λ c κs. search needs)
     (λ c. search needs)
     (λ c κs. search needs)
     (λ c. search needs)

@@ -8,7 +8,9 @@ pub form-sound-spec : {M : Type 1} → statement M
 form-sound-spec =
     let facts = tie.spec
     (λ c κs. search needs)
+    (λ c κs. search needs)
     (λ c. search needs)
+    (λ c κs. search needs)
     (λ c κs. search needs)
     (λ c. search needs)
     (λ c κs. search needs)
@@ -16,8 +18,10 @@ form-sound-spec =
     (λ c κs. search needs)
     (λ c. search needs)
     (λ c κs. search needs)
-    (λ c. formPattern-sound _ _ _ (c .before .before .before .read-form .ensures) (c .before .enum-told .given .1) _ (c .domain-sound .ensures))
+    (λ c κs. search needs)
+    (λ c. formPattern-sound _ _ _ (c .before .before .before .before .read-form .ensures) (c .before .before .enum-told .given .1) _ (c .domain-sound .ensures))
     (λ c. formPattern-sound _ _ _ (c .before .before .before .read-form .ensures) (c .before .enum-told2 .given .1) _ (c .bracket-sound .ensures))
     (λ c. formPattern-sound _ _ _ (c .before .before .before .read-form .ensures) (c .before .enum-told3 .given .1) _ (c .dotted-sound .ensures))
-    (λ c. formPattern-sound _ _ _ (c .before .before .before .read-form .ensures) (c .before .enum-told4 .given .1) _ (c .plain-sound .ensures)) in
+    (λ c.
+    formPattern-sound _ _ _ (c .before .before .before .before .read-form .ensures) (c .before .before .enum-told4 .given .1) _ (c .plain-sound .ensures)) in
     tie.close facts

@@ -9,6 +9,7 @@ plain-covers-spec =
     let facts = tie.spec
     (λ c κs. search needs)
     (λ c κs. search needs)
+    (λ c κs. search needs)
     (λ c. search (plainCovers-same, needs))
     (λ c. search (plainCovers-differs, needs)) in
     tie.close facts

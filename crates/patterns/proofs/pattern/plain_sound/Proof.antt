@@ -12,6 +12,5 @@ plain-sound-spec =
     (λ c. search needs)
     (λ c. search needs)
     (λ c. search (namePattern-dot, needs))
-    (λ c κs. search needs)
     (λ c. search (namePattern-fits, needs)) in
     tie.close facts

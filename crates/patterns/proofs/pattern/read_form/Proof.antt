@@ -11,7 +11,6 @@ read-form-spec =
     (λ c. search needs)
     (λ c. search (formOf-domain, needs))
     (λ c. search (formOf-bracket, needs))
-    (λ c κs. search needs)
     (λ c. search (formOf-dotted, needs))
     (λ c. search (formOf-plain, needs)) in
     tie.close facts

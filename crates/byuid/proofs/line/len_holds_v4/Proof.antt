@@ -1,0 +1,19 @@
+-- `byuid::line::len_holds_v4` meets its contract. A net holds the numbers that agree with its first in as many bits: one law over the width, here 32.
+-- Assumes nothing.
+use borrow.Author.Needs.{needs}
+use Rattle.byuid.proofs.NumberLaws.{len-le, len-nothing, len-clear, len-set}
+use Rattle.byuid.proofs.line.len_holds_v4.Statement.{statement}
+use Rattle.byuid.proofs.line.len_holds_v4.Tie as tie
+
+pub len-holds-v4-spec : {M : Type 1} → statement M
+len-holds-v4-spec =
+    tie.close
+    (tie.spec
+    (λ c κs. search needs)
+    (λ c. search needs)
+    (λ c. search needs)
+    (λ c κs. search (len-le, needs))
+    (λ c κs. search (len-le, needs))
+    (λ c. search (len-nothing, needs))
+    (λ c. search (len-clear, needs))
+    (λ c. search (len-set, needs)))
