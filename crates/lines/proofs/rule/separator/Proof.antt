@@ -3,7 +3,7 @@
 use Prim.Native.Nat.{_-_}
 use borrow.Author.Needs.{needs}
 use lib.ListN.{length}
-use Rattle.lines.proofs.RuleLaws.{Searched, searched-none, searched-byte, searched-bracket, separator-here, separator-end}
+use Rattle.lines.proofs.RuleLaws.{Searched, searched-after, searched-byte, searched-bracket, separator-here, separator-end}
 use Rattle.lines.proofs.rule.separator.Statement.{statement}
 use Rattle.lines.proofs.rule.separator.Tie as tie
 
@@ -19,7 +19,8 @@ separator-spec =
     (tie.spec
     Inv-loop
     μ-loop
-    (λ c. search (searched-none, needs))
+    (λ c κs. search needs)
+    (λ c. search (searched-after, needs))
     (λ c. search needs)
     (λ c. search (separator-here, needs))
     (λ c. search needs)
