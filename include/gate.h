@@ -20,10 +20,10 @@
  *
  * Requests. The same seventeen arguments describe a request to gate_verdict, gate_sheet_verdict and gate_expand:
  *   daemon         1 to 64 bytes
- *   client_state   enum gate_name; client_name is 1 to 255 bytes where it is known, and says nothing otherwise
+ *   client_state   enum gate_name; client_name is 1 to 255 bytes where it is known, and not looked at otherwise
  *   client_kind    enum gate_kind, with client_high and client_low (see there)
  *   server_..      the same for the server's end of the connection
- *   user           enum gate_user; user_name is 1 to 64 bytes where it is known, and says nothing otherwise
+ *   user           enum gate_user; user_name is 1 to 64 bytes where it is known, and not looked at otherwise
  * Names may hold any bytes. What is not among these sizes and numbers is refused by GATE_BAD_REQUEST. */
 #ifndef GATE_H
 #define GATE_H

@@ -1,7 +1,9 @@
 /* Every export, called as the inetd calls it, with an answer and with refusals. All memory that a call is lent stands in one struct,
  * which is compared whole with what it should hold after the call. */
+#define _GNU_SOURCE
 #include <stdio.h>
 #include <string.h>
+#include <sys/mman.h>
 #include "gate.h"
 
 struct text {
@@ -291,6 +293,28 @@ static void rooms(void) {
     expect("the longest address", gate_write_address(out, GATE_ADDRESS_ROOM, GATE_IPV6, UINT64_MAX, UINT64_MAX).count == GATE_ADDRESS_ROOM);
 }
 
+/* A name that is not known is not read: its bytes may be on a page that can't be. */
+static void unread(void) {
+    void *page = mmap(NULL, 4096, PROT_NONE, MAP_PRIVATE | MAP_ANONYMOUS, -1, 0);
+    if (page == MAP_FAILED) {
+        expect("a page that can't be read", 0);
+        return;
+    }
+    const uint8_t *name = page;
+#define UNREAD(state, user) TEXT(daemon), state, GATE_IPV4, 0, 0x0a000001, name, 64, state, GATE_IPV6, 1, 2, name, 64, user, name, 64
+    begin();
+    SET(allow, "sshd@LOCAL, sshd@.x, sshd@x: ALL\nsshd: LOCAL, .x.example, van7, x@.x, a@LOCAL: log\n");
+    SET(command, "%n%N%h%H%u%c%s");
+    for (uint32_t state = GATE_NAME_UNKNOWN; state < GATE_NAME_KNOWN; state++) {
+        for (uint32_t user = GATE_USER_NOT_FETCHED; user < GATE_USER_KNOWN; user++) {
+            expect("a verdict on names that are not known", gate_verdict(TEXT(allow), TEXT(deny), UNREAD(state, user)).word == GATE_DENIED);
+            expect("the same by a sheet", gate_sheet_verdict(TEXT(sheet), UNREAD(state, user)).word == GATE_DENIED);
+            expect("their expansion", gate_expand(OUT(sizeof m.out), TEXT(command), UNREAD(state, user), 7).number == GATE_ANSWERED);
+        }
+    }
+    munmap(page, 4096);
+}
+
 int main(void) {
     verdicts();
     byuid();
@@ -302,6 +326,7 @@ int main(void) {
     nulls();
     null_answers();
     rooms();
+    unread();
     if (!failed)
         printf("calls: all as expected\n");
     return failed;

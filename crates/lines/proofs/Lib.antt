@@ -1,3 +1,4 @@
+pub mod BlockLaws
 pub mod LineLaws
 pub mod RuleLaws
 pub mod CommandLaws

@@ -6,11 +6,11 @@
 --   length-join-line, line-noNewline, join-line, hasBadByte-line   what the scan tells of the line
 -- Assumes nothing.
 use Prim.Native.Nat.{ℕ, zero, suc, _+_, _-_, _*_, _<_, _≤_}
-use mathlib.Core.Bool.{Bool, true, false, not, _&&_, _||_, or-false, or-true, and-true as and-true-right, and-false as and-false-right, and-assoc, true≢false}
+use mathlib.Core.Bool.{Bool, true, false, not, _&&_, _||_, or-false, or-true, and-true as and-true-right, and-assoc, true≢false}
 use mathlib.Core.List.{List, [], _∷_, _++_, append-nil, append-assoc, reverse-append}
 use mathlib.Core.Option.{Option, none}
 use mathlib.Core.Path.{_≡_, refl, sym, ap, ap₂, _∙_}
-use native.Mathlib.Nat.{add-zero, zero-add, suc-add, sub-self, add-assoc, add-sub-cancel, add-sub-cancel-left}
+use native.Mathlib.Nat.{add-zero, zero-add, add-assoc, add-sub-cancel, add-sub-cancel-left}
 use native.Mathlib.Numerals.{add-one, add-two}
 use native.Mathlib.Omega.{arith}
 use borrow.Author.Tests.{eqb-true, eq-eqb, ne-eqb, not-true, ltb-true, ltb-false, leb-true, lt-ltb, le-ltb}
@@ -22,9 +22,11 @@ use Rattle.text.specs.Basics.{if_then_else_, any, all, first, _orElse_}
 use Rattle.text.specs.Text.{among, firstAmong, lastAmong, split, consHead}
 use Rattle.text.proofs.BasicLaws.{and-true, all-take, all-drop}
 use Rattle.lines.specs.Line.{join, Line, line, continued, logicalLines, lines, hasBadByte}
-use Rattle.lines.specs.Scan.{printable, printableFront, PrintableTo, span, isLineByte, scan, scanLine, spanAt, SpanBounds, slashBefore, pairAt}
+use Rattle.lines.specs.Scan.{span, isLineByte, scan, scanLine, spanAt, SpanBounds, slashBefore, pairAt}
+use Rattle.lines.specs.Block.{printable, frontAll, PassedTo}
 use Rattle.lines.specs.declared.line.JoinedText.{JoinedText}
 use Rattle.lines.specs.declared.line.LineSpan.{LineSpan}
+use Rattle.lines.proofs.BlockLaws.{front-within}
 
 -- ## Joining
 
@@ -446,103 +448,19 @@ module _ {t : List ℕ} {start i j : ℕ} {c : Bool} (inv : Scanning t start i j
 
 -- ## Blocks of printable bytes
 
--- the loop that looks at all bytes, at i
-pub record Printing (s : List ℕ) (i : ℕ) (c : Bool) : Type 0 where
-  pub within : i ≤ length s
-  pub so-far : all printable s ≡ (c && all printable (drop i s))
-
-pub printing-start : (s : List ℕ) → Printing s 0 true
-printing-start s = record { within = omega arith; so-far = refl }
-
-module _ {s : List ℕ} {i : ℕ} {c : Bool} (inv : Printing s i c) where
-  pub printing-more : i < length s → Printing s (i + 1) (c && (leb 32 (getD s i 0) && leb (getD s i 0) 126))
-  unfolding all
-  printing-more h = record {
-    within = omega arith;
-    so-far = inv .so-far ∙ rw (add-one i, drop-cons s i 0 h) (sym (and-assoc c (printable (getD s i 0)) (all printable (drop (suc i) s))));
-  }
-
-  pub printing-end : length s ≤ i → c ≡ all printable s
-  unfolding all
-  printing-end h = sym (inv .so-far ∙ rw (drop-of-length-le s h) (and-true-right c))
-
-front-all : (n : ℕ) (l : List ℕ) → n ≤ length l → printableFront n l ≡ all printable (take n l)
-unfolding printableFront all
-front-all zero l h = refl
-front-all (suc n) [] h = absurd (omega arith)
-front-all (suc n) (x ∷ l) h = rw (front-all n l (omega arith))
-
-front-short : (n : ℕ) (l : List ℕ) → length l < n → printableFront n l ≡ false
-unfolding printableFront
-front-short zero l h = absurd (omega arith)
-front-short (suc n) [] h = refl
-front-short (suc n) (x ∷ l) h = rw (front-short n l (omega arith)) (and-false-right (printable x))
-
-module _ (t : List ℕ) (i : ℕ) where
-  pub block-none : length t < 16 → false ≡ printableFront 16 (drop i t)
-  block-none h = sym (front-short 16 (drop i t) (omega (arith, length-drop i t)))
-
-  pub block-short : 16 ≤ length t → length t - 16 < i → false ≡ printableFront 16 (drop i t)
-  block-short h k = sym (front-short 16 (drop i t) (omega (arith, length-drop i t)))
-
-  pub block-whole : 16 ≤ length t → i ≤ length t - 16 → (r : Bool) → r ≡ all printable (take (i + 16 - i) (drop i t)) → r ≡ printableFront 16 (drop i t)
-  block-whole h k r q =
-      q ∙ ap (λ (n : ℕ). all printable (take n (drop i t))) (add-sub-cancel-left i 16) ∙ sym (front-all 16 (drop i t) (omega (arith, length-drop i t)))
-
-front-both : (a b : ℕ) (l : List ℕ) → printableFront (a + b) l ≡ (printableFront a l && printableFront b (drop a l))
-unfolding printableFront
-front-both zero b l = rw (zero-add b)
-front-both (suc a) b [] = rw (suc-add a b)
-front-both (suc a) b (x ∷ l) = rw (suc-add a b, front-both a b l) (sym (and-assoc (printable x) (printableFront a l) (printableFront b (drop a l))))
-
-front-within : (n : ℕ) (l : List ℕ) → printableFront n l ≡ true → n ≤ length l
-unfolding printableFront
-front-within n l e = by (ltb (length l) n) refl
-  where
-    by : (b : Bool) → ltb (length l) n ≡ b → n ≤ length l
-    by true q = absurd (true≢false (sym e ∙ front-short n l (ltb-true (length l) n q)))
-    by false q = ltb-false (length l) n q
-
--- a block that is passed lies within the text
-module _ (t : List ℕ) (i : ℕ) (x : Bool) (is-x : x ≡ printableFront 16 (drop i t)) (e : x ≡ true) where
-  block-within : i + 16 ≤ length t
-  block-within = omega (arith, front-within 16 (drop i t) (sym is-x ∙ e), length-drop i t)
-
-  pub block-fits : length t < 18446744073709551616 → i + 16 < 18446744073709551616
-  block-fits h = omega (arith, block-within)
-
-  pub block-less : length t - (i + 16) < length t - i
-  block-less = omega (arith, block-within)
-
-pub printable-start : (t : List ℕ) (start : ℕ) → start ≤ length t → PrintableTo t start start
-unfolding printableFront
-printable-start t start h = record { from = omega arith; within = h; front = rw (sub-self start) }
-
-pub printable-more : (t : List ℕ) (start i : ℕ) → PrintableTo t start i → (x : Bool) → x ≡ printableFront 16 (drop i t) → x ≡ true
-    → PrintableTo t start (i + 16)
-printable-more t start i p x is-x e =
-    let b : printableFront 16 (drop i t) ≡ true = sym is-x ∙ e in
-    let k : start + (i - start) ≡ i = omega (arith, p .from) in
-    let d : drop (i - start) (drop start t) ≡ drop i t = drop-drop (i - start) start t ∙ ap (λ (k : ℕ). drop k t) k in
-    let n : i + 16 - start ≡ (i - start) + 16 = omega (arith, p .from) in
-    record {
-      from = omega (arith, p .from);
-      within = omega (arith, p .within, front-within 16 (drop i t) b, length-drop i t);
-      front = rw (n, front-both (i - start) 16 (drop start t), p .front, d) b;
-    }
-
 -- a scan that passes n printable bytes
-scanning-front : (n : ℕ) (t : List ℕ) (start i j : ℕ) (c : Bool) → Scanning t start i j c → printableFront n (drop i t) ≡ true → Scanning t start (i + n) j c
-unfolding printableFront
+scanning-front : (n : ℕ) (t : List ℕ) (start i j : ℕ) (c : Bool) → Scanning t start i j c → frontAll printable n (drop i t) ≡ true
+    → Scanning t start (i + n) j c
+unfolding frontAll
 scanning-front zero t start i j c inv e = rw (add-zero i) inv
 scanning-front (suc n) t start i j c inv e =
-    let h : i < length t = omega (arith, front-within (suc n) (drop i t) e, length-drop i t) in
-    let f : (printable (getD t i 0) && printableFront n (drop (suc i) t)) ≡ true = rw (drop-cons t i 0 h) at e in
-    let g : printableFront n (drop (i + 1) t) ≡ true = rw (add-one i) (and-true (printable (getD t i 0)) (printableFront n (drop (suc i) t)) f .1) in
+    let h : i < length t = omega (arith, front-within printable (suc n) (drop i t) e, length-drop i t) in
+    let f : (printable (getD t i 0) && frontAll printable n (drop (suc i) t)) ≡ true = rw (drop-cons t i 0 h) at e in
+    let g : frontAll printable n (drop (i + 1) t) ≡ true = rw (add-one i) (and-true (printable (getD t i 0)) (frontAll printable n (drop (suc i) t)) f .1) in
     let m : i + suc n ≡ i + 1 + n = omega arith in
-    rw m (scanning-front n t start (i + 1) j c (scanning-plain inv h (and-true (printable (getD t i 0)) (printableFront n (drop (suc i) t)) f .0)) g)
+    rw m (scanning-front n t start (i + 1) j c (scanning-plain inv h (and-true (printable (getD t i 0)) (frontAll printable n (drop (suc i) t)) f .0)) g)
 
-pub scanning-after : (t : List ℕ) (start i : ℕ) → start ≤ length t → PrintableTo t start i → Scanning t start i 0 true
+pub scanning-after : (t : List ℕ) (start i : ℕ) → start ≤ length t → PassedTo printable t start i → Scanning t start i 0 true
 scanning-after t start i h p =
     let n : start + (i - start) ≡ i = omega (arith, p .from) in
     rw n at (scanning-front (i - start) t start start 0 true (scanning-start t start h) (p .front))

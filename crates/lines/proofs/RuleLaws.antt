@@ -1,26 +1,29 @@
 -- Laws of the separators and of the elements of a list, shaped as the calls and tests of the code hand their facts over.
 -- Assumes nothing.
-use Prim.Native.Nat.{ℕ, suc, _+_, _-_, _≤_, _<_}
-use native.Mathlib.Nat.{add-sub-cancel-left}
+use Prim.Native.Nat.{ℕ, zero, suc, _+_, _-_, _≤_, _<_}
+use native.Mathlib.Nat.{add-zero, add-sub-cancel-left}
 use native.Mathlib.Numerals.{add-one}
 use native.Mathlib.Omega.{arith}
 use mathlib.Core.Path.{_≡_, refl, sym, ap, _∙_}
-use mathlib.Core.Bool.{Bool, true, false}
+use mathlib.Core.Bool.{Bool, true, false, not, _&&_}
 use mathlib.Core.List.{List, [], _∷_}
 use mathlib.Core.Option.{Option, none, some}
 use lib.Dec.{ltb, eqb, leb·suc-suc}
 use lib.ListN.{length, take, drop, getD, length-drop, drop-of-length-le}
 use lib.Seq.{drop-cons, drop-drop, drop-length, take-all}
-use borrow.Author.Tests.{eqb-true, ltb-true, ltb-false, ne-eqb, lt-ltb, le-ltb}
+use borrow.Author.Tests.{eqb-true, eqb-false, not-true, ltb-true, ltb-false, ne-eqb, lt-ltb, le-ltb}
 use Rattle.text.specs.Basics.{if_then_else_, given, any}
 use Rattle.text.specs.Text.{among, split, consFirst}
 use Rattle.text.specs.Scan.{spanLen, indexOf}
+use Rattle.text.proofs.BasicLaws.{and-true}
 use Rattle.text.proofs.ScanLaws.{take-rest, spanLen-stop, spanLen-more}
+use Rattle.lines.specs.Block.{unmarked, frontAll, PassedTo}
 use Rattle.lines.specs.Line.{join}
 use Rattle.lines.specs.Rule.{splitSeparator, nonEmpty, elements, Rule, parseRule}
 use Rattle.lines.specs.Parts.{isSeparator, insideAfter, separatorIndex, afterSeparator, words, isParting, isElementByte, partingLength, elementLength}
 use Rattle.lines.specs.Parts.{elementSpan, firstElement, afterElement}
 use Rattle.lines.specs.declared.rule.ElementSpan.{ElementSpan}
+use Rattle.lines.proofs.BlockLaws.{front-within}
 
 -- ## The separators
 
@@ -98,6 +101,26 @@ module _ (s : List ℕ) (i : ℕ) (is-i : i ≡ separatorIndex false s) where
 
   pub splitSeparator-some : i < length s → splitSeparator false s ≡ some (take i s, drop (i + 1) s)
   splitSeparator-some l = rw (splitSeparator-index false s, ← is-i, lt-ltb i (length s) l, add-one)
+
+-- the search passes n bytes that are no mark
+searched-front : (n : ℕ) (s : List ℕ) (i : ℕ) → Searched s i → frontAll unmarked n (drop i s) ≡ true → Searched s (i + n)
+unfolding frontAll
+searched-front zero s i h e = rw (add-zero i) h
+searched-front (suc n) s i h e =
+    let l : i < length s = omega (arith, front-within unmarked (suc n) (drop i s) e, length-drop i s) in
+    let b : ℕ = getD s i 0 in
+    let f : (unmarked b && frontAll unmarked n (drop (suc i) s)) ≡ true = rw (drop-cons s i 0 l) at e in
+    let q : unmarked b ≡ true = and-true (unmarked b) (frontAll unmarked n (drop (suc i) s)) f .0 in
+    let g : frontAll unmarked n (drop (i + 1) s) ≡ true = rw (add-one i) (and-true (unmarked b) (frontAll unmarked n (drop (suc i) s)) f .1) in
+    let c : eqb b 58 ≡ false = not-true (eqb b 58) (and-true (not (eqb b 58)) (not (eqb b 91)) q .0) in
+    let o : eqb b 91 ≡ false = not-true (eqb b 91) (and-true (not (eqb b 58)) (not (eqb b 91)) q .1) in
+    let m : i + suc n ≡ i + 1 + n = omega arith in
+    rw m (searched-front n s (i + 1) (searched-byte s i h l (eqb-false b 58 c) (eqb-false b 91 o)) g)
+
+pub searched-after : (s : List ℕ) (i : ℕ) → PassedTo unmarked s 0 i → Searched s i
+searched-after s i p =
+    let n : 0 + (i - 0) ≡ i = omega arith in
+    rw n at (searched-front (i - 0) s 0 (searched-none s) (p .front))
 
 -- ## The parts of a rule
 

@@ -1,40 +1,23 @@
 -- Lines as the code finds them. Nothing here needs to be believed for the meaning of document 01: the public promises are stated over
 -- Line alone, and only inner contracts cite these definitions.
---   printableFront n t == n printable bytes stand at the front of t
 --   scan slash t    == the rest t of a logical line, slash saying whether a backslash stands before it
 --   scanLine t      == the first logical line of t, its end counted from the start of t
 --   spanAt i l      == l with its end counted from i bytes further to the left
 --   slashBefore t start i == a backslash stands in t before i, at start or after it
 --   pairAt t i      == a backslash stands in t at i, and a newline after it
 -- Assumes nothing: these are definitions.
-use Prim.Native.Nat.{ℕ, zero, suc, _+_, _-_, _*_, _≤_, _<_}
+use Prim.Native.Nat.{ℕ, suc, _+_, _-_, _*_, _≤_, _<_}
 use mathlib.Core.Bool.{Bool, true, false, not, _&&_, _||_}
 use mathlib.Core.List.{List, [], _∷_}
 use mathlib.Core.Path.{_≡_}
 use lib.Dec.{eqb, ltb}
-use lib.ListN.{length, drop, getD}
+use lib.ListN.{getD}
 use Rattle.text.specs.Basics.{if_then_else_}
 use Rattle.text.specs.Text.{inRange}
 use Rattle.lines.specs.declared.line.LineSpan.{LineSpan}
 
 abbrev pub span : ℕ → Bool → ℕ → Bool → LineSpan
 span e b j c = record { end = e; ended = b; joins = j; clean = c }
-
--- a byte that is passed without a look at what stands before it
-abbrev pub printable : ℕ → Bool
-printable b = inRange 32 126 b
-
--- n printable bytes stand at the front
-unfoldable pub printableFront : ℕ → List ℕ → Bool
-printableFront zero t = true
-printableFront (suc n) [] = false
-printableFront (suc n) (x ∷ t) = printable x && printableFront n t
-
--- all bytes of t from start up to i are printable
-pub record PrintableTo (t : List ℕ) (start i : ℕ) : Type 0 where
-  pub from : start ≤ i
-  pub within : i ≤ length t
-  pub front : printableFront (i - start) (drop start t) ≡ true
 
 -- a byte that a line other than a comment may hold
 abbrev pub isLineByte : ℕ → Bool

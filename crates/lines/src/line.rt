@@ -10,8 +10,9 @@ ghost use Prim.Native.Nat.{_≤_, _<_};
 ghost use lib.ListN.{length, drop};
 ghost use Rattle.text.specs.Basics.{all};
 ghost use Rattle.text.specs.Text.{among, firstAmong};
+ghost use Rattle.lines.specs.Block.{printable, frontAll, PassedTo};
 ghost use Rattle.lines.specs.Line.{join, hasBadByte};
-ghost use Rattle.lines.specs.Scan.{printable, printableFront, PrintableTo, spanAt, scanLine, SpanBounds, slashBefore, pairAt};
+ghost use Rattle.lines.specs.Scan.{spanAt, scanLine, SpanBounds, slashBefore, pairAt};
 
 // A logical line that was found: its end, whether a newline stands there, how many pairs of a backslash and a newline are dropped
 // from it, and whether every byte that remains is one that a line may hold.
@@ -44,7 +45,7 @@ fn is_printable(s: &[u8]) -> bool
 
 // Whether sixteen printable bytes stand from i on.
 fn printable_block(text: &[u8], i: usize) -> bool
-    ensures { λ r. ⌜ r ≡ printableFront 16 (drop i (now (text .entry))) ⌝ }
+    ensures { λ r. ⌜ r ≡ frontAll printable 16 (drop i (now (text .entry))) ⌝ }
 {
     if text.len() < 16 {
         return false;
@@ -59,7 +60,7 @@ fn printable_block(text: &[u8], i: usize) -> bool
 // The place after the blocks of printable bytes that stand from start on.
 fn printable_end(text: &[u8], start: usize) -> usize
     requires { ⌜ start ≤ length (now text) ⌝ }
-    ensures { λ r. ⌜ PrintableTo (now (text .entry)) start r ⌝ }
+    ensures { λ r. ⌜ PassedTo printable (now (text .entry)) start r ⌝ }
 {
     let mut i = start;
     while printable_block(text, i) {

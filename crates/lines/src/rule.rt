@@ -2,6 +2,9 @@
 ghost use mathlib.Core.Path.{_≡_};
 ghost use mathlib.Core.Bool.{false};
 ghost use Prim.Native.Nat.{_≤_};
+ghost use lib.ListN.{drop};
+ghost use Rattle.text.specs.Basics.{all};
+ghost use Rattle.lines.specs.Block.{unmarked, frontAll, PassedTo};
 ghost use Rattle.lines.specs.Rule.{isExcept};
 ghost use Rattle.lines.specs.Parts.{separatorIndex, afterSeparator, isParting, isElementByte, partingLength, elementLength};
 ghost use Rattle.lines.specs.Parts.{elementSpan, firstElement, afterElement};
@@ -12,12 +15,51 @@ pub struct ElementSpan {
     pub end: usize,
 }
 
-// The place of the first separator, the length where there is none.
+// Whether s has no colon and no opening bracket. No byte ends the loop, so that many are compared at once.
+fn is_unmarked(s: &[u8]) -> bool
+    ensures { λ r. ⌜ r ≡ all unmarked (now (s .entry)) ⌝ }
+{
+    let mut all = true;
+    let mut i = 0;
+    while i < s.len() {
+        let b = s[i];
+        all = all & ((b != 58) & (b != 91));
+        i += 1;
+    }
+    all
+}
+
+// Whether sixteen such bytes stand from i on.
+fn unmarked_block(s: &[u8], i: usize) -> bool
+    ensures { λ r. ⌜ r ≡ frontAll unmarked 16 (drop i (now (s .entry))) ⌝ }
+{
+    if s.len() < 16 {
+        return false;
+    }
+    if s.len() - 16 < i {
+        return false;
+    }
+    let end = i + 16;
+    is_unmarked(&s[i..end])
+}
+
+// The place after the blocks of such bytes that stand at the front.
+fn unmarked_end(s: &[u8]) -> usize
+    ensures { λ r. ⌜ PassedTo unmarked (now (s .entry)) 0 r ⌝ }
+{
+    let mut i = 0;
+    while unmarked_block(s, i) {
+        i += 16;
+    }
+    i
+}
+
+// The place of the first separator, the length where there is none: what holds no mark is passed by blocks, then each byte is looked at.
 pub fn separator(s: &[u8]) -> usize
     ensures place { λ r. ⌜ r ≡ separatorIndex false (now (s .entry)) ⌝ }
     ensures within { λ r. do ⌜ r ≤ (← ⟦s.len()⟧ .entry) ⌝ }
 {
-    let mut i = 0;
+    let mut i = unmarked_end(s);
     while i < s.len() {
         let b = s[i];
         if b == 58 {

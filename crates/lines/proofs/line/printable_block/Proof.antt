@@ -1,6 +1,7 @@
 -- `lines::line::printable_block` meets its contract: the block lies within the text, or it is none. Assumes nothing.
 use borrow.Author.Needs.{needs}
-use Rattle.lines.proofs.LineLaws.{block-none, block-short, block-whole}
+use Rattle.lines.specs.Block.{printable}
+use Rattle.lines.proofs.BlockLaws.{block-none, block-short, block-whole}
 use Rattle.lines.proofs.line.printable_block.Statement.{statement}
 use Rattle.lines.proofs.line.printable_block.Tie as tie
 
@@ -8,12 +9,12 @@ pub printable-block-spec : {M : Type 1} → statement M
 printable-block-spec =
     tie.close
     (tie.spec
-    (λ c. search (block-none, needs))
+    (λ c. search (block-none printable, needs))
     (λ c. search needs)
-    (λ c. search (block-short, needs))
+    (λ c. search (block-short printable, needs))
     (λ c. search needs)
     (λ c. search needs)
     (λ c. search needs)
     (λ c. search needs)
     (λ c κs. search needs)
-    (λ c. search (block-whole, needs)))
+    (λ c. search (block-whole printable, needs)))

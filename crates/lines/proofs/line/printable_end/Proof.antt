@@ -3,13 +3,13 @@
 use Prim.Native.Nat.{_-_}
 use lib.ListN.{length}
 use borrow.Author.Needs.{needs}
-use Rattle.lines.specs.Scan.{PrintableTo}
-use Rattle.lines.proofs.LineLaws.{block-fits, block-less, printable-start, printable-more}
+use Rattle.lines.specs.Block.{printable, PassedTo}
+use Rattle.lines.proofs.BlockLaws.{block-fits, block-less, passed-start, passed-more}
 use Rattle.lines.proofs.line.printable_end.Statement.{statement}
 use Rattle.lines.proofs.line.printable_end.Tie as tie
 
 abbrev Inv-loop : tie.InvT-loop
-Inv-loop text start i₀ i = PrintableTo text start i
+Inv-loop text start i₀ i = PassedTo printable text start i
 
 abbrev μ-loop : tie.MeasureT-loop
 μ-loop text start i₀ i = length text - i
@@ -20,9 +20,9 @@ printable-end-spec =
     (tie.spec
     Inv-loop
     μ-loop
-    (λ c. search (printable-start, needs))
+    (λ c. search (passed-start printable, needs))
     (λ c κs. search needs)
-    (λ c. record { fits = search (block-fits, needs) })
-    (λ c. search (block-less, needs))
-    (λ c. search (printable-more, needs))
+    (λ c. record { fits = search (block-fits printable, needs) })
+    (λ c. search (block-less printable, needs))
+    (λ c. search (passed-more printable, needs))
     (λ c. search needs))

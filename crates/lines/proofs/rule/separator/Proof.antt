@@ -3,7 +3,7 @@
 use Prim.Native.Nat.{_-_}
 use borrow.Author.Needs.{needs}
 use lib.ListN.{length}
-use Rattle.lines.proofs.RuleLaws.{Searched, searched-none, searched-byte, searched-bracket, separator-here, separator-end}
+use Rattle.lines.proofs.RuleLaws.{Searched, searched-after, searched-byte, searched-bracket, separator-here, separator-end}
 use Rattle.lines.proofs.rule.separator.Statement.{statement}
 use Rattle.lines.proofs.rule.separator.Tie as tie
 
@@ -15,11 +15,11 @@ abbrev μ-loop : tie.MeasureT-loop
 
 pub separator-spec : {M : Type 1} → statement M
 separator-spec =
-    tie.close
-    (tie.spec
+    let facts = tie.spec
     Inv-loop
     μ-loop
-    (λ c. search (searched-none, needs))
+    (λ c κs. search needs)
+    (λ c. search (searched-after, needs))
     (λ c. search needs)
     (λ c. search (separator-here, needs))
     (λ c. search needs)
@@ -32,4 +32,5 @@ separator-spec =
     (λ c. search (searched-bracket, needs))
     (λ c. search needs)
     (λ c. search (searched-byte, needs))
-    (λ c. search (separator-end, needs)))
+    (λ c. search (separator-end, needs)) in
+    tie.close facts
