@@ -618,6 +618,8 @@ def run_all():
 
 
 def main():
+    for number in (signal.SIGHUP, signal.SIGINT, signal.SIGTERM):
+        signal.signal(number, signal.SIG_DFL)  # whoever runs this may ignore them, and what is ignored stays so in a child
     try:
         run_all()
     finally:
