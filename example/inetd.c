@@ -151,27 +151,18 @@ static void log_refusal(const struct gate_request *request, uint32_t number, uin
     log_line(request, what);
 }
 
-/* Logs a verdict with its rule, and the rule's command as it would be run; 0 where the command can't be expanded. */
-static int log_verdict(const struct gate_request *request, const struct gate_answer *a, const uint8_t *sheet) {
+/* Logs a verdict with its rule, and the rule's command as it would be run. */
+static void log_verdict(const struct gate_request *request, const struct gate_command_answer *a, const char *command) {
     static char what[100 + GATE_EXPANSION_ROOM];
-    int n = snprintf(what, 100, "%s, %s line %llu", gate_word_text(a->word), a->file ? gate_section_text(a->file) : "no rule,",
-                     (unsigned long long)a->line);
-    if (a->len) {
-        n += snprintf(what + n, 100 - (size_t)n, ", would run: ");
-        struct gate_written w = gate_expand_for(what + n, GATE_EXPANSION_ROOM, sheet + a->place, (size_t)a->len, request, (uint32_t)getpid());
-        if (w.number != GATE_ANSWERED) {
-            log_refusal(request, w.number, w.section, w.line);
-            return 0;
-        }
-        what[(size_t)n + w.count] = 0;
-    }
+    snprintf(what, sizeof what, "%s, %s line %llu%s%.*s", gate_word_text(a->word), a->file ? gate_section_text(a->file) : "no rule,",
+             (unsigned long long)a->line, a->count ? ", would run: " : "", (int)a->count, command);
     log_line(request, what);
-    return 1;
 }
 
 /* Is the connection granted? Whatever is not answered "granted" is not. */
 static int granted(struct connection *c) {
     static uint8_t sheet[GATE_SHEET_LIMIT + 1];
+    static char command[GATE_EXPANSION_ROOM];
     char user[IDENT_LINE];
     struct gate_request request = gate_request_to(daemon_name, strlen(daemon_name));
     request.client = host_of(&c->client);
@@ -183,16 +174,18 @@ static int granted(struct connection *c) {
         log_line(&request, what);
         return 0;
     }
-    struct gate_answer a = gate_sheet_verdict_for(sheet, (size_t)len, &request);
+    uint32_t process = (uint32_t)getpid();
+    struct gate_command_answer a = gate_sheet_command_for(command, sizeof command, sheet, (size_t)len, &request, process);
     if (a.number == GATE_ANSWERED && a.word == GATE_ASK) {
         fetch_user(c, &request, user);
-        a = gate_sheet_verdict_for(sheet, (size_t)len, &request);
+        a = gate_sheet_command_for(command, sizeof command, sheet, (size_t)len, &request, process);
     }
     if (a.number != GATE_ANSWERED) {
         log_refusal(&request, a.number, a.section, a.line);
         return 0;
     }
-    return log_verdict(&request, &a, sheet) && a.word == GATE_GRANTED;
+    log_verdict(&request, &a, command);
+    return a.word == GATE_GRANTED;
 }
 
 /* Connections */

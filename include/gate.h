@@ -15,10 +15,12 @@
  * out must overlap no input. A refusal writes nothing.
  *
  * Refusals. Every answer begins with number, section and line. Number 0 is an answer; any other number is a refusal, and then all
- * members but these three are 0. Where several refusals hold, the one given is the first in the order of document 01: those of the
- * sheet, of the texts or of the command, then 13, then 14.
+ * members but these three are 0, and the kind of an address is GATE_NO_ADDRESS: nothing of it can be taken for an answer. Where several
+ * refusals hold, the one given is the first in the order of document 01: those of the sheet, of the texts or of the command, then 13,
+ * then 14.
  *
- * Requests. The same seventeen arguments describe a request to gate_verdict, gate_sheet_verdict and gate_expand:
+ * Requests. The same seventeen arguments describe a request to gate_verdict, gate_sheet_verdict, gate_command, gate_sheet_command and
+ * gate_expand:
  *   daemon         1 to 64 bytes
  *   client_state   enum gate_name; client_name is 1 to 255 bytes where it is known, and not looked at otherwise
  *   client_kind    enum gate_kind, with client_high and client_low (see there)
@@ -35,7 +37,7 @@
 extern "C" {
 #endif
 
-#define GATE_VERSION "1.0.0"
+#define GATE_VERSION "1.1.0"
 
 /* Numbers: of an answer, or of a refusal. */
 enum gate_number {
@@ -87,12 +89,12 @@ enum gate_section {
 #define GATE_ADDRESS_ROOM 39
 #define GATE_EXPANSION_ROOM (GATE_LINE_LIMIT / 2 * (GATE_USER_LIMIT + 1 + GATE_NAME_LIMIT) + GATE_LINE_LIMIT % 2)
 
-/* The stack that any call needs, in bytes, with a margin; the caller's own frames come on top. On x86-64 the most is some 52,000, by a
+/* The stack that any call needs, in bytes, with a margin; the caller's own frames come on top. On x86-64 the most is some 52,500, by a
  * verdict on a line of 2,047 bytes that is `a:a EXCEPT a EXCEPT a ..`: each of its 227 EXCEPTs takes a frame of 208 bytes. Only the
- * walks through client and daemon lists call themselves; all calls but the two verdicts stay under 5,000. It was found in two ways that
- * agree: tests/stack.py adds up the frames of the archive's functions along the deepest path of calls, for any input, and tests/stack.c
- * paints the stack of a thread whose whole stack is this, and makes every call on the worst inputs known. The margin also covers the
- * first call of memcpy through a dynamic linker (some 3,000). */
+ * walks through client and daemon lists call themselves; all calls but the verdicts, with or without their command, stay under 5,000.
+ * It was found in two ways that agree: tests/stack.py adds up the frames of the archive's functions along the deepest path of calls, for
+ * any input, and tests/stack.c paints the stack of a thread whose whole stack is this, and makes every call on the worst inputs known.
+ * The margin also covers the first call of memcpy through a dynamic linker (some 3,000). */
 #define GATE_STACK 65536
 
 /* Words of a decision. */
@@ -124,7 +126,8 @@ enum gate_user {
 enum gate_kind {
     GATE_ADDRESS_UNKNOWN = 0, /* high and low are not looked at */
     GATE_IPV4 = 4,            /* the 32 bits in low; high is not looked at */
-    GATE_IPV6 = 6             /* the first 64 bits in high, the last 64 in low */
+    GATE_IPV6 = 6,            /* the first 64 bits in high, the last 64 in low */
+    GATE_NO_ADDRESS = 255     /* what a text that is no address is read as; every call that takes an address refuses it by 13 */
 };
 
 /* Protocols of a bind, as IP numbers them. */
@@ -142,6 +145,15 @@ struct gate_answer {
     uint32_t file;    /* of a verdict: the file of the deciding rule, GATE_ALLOW or GATE_DENY; else 0 */
     uint64_t place;   /* where the rule's raw command begins: in that file's text (gate_verdict), in the sheet (gate_sheet_verdict) */
     uint64_t len;     /* its length; 0 where there is no command, and then place says nothing */
+};
+
+/* A verdict, and its rule's command written for the request. As struct gate_answer, and: */
+struct gate_command_answer {
+    uint32_t number, section;
+    uint64_t line;
+    uint32_t word, file;
+    uint64_t place, len;
+    uint64_t count; /* bytes written; 0 where there is no command: at GATE_ASK too, and where no rule decided */
 };
 
 /* What a check alone answers. */
@@ -167,11 +179,11 @@ struct gate_parts {
     uint64_t portacl_place, portacl_len;
 };
 
-/* An address that was read. Of a refused text kind is 0, as of an unknown address: look at number first, or use gate_host_read. */
+/* An address that was read. */
 struct gate_address {
     uint32_t number, section;
     uint64_t line;
-    uint32_t kind; /* GATE_IPV4 or GATE_IPV6 */
+    uint32_t kind; /* GATE_IPV4 or GATE_IPV6; of a refused text GATE_NO_ADDRESS, which is not that of an unknown address */
     uint64_t high, low;
 };
 
@@ -192,6 +204,26 @@ struct gate_answer gate_sheet_verdict(const uint8_t *sheet, size_t sheet_len,
                                       uint32_t server_state, uint32_t server_kind, uint64_t server_high, uint64_t server_low,
                                       const uint8_t *server_name, size_t server_name_len,
                                       uint32_t user, const uint8_t *user_name, size_t user_name_len);
+
+/* gate_verdict, and the command of the rule that decided, written to out as gate_expand writes it for the same request, process being its
+ * %p: one call decides and expands. Where the verdict is refused, that is the answer. Where the command has no room in out it is 14, and
+ * there is no verdict; GATE_EXPANSION_ROOM bytes are always room enough. */
+struct gate_command_answer gate_command(uint8_t *out, size_t out_len, const uint8_t *allow, size_t allow_len, const uint8_t *deny,
+                                        size_t deny_len, const uint8_t *daemon, size_t daemon_len,
+                                        uint32_t client_state, uint32_t client_kind, uint64_t client_high, uint64_t client_low,
+                                        const uint8_t *client_name, size_t client_name_len,
+                                        uint32_t server_state, uint32_t server_kind, uint64_t server_high, uint64_t server_low,
+                                        const uint8_t *server_name, size_t server_name_len,
+                                        uint32_t user, const uint8_t *user_name, size_t user_name_len, uint32_t process);
+
+/* The same by a sheet, as gate_sheet_verdict. */
+struct gate_command_answer gate_sheet_command(uint8_t *out, size_t out_len, const uint8_t *sheet, size_t sheet_len,
+                                              const uint8_t *daemon, size_t daemon_len,
+                                              uint32_t client_state, uint32_t client_kind, uint64_t client_high, uint64_t client_low,
+                                              const uint8_t *client_name, size_t client_name_len,
+                                              uint32_t server_state, uint32_t server_kind, uint64_t server_high, uint64_t server_low,
+                                              const uint8_t *server_name, size_t server_name_len,
+                                              uint32_t user, const uint8_t *user_name, size_t user_name_len, uint32_t process);
 
 /* May uid bind this port (0 to 65535) at this address, by authbind(1)'s byuid file: GATE_GRANTED, GATE_NO_LINE, or GATE_NOT_RULED.
  * An unknown address is refused by 13. */
@@ -402,6 +434,18 @@ static inline struct gate_answer gate_verdict_for(const void *allow, size_t allo
 /* gate_sheet_verdict for a request. */
 static inline struct gate_answer gate_sheet_verdict_for(const void *sheet, size_t sheet_len, const struct gate_request *request) {
     return gate_sheet_verdict(gate_bytes(sheet, sheet_len), sheet_len, GATE_REQUEST_ARGUMENTS(request));
+}
+
+/* gate_command and gate_sheet_command for a request. */
+static inline struct gate_command_answer gate_command_for(void *out, size_t out_len, const void *allow, size_t allow_len,
+                                                          const void *deny, size_t deny_len, const struct gate_request *request,
+                                                          uint32_t process) {
+    return gate_command((uint8_t *)out, out_len, gate_bytes(allow, allow_len), allow_len, gate_bytes(deny, deny_len), deny_len,
+                        GATE_REQUEST_ARGUMENTS(request), process);
+}
+static inline struct gate_command_answer gate_sheet_command_for(void *out, size_t out_len, const void *sheet, size_t sheet_len,
+                                                                const struct gate_request *request, uint32_t process) {
+    return gate_sheet_command((uint8_t *)out, out_len, gate_bytes(sheet, sheet_len), sheet_len, GATE_REQUEST_ARGUMENTS(request), process);
 }
 
 /* gate_expand for a request. */

@@ -54,14 +54,15 @@ static void find_line(struct reply *reply, const struct station *station, const 
 }
 
 static void ask_byuid(struct reply *reply, const struct station *station, const struct question *question) {
-    *reply = (struct reply){.answer = gate_sheet_byuid_for(station->sheet.bytes, station->sheet.len, &question->at, question->bind.port,
-                                                           question->bind.uid)};
-    if (reply->answer.word == GATE_GRANTED)
+    struct gate_answer answer =
+        gate_sheet_byuid_for(station->sheet.bytes, station->sheet.len, &question->at, question->bind.port, question->bind.uid);
+    *reply = (struct reply){.number = answer.number, .word = answer.word};
+    if (answer.word == GATE_GRANTED)
         find_line(reply, station, question);
 }
 
 static const char *why_byuid(const struct reply *reply) {
-    return reply->answer.word == GATE_NOT_RULED ? "byuid rules ports 1 to 1023, and every account but root (uid 0)" : NULL;
+    return reply->word == GATE_NOT_RULED ? "byuid rules ports 1 to 1023, and every account but root (uid 0)" : NULL;
 }
 
 const struct query byuid_query = {"byuid", options, 2, read_byuid, ask_byuid, why_byuid};

@@ -112,20 +112,21 @@ static void find_rule(struct reply *reply, const struct station *station) {
 
 static void ask_match(struct reply *reply, const struct station *station, const struct question *question) {
     const struct text *sheet = &station->sheet;
-    struct gate_answer answer = gate_sheet_verdict_for(sheet->bytes, sheet->len, &question->request);
-    *reply = (struct reply){.answer = answer, .section = answer.file, .line = answer.line};
-    if (answer.file)
-        find_rule(reply, station);
-    if (!answer.len)
-        return;
+    struct gate_command_answer answer =
+        gate_sheet_command_for(reply->expanded, sizeof reply->expanded, sheet->bytes, sheet->len, &question->request, question->process);
+    reply->number = answer.number;
+    reply->word = answer.word;
+    reply->section = answer.file;
+    reply->line = answer.line;
     reply->command_place = (size_t)answer.place;
     reply->command_len = (size_t)answer.len;
-    reply->expanded_len = (size_t)gate_expand_for(reply->expanded, sizeof reply->expanded, sheet->bytes + answer.place, reply->command_len,
-                                                  &question->request, question->process).count;
+    reply->expanded_len = (size_t)answer.count;
+    if (answer.file)
+        find_rule(reply, station);
 }
 
 static const char *why_match(const struct reply *reply) {
-    if (reply->answer.word == GATE_ASK)
+    if (reply->word == GATE_ASK)
         return "this rule looks at the user, who is not fetched: ask again with USER@ or --unknown-user";
     return reply->section ? NULL : "no rule of hosts.allow and none of hosts.deny matches";
 }

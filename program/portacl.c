@@ -95,18 +95,18 @@ static void find_entry(struct reply *reply, const struct station *station, const
 }
 
 static void ask_portacl(struct reply *reply, const struct station *station, const struct question *question) {
-    *reply = (struct reply){
-        .answer = gate_sheet_portacl_for(station->sheet.bytes, station->sheet.len, &question->settings, &question->bind)};
-    if (reply->answer.word == GATE_GRANTED)
+    struct gate_answer answer = gate_sheet_portacl_for(station->sheet.bytes, station->sheet.len, &question->settings, &question->bind);
+    *reply = (struct reply){.number = answer.number, .word = answer.word};
+    if (answer.word == GATE_GRANTED)
         find_entry(reply, station, question);
 }
 
 static const char *why_portacl(const struct reply *reply) {
-    if (reply->answer.word == GATE_EXEMPT)
+    if (reply->word == GATE_EXEMPT)
         return "by the settings: port 0 (autoport_exempt), or root (suser_exempt)";
-    if (reply->answer.word == GATE_NOT_RULED)
+    if (reply->word == GATE_NOT_RULED)
         return "by the settings: portacl is not enabled, or the port is over port_high";
-    return reply->answer.word == GATE_DENIED ? "no entry grants" : NULL;
+    return reply->word == GATE_DENIED ? "no entry grants" : NULL;
 }
 
 const struct query portacl_query = {"portacl", options, 2, read_portacl, ask_portacl, why_portacl};

@@ -14,10 +14,10 @@ const struct query *find_query(const char *name) {
     return NULL;
 }
 
-enum status answer_status(const struct gate_answer *answer) {
-    if (answer->number != GATE_ANSWERED)
+enum status reply_status(const struct reply *reply) {
+    if (reply->number != GATE_ANSWERED)
         return STATUS_FAILED;
-    switch (answer->word) {
+    switch (reply->word) {
     case GATE_GRANTED:
     case GATE_EXEMPT: return STATUS_YES;
     case GATE_ASK: return STATUS_ASK;
@@ -65,7 +65,7 @@ static void show_command(const struct station *station, const struct reply *repl
 }
 
 static void show_reply(const struct query *query, const struct station *station, const struct reply *reply) {
-    printf("%s\n", gate_word_text(reply->answer.word));
+    printf("%s\n", gate_word_text(reply->word));
     if (reply->section)
         show_rule(station, reply);
     if (reply->command_len)
@@ -82,9 +82,9 @@ enum status run_query(const struct query *query, const struct arguments *argumen
     if (!query->read(&question, "gate", arguments->operand + 1, arguments) || !read_sound_station(&station, arguments->operand[0]))
         return STATUS_FAILED;
     query->ask(&reply, &station, &question);
-    if (reply.answer.number != GATE_ANSWERED)
-        complain("gate", "refused: %s [%u]", gate_number_text(reply.answer.number), (unsigned)reply.answer.number);
+    if (reply.number != GATE_ANSWERED)
+        complain("gate", "refused: %s [%u]", gate_number_text(reply.number), (unsigned)reply.number);
     else if (!arguments->option[0])
         show_reply(query, &station, &reply);
-    return answer_status(&reply.answer);
+    return reply_status(&reply);
 }

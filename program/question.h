@@ -17,7 +17,7 @@ struct question {
 
 /* The rule, line or entry that decided: section 0 where there is none. */
 struct reply {
-    struct gate_answer answer;
+    uint32_t number, word; /* of the answer */
     uint32_t section;
     uint64_t line;         /* of the rule, or of byuid; the entry of portacl */
     size_t place, len;     /* in the section's text: the line without its newline, or the entry */
@@ -44,7 +44,7 @@ const struct query *find_query(const char *name);
 enum status run_query(const struct query *query, const struct arguments *arguments);
 
 /* The exit status of an answer. */
-enum status answer_status(const struct gate_answer *answer);
+enum status reply_status(const struct reply *reply);
 
 /* Where an answer comes from: `hosts.allow:3`, `byuid:1`, `portacl entry 2`; empty where no rule decided. */
 void write_source(char *text, size_t room, const struct reply *reply);

@@ -115,11 +115,11 @@ static void write_answer(struct answer *answer, const struct query *query, const
     write_source(source, sizeof source, reply);
     if (query == &match_query && !reply->section)
         strcpy(source, "no rule");
-    answer->word_len = (size_t)sprintf(answer->text, "%s", gate_word_text(reply->answer.word));
+    answer->word_len = (size_t)sprintf(answer->text, "%s", gate_word_text(reply->word));
     answer->source_len = answer->word_len;
     if (*source)
         answer->source_len += (size_t)sprintf(answer->text + answer->word_len, " %s", source);
-    if (query == &match_query && reply->section && reply->answer.word != GATE_ASK)
+    if (query == &match_query && reply->section && reply->word != GATE_ASK)
         sprintf(answer->text + answer->source_len, ":%s%.*s", reply->expanded_len ? " " : "", (int)reply->expanded_len,
                 (const char *)reply->expanded);
 }

@@ -7,7 +7,7 @@
 #include "gate.h"
 
 struct text {
-    uint8_t bytes[120];
+    uint8_t bytes[200];
     size_t len;
 };
 
@@ -15,7 +15,7 @@ static struct lent {
     struct text allow, deny, byuid, portacl, sheet, command, address, daemon, client_name, server_name, user_name;
     uint32_t groups[2];
     uint8_t out[120];
-} m, expected;
+} m, expected, after;
 
 static int failed;
 
@@ -35,9 +35,9 @@ static void set(struct text *t, const char *s, size_t len) {
 #define TEXT(field) m.field.bytes, m.field.len
 #define OUT(room) m.out, room
 /* sshd asked by van7 at 10.0.0.1, of no known user, at a server of an unknown name at ::1:0:0:0:2 */
-#define HOSTS(client_state, server_kind) \
-    TEXT(daemon), client_state, GATE_IPV4, 0, 0x0a000001, TEXT(client_name), GATE_NAME_UNKNOWN, server_kind, 1, 2, TEXT(server_name)
-#define REQUEST(user) HOSTS(GATE_NAME_KNOWN, GATE_IPV6), user, TEXT(user_name)
+#define HOSTS(client_kind, server_kind) \
+    TEXT(daemon), GATE_NAME_KNOWN, client_kind, 0, 0x0a000001, TEXT(client_name), GATE_NAME_UNKNOWN, server_kind, 1, 2, TEXT(server_name)
+#define REQUEST(user) HOSTS(GATE_IPV4, GATE_IPV6), user, TEXT(user_name)
 #define BIND(protocol, port) 1, 1023, 1, 1, 80, m.groups, 2, protocol, port
 
 static void begin(void) {
@@ -93,6 +93,17 @@ static int unwritten(struct gate_written w, uint32_t number, uint32_t section, u
     return w.number == number && w.section == section && w.line == line && w.count == 0 && untouched();
 }
 
+/* Decided as a verdict is, and n bytes written. */
+static int commanded(struct gate_command_answer a, struct gate_answer verdict, const void *bytes, size_t n) {
+    return a.number == GATE_ANSWERED && a.section == 0 && a.word == verdict.word && a.file == verdict.file && a.line == verdict.line &&
+           a.len == verdict.len && a.place == verdict.place && a.count == n && holds(bytes, n);
+}
+
+static int command_refused(struct gate_command_answer a, uint32_t number, uint32_t section, uint64_t line) {
+    return a.number == number && a.section == section && a.line == line && a.word == GATE_NO_WORD && a.file == 0 && a.place == 0 &&
+           a.len == 0 && a.count == 0 && untouched();
+}
+
 static void verdicts(void) {
     begin(), lend();
     expect("a verdict with its command", decided(gate_verdict(TEXT(allow), TEXT(deny), REQUEST(1)), GATE_GRANTED, GATE_ALLOW, 2, 13, 7));
@@ -105,6 +116,43 @@ static void verdicts(void) {
     expect("no allow", decided(gate_verdict(TEXT(allow), TEXT(deny), REQUEST(1)), GATE_DENIED, GATE_DENY, 1, 0, 0));
     SET(deny, ""), lend();
     expect("no rule", decided(gate_verdict(TEXT(allow), TEXT(deny), REQUEST(1)), GATE_GRANTED, GATE_NO_SECTION, 0, 0, 0));
+}
+
+#define VERDICT(user) gate_verdict(TEXT(allow), TEXT(deny), REQUEST(user))
+#define COMMAND(room, user) gate_command(OUT(room), TEXT(allow), TEXT(deny), REQUEST(user), 7)
+#define SHEET_COMMAND(room, user) gate_sheet_command(OUT(room), TEXT(sheet), REQUEST(user), 7)
+
+static void commands(void) {
+    begin(), lend();
+    expect("a verdict and its command, in exact room", commanded(COMMAND(8, 1), VERDICT(1), "log van7", 8));
+    begin(), lend();
+    expect("one byte less is no verdict", command_refused(COMMAND(7, 1), GATE_NO_ROOM, 0, 0));
+    expect("13 before 14", command_refused(COMMAND(0, 3), GATE_BAD_REQUEST, 0, 0));
+    SET(allow, "ALL: ALL: %p:%u\n"), lend();
+    expect("process and user", commanded(COMMAND(100, 2), VERDICT(2), "7:a_b", 5));
+    begin();
+    SET(allow, "ALL: ALL@ALL: log\n"), lend();
+    expect("ask writes nothing", commanded(COMMAND(0, 0), VERDICT(0), "", 0));
+    SET(allow, "ALL: ALL: %\n"), lend();
+    expect("11 before 13", command_refused(COMMAND(0, 3), GATE_BAD_PERCENT, GATE_ALLOW, 1));
+    SET(allow, "ALL: ALL: \t \n"), lend();
+    expect("a command of blanks", commanded(COMMAND(0, 1), VERDICT(1), "", 0));
+    SET(allow, ""), lend();
+    expect("a rule without command", commanded(COMMAND(0, 1), VERDICT(1), "", 0));
+    SET(deny, ""), lend();
+    expect("no rule", commanded(COMMAND(0, 1), VERDICT(1), "", 0));
+}
+
+static void sheet_commands(void) {
+    begin(), lend();
+    expect("a command by a sheet, in exact room", commanded(SHEET_COMMAND(8, 1), gate_sheet_verdict(TEXT(sheet), REQUEST(1)), "log van7", 8));
+    begin(), lend();
+    expect("one byte less by a sheet", command_refused(SHEET_COMMAND(7, 1), GATE_NO_ROOM, 0, 0));
+    expect("13 before 14 by a sheet", command_refused(SHEET_COMMAND(0, 3), GATE_BAD_REQUEST, 0, 0));
+    SET(daemon, "x"), lend();
+    expect("no command by a sheet", commanded(SHEET_COMMAND(0, 1), gate_sheet_verdict(TEXT(sheet), REQUEST(1)), "", 0));
+    m.sheet.len--, lend();
+    expect("a command by a cut sheet", command_refused(SHEET_COMMAND(0, 3), GATE_CUT_SHORT, GATE_PORTACL, 0));
 }
 
 static void byuid(void) {
@@ -188,11 +236,28 @@ static void addresses(void) {
     expect("13 before 14", unwritten(gate_write_address(OUT(0), GATE_IPV4, 0, 1ULL << 32), GATE_BAD_REQUEST, 0, 0));
     SET(address, "10.0.0.256"), lend();
     a = gate_read_address(TEXT(address));
-    expect("no address", a.number == GATE_BAD_REQUEST && a.section == 0 && a.line == 0 && !(a.kind | a.high | a.low) && untouched());
+    expect("no address", a.number == GATE_BAD_REQUEST && a.section == 0 && a.line == 0 && a.kind == GATE_NO_ADDRESS && !(a.high | a.low) && untouched());
+}
+
+/* What a refused text is read as is refused wherever an address is taken. */
+static void no_address(void) {
+    begin(), lend();
+    expect("no address to write", unwritten(gate_write_address(OUT(100), GATE_NO_ADDRESS, 0, 0), GATE_BAD_REQUEST, 0, 0));
+    expect("no address to bind", refused(gate_byuid(TEXT(byuid), 80, GATE_NO_ADDRESS, 0, 0, 432), GATE_BAD_REQUEST, 0, 0));
+    expect("the same by a sheet", refused(gate_sheet_byuid(TEXT(sheet), 80, GATE_NO_ADDRESS, 0, 0, 432), GATE_BAD_REQUEST, 0, 0));
+    for (int end = 0; end < 2; end++) {
+        uint32_t client = end ? GATE_IPV4 : GATE_NO_ADDRESS, server = end ? GATE_NO_ADDRESS : GATE_IPV6;
+#define NO_ADDRESS HOSTS(client, server), 1, TEXT(user_name)
+        expect("a verdict on no address", refused(gate_verdict(TEXT(allow), TEXT(deny), NO_ADDRESS), GATE_BAD_REQUEST, 0, 0));
+        expect("the same by a sheet", refused(gate_sheet_verdict(TEXT(sheet), NO_ADDRESS), GATE_BAD_REQUEST, 0, 0));
+        expect("its command", command_refused(gate_command(OUT(100), TEXT(allow), TEXT(deny), NO_ADDRESS, 7), GATE_BAD_REQUEST, 0, 0));
+        expect("its command by a sheet", command_refused(gate_sheet_command(OUT(100), TEXT(sheet), NO_ADDRESS, 7), GATE_BAD_REQUEST, 0, 0));
+        expect("its expansion", unwritten(gate_expand(OUT(100), TEXT(command), NO_ADDRESS, 7), GATE_BAD_REQUEST, 0, 0));
+    }
 }
 
 /* What is handed over in each position that takes bytes or groups. */
-enum position { ALLOW, DENY, BYUID, PORTACL, SHEET, COMMAND, ADDRESS, DAEMON, CLIENT_NAME, SERVER_NAME, USER_NAME, LENT_OUT, LENT_GROUPS, POSITIONS };
+enum position { ALLOW, DENY, BYUID, PORTACL, SHEET, GIVEN_COMMAND, ADDRESS, DAEMON, CLIENT_NAME, SERVER_NAME, USER_NAME, LENT_OUT, LENT_GROUPS, POSITIONS };
 static struct {
     const void *start;
     size_t len;
@@ -200,6 +265,7 @@ static struct {
 
 static struct answers {
     struct gate_answer verdict, sheet_verdict, byuid, sheet_byuid, portacl, sheet_portacl;
+    struct gate_command_answer command, sheet_command;
     struct gate_checked check;
     struct gate_parts parts;
     struct gate_written packed, expanded, written;
@@ -228,6 +294,8 @@ static void call_all(struct answers *a, uint32_t state) {
     struct gate_address read = gate_read_address(GIVEN(ADDRESS));
     a->verdict = gate_verdict(GIVEN(ALLOW), GIVEN(DENY), GIVEN_REQUEST(state));
     a->sheet_verdict = gate_sheet_verdict(GIVEN(SHEET), GIVEN_REQUEST(state));
+    a->command = gate_command(GIVEN_OUT, GIVEN(ALLOW), GIVEN(DENY), GIVEN_REQUEST(state), 7);
+    a->sheet_command = gate_sheet_command(GIVEN_OUT, GIVEN(SHEET), GIVEN_REQUEST(state), 7);
     a->byuid = gate_byuid(GIVEN(BYUID), 80, GATE_IPV4, 0, 0x0aff0001, 432);
     a->sheet_byuid = gate_sheet_byuid(GIVEN(SHEET), 80, GATE_IPV4, 0, 0x0aff0001, 432);
     a->portacl = gate_portacl(GIVEN(PORTACL), GIVEN_BIND);
@@ -235,7 +303,7 @@ static void call_all(struct answers *a, uint32_t state) {
     a->check = gate_check(GIVEN(SHEET));
     a->parts = gate_unpack(GIVEN(SHEET));
     a->packed = gate_pack(GIVEN_OUT, GIVEN(ALLOW), GIVEN(DENY), GIVEN(BYUID), GIVEN(PORTACL));
-    a->expanded = gate_expand(GIVEN_OUT, GIVEN(COMMAND), GIVEN_REQUEST(state), 7);
+    a->expanded = gate_expand(GIVEN_OUT, GIVEN(GIVEN_COMMAND), GIVEN_REQUEST(state), 7);
     a->written = gate_write_address(GIVEN_OUT, read.kind, read.high, read.low);
     a->address[0] = read.number, a->address[1] = read.high, a->address[2] = read.low;
 }
@@ -249,10 +317,11 @@ static void nulls(void) {
             give_all();
             given[position].len = 0;
             call_all(&here, state);
+            after = m;
             give_all();
             given[position].start = NULL, given[position].len = 0;
             call_all(&null, state);
-            expect(what, !memcmp(&here, &null, sizeof here));
+            expect(what, !memcmp(&here, &null, sizeof here) && !memcmp(&m, &after, sizeof m));
         }
 }
 
@@ -265,17 +334,25 @@ static const struct answers *without(int position, uint32_t state) {
 }
 
 static void null_answers(void) {
-    expect("no allow text", without(ALLOW, 1)->verdict.word == GATE_DENIED);
+    expect("no allow text", without(ALLOW, 1)->verdict.word == GATE_DENIED && null.command.word == GATE_DENIED);
     expect("no texts to pack", without(BYUID, 1)->packed.count == 73 && without(PORTACL, 1)->packed.count == 59);
-    expect("no sheet", without(SHEET, 1)->check.number == GATE_CUT_SHORT && null.check.section == GATE_ALLOW && null.sheet_verdict.number == GATE_CUT_SHORT);
-    expect("no daemon", without(DAEMON, 1)->verdict.number == GATE_BAD_REQUEST && null.expanded.number == GATE_BAD_REQUEST);
-    expect("no name", without(CLIENT_NAME, 0)->verdict.number == GATE_ANSWERED && without(CLIENT_NAME, 2)->verdict.number == GATE_BAD_REQUEST);
-    expect("no server's name", without(SERVER_NAME, 0)->verdict.number == GATE_ANSWERED && without(SERVER_NAME, 2)->verdict.number == GATE_BAD_REQUEST);
-    expect("no user", without(USER_NAME, 0)->verdict.number == GATE_ANSWERED && without(USER_NAME, 2)->verdict.number == GATE_BAD_REQUEST);
+    expect("no sheet", without(SHEET, 1)->check.number == GATE_CUT_SHORT && null.check.section == GATE_ALLOW && null.sheet_verdict.number == GATE_CUT_SHORT &&
+           null.sheet_command.number == GATE_CUT_SHORT);
+    expect("no daemon", without(DAEMON, 1)->verdict.number == GATE_BAD_REQUEST && null.expanded.number == GATE_BAD_REQUEST &&
+           null.command.number == GATE_BAD_REQUEST && null.sheet_command.number == GATE_BAD_REQUEST);
+    expect("no name", without(CLIENT_NAME, 0)->verdict.number == GATE_ANSWERED && without(CLIENT_NAME, 2)->verdict.number == GATE_BAD_REQUEST &&
+           null.command.number == GATE_BAD_REQUEST && null.sheet_command.number == GATE_BAD_REQUEST);
+    expect("no server's name", without(SERVER_NAME, 0)->verdict.number == GATE_ANSWERED && without(SERVER_NAME, 2)->verdict.number == GATE_BAD_REQUEST &&
+           null.command.number == GATE_BAD_REQUEST && null.sheet_command.number == GATE_BAD_REQUEST);
+    expect("no user", without(USER_NAME, 0)->verdict.number == GATE_ANSWERED && without(USER_NAME, 2)->verdict.number == GATE_BAD_REQUEST &&
+           null.command.number == GATE_BAD_REQUEST && null.sheet_command.number == GATE_BAD_REQUEST);
     expect("no groups", without(LENT_GROUPS, 1)->portacl.word == GATE_DENIED && null.byuid.word == GATE_GRANTED);
     expect("no room", without(LENT_OUT, 1)->packed.number == GATE_NO_ROOM && null.expanded.number == GATE_NO_ROOM && null.written.number == GATE_NO_ROOM);
-    expect("no command", without(COMMAND, 1)->expanded.number == GATE_ANSWERED && null.expanded.count == 0);
-    expect("no address", without(ADDRESS, 1)->address[0] == GATE_BAD_REQUEST);
+    expect("no room for a rule's command", without(LENT_OUT, 2)->command.number == GATE_NO_ROOM && null.sheet_command.number == GATE_NO_ROOM &&
+           null.verdict.word == GATE_GRANTED);
+    expect("no room is enough for none", without(LENT_OUT, 1)->command.word == GATE_DENIED && null.sheet_command.word == GATE_DENIED);
+    expect("no command", without(GIVEN_COMMAND, 1)->expanded.number == GATE_ANSWERED && null.expanded.count == 0);
+    expect("no address", without(ADDRESS, 1)->address[0] == GATE_BAD_REQUEST && null.written.number == GATE_BAD_REQUEST);
 }
 
 /* Room that is always enough is enough, and no more than is needed. */
@@ -290,7 +367,25 @@ static void rooms(void) {
                                   GATE_NAME_UNKNOWN, GATE_ADDRESS_UNKNOWN, 0, 0, NULL, 0, GATE_USER_KNOWN, user, sizeof user, 7)
     expect("the longest expansion", LONGEST(sizeof out).count == sizeof out && out[0] == 'u' && out[sizeof out - 1] == 'x');
     expect("one byte less", LONGEST(sizeof out - 1).number == GATE_NO_ROOM);
+#undef LONGEST
     expect("the longest address", gate_write_address(out, GATE_ADDRESS_ROOM, GATE_IPV6, UINT64_MAX, UINT64_MAX).count == GATE_ADDRESS_ROOM);
+}
+
+/* The same for the command of a rule, which shares its line with the shortest lists that fit: a daemon a, a client in 1. */
+static void command_rooms(void) {
+    static uint8_t out[GATE_EXPANSION_ROOM], sheet[GATE_SHEET_LIMIT];
+    uint8_t allow[GATE_LINE_LIMIT + 1], name[GATE_NAME_LIMIT], user[GATE_USER_LIMIT];
+    const size_t most = (GATE_LINE_LIMIT - 5) / 2 * (GATE_USER_LIMIT + 1 + GATE_NAME_LIMIT);
+    memset(name, 'n', sizeof name), memset(user, 'u', sizeof user);
+    for (size_t i = 0; i < sizeof allow; i++)
+        allow[i] = (uint8_t)(i < 5 ? "a:1.:"[i] : i < sizeof allow - 1 ? "%c"[(i - 5) % 2] : '\n');
+    size_t len = (size_t)gate_pack(sheet, sizeof sheet, allow, sizeof allow, NULL, 0, NULL, 0, NULL, 0).count;
+#define LONGEST allow, 1, GATE_NAME_KNOWN, GATE_IPV4, 0, 0x01000000, name, sizeof name, GATE_NAME_UNKNOWN, GATE_ADDRESS_UNKNOWN, 0, 0, NULL, 0, \
+                GATE_USER_KNOWN, user, sizeof user, 7
+    expect("a rule's longest command", gate_command(out, sizeof out, allow, sizeof allow, NULL, 0, LONGEST).count == most);
+    expect("the same by a sheet", gate_sheet_command(out, sizeof out, sheet, len, LONGEST).count == most && out[most - 1] == 'n');
+    expect("one byte less", gate_command(out, most - 1, allow, sizeof allow, NULL, 0, LONGEST).number == GATE_NO_ROOM);
+    expect("one byte less by a sheet", gate_sheet_command(out, most - 1, sheet, len, LONGEST).number == GATE_NO_ROOM);
 }
 
 /* A name that is not known is not read: its bytes may be on a page that can't be. */
@@ -304,12 +399,17 @@ static void unread(void) {
 #define UNREAD(state, user) TEXT(daemon), state, GATE_IPV4, 0, 0x0a000001, name, 64, state, GATE_IPV6, 1, 2, name, 64, user, name, 64
     begin();
     SET(allow, "sshd@LOCAL, sshd@.x, sshd@x: ALL\nsshd: LOCAL, .x.example, van7, x@.x, a@LOCAL: log\n");
+    SET(deny, "ALL: ALL: %n%N%h%H%u%c%s\n");
     SET(command, "%n%N%h%H%u%c%s");
+    m.sheet.len = (size_t)gate_pack(m.sheet.bytes, sizeof m.sheet.bytes, TEXT(allow), TEXT(deny), TEXT(byuid), TEXT(portacl)).count;
     for (uint32_t state = GATE_NAME_UNKNOWN; state < GATE_NAME_KNOWN; state++) {
         for (uint32_t user = GATE_USER_NOT_FETCHED; user < GATE_USER_KNOWN; user++) {
             expect("a verdict on names that are not known", gate_verdict(TEXT(allow), TEXT(deny), UNREAD(state, user)).word == GATE_DENIED);
             expect("the same by a sheet", gate_sheet_verdict(TEXT(sheet), UNREAD(state, user)).word == GATE_DENIED);
-            expect("their expansion", gate_expand(OUT(sizeof m.out), TEXT(command), UNREAD(state, user), 7).number == GATE_ANSWERED);
+            uint64_t count = gate_expand(OUT(sizeof m.out), TEXT(command), UNREAD(state, user), 7).count;
+            expect("their expansion", count > 0);
+            expect("a verdict and its command", gate_command(OUT(sizeof m.out), TEXT(allow), TEXT(deny), UNREAD(state, user), 7).count == count);
+            expect("the same by a sheet", gate_sheet_command(OUT(sizeof m.out), TEXT(sheet), UNREAD(state, user), 7).count == count);
         }
     }
     munmap(page, 4096);
@@ -317,15 +417,19 @@ static void unread(void) {
 
 int main(void) {
     verdicts();
+    commands();
+    sheet_commands();
     byuid();
     portacl();
     by_sheet();
     sheets();
     expansion();
     addresses();
+    no_address();
     nulls();
     null_answers();
     rooms();
+    command_rooms();
     unread();
     if (!failed)
         printf("calls: all as expected\n");

@@ -15,6 +15,7 @@ from reference import BAD
 U8P, SIZE, U32, U64 = ctypes.c_char_p, ctypes.c_size_t, ctypes.c_uint32, ctypes.c_uint64
 WORDS = {0: None, 1: "granted", 2: "denied", 3: "ask", 4: "no line", 5: "not ruled", 6: "exempt"}
 PARTS = ("allow", "deny", "byuid", "portacl")
+NO_ADDRESS = 255
 
 
 def struct(**fields):
@@ -23,6 +24,7 @@ def struct(**fields):
 
 
 Answer = struct(word=U32, file=U32, place=U64, len=U64)
+Command = struct(word=U32, file=U32, place=U64, len=U64, count=U64)
 Check = struct()
 Written = struct(count=U64)
 Parts = struct(**{f"{part}_{what}": U64 for part in PARTS for what in ("place", "len")})
@@ -38,6 +40,7 @@ def load(path):
     portacl = text + [U32] * 5 + [ctypes.POINTER(U32), SIZE] + [U32, U32]
     for name, arguments, answer in (
             ("verdict", text * 2 + request, Answer), ("sheet_verdict", text + request, Answer),
+            ("command", out + text * 2 + request + [U32], Command), ("sheet_command", out + text + request + [U32], Command),
             ("byuid", byuid, Answer), ("sheet_byuid", byuid, Answer),
             ("portacl", portacl, Answer), ("sheet_portacl", portacl, Answer),
             ("check", text, Check), ("unpack", text, Parts), ("pack", out + text * 4, Written),
@@ -51,9 +54,11 @@ def load(path):
 # The exports, called as the reference is: refusals are (number, section, line)
 
 def refusal(a):
-    """of an answer whose number is not 0: all else is 0"""
-    rest = [getattr(a, name) for name, _ in a._fields_[3:]]
-    return ("refused, yet not all 0", rest) if any(rest) else (a.number, a.section, a.line)
+    """of an answer whose number is not 0: all else is 0, but for the kind of an address, which is none"""
+    rest = {name: getattr(a, name) for name, _ in a._fields_[3:]}
+    if any(value != (NO_ADDRESS if name == "kind" else 0) for name, value in rest.items()):
+        return ("refused, yet with more than that", rest)
+    return a.number, a.section, a.line
 
 
 def sized(text):
@@ -74,7 +79,7 @@ def address_args(rng, address):
     if address == BAD:
         if rng.random() < 0.5:
             return [4, anything, rng.choice([2 ** 32, 2 ** 64 - 1])]
-        return [rng.choice([1, 2, 3, 5, 7, 2 ** 32 - 1]), anything, 0]
+        return [rng.choice([1, 2, 3, 5, 7, NO_ADDRESS, 2 ** 32 - 1]), anything, 0]
     if address is None:
         return [0, anything, anything]
     kind, n = address
@@ -97,11 +102,27 @@ def port_arg(rng, port):
 
 def verdict(rng, call, texts, whole, r):
     """whole: what the file's number leads to, of which the command is a part"""
-    a = call(*(x for text in texts for x in sized(text)), *request_args(rng, r))
+    return decided(call(*(x for text in texts for x in sized(text)), *request_args(rng, r)), whole)
+
+
+def decided(a, whole):
     if a.number:
         return refusal(a)
     command = whole[a.file][a.place:a.place + a.len]
-    return (WORDS[a.word], a.file, a.line, a.place if command else None, command)
+    return ("an answer's section", a.section) if a.section else (WORDS[a.word], a.file, a.line, a.place if command else None, command)
+
+
+def command(rng, room, call, texts, whole, r, process):
+    """the verdict, and the bytes written behind it"""
+    answers = []
+
+    def kept(*arguments):
+        answers.append(call(*arguments))
+        return answers[0]
+
+    out = written(rng, room, kept, *(x for text in texts for x in sized(text)), *request_args(rng, r), process)
+    answer = decided(answers[0], whole)
+    return answer + (out,) if isinstance(out, bytes) else out
 
 
 def word(a):
@@ -352,9 +373,18 @@ def expansion_request(rng):
     return r
 
 
+def command_line(rng):
+    """a rule for everyone, with a command that may be at fault"""
+    return rng.choice([b"ALL: ALL:", b"ALL: ALL EXCEPT x :", b"sshd, all: [::]/0, 0.0.0.0/0.0.0.0:"]) + command_of(rng) + b"\n"
+
+
+def process_of(rng):
+    return rng.choice([0, 9, 10, 4711, 2 ** 32 - 1, rng.getrandbits(32)])
+
+
 def room_for(rng, result):
-    """about the length of the result, where there is one"""
-    n = rng.randrange(60) if ref.refused(result) else len(result)
+    """about the length of the result, where there is one: of what is written"""
+    n = rng.randrange(60) if ref.refused(result) else len(result[5] if isinstance(result, tuple) else result)
     return max(0, rng.choice([n, n, n + 1, n - 1, n + 20, 0, rng.randrange(n + 1)]))
 
 
@@ -383,6 +413,7 @@ VERDICTS = {"granted", "denied", "ask", "13"}
 BYUID = {"granted", "no line", "not ruled", "13"}
 PORTACL = {"granted", "denied", "exempt", "not ruled", "13"}
 KINDS = {
+    "command": VERDICTS | FILES | {"2", "14"}, "sheet_command": VERDICTS | SHEET | {"14"},
     "verdict": VERDICTS | FILES | {"2"}, "byuid": BYUID | {"2"}, "portacl": PORTACL | {"2", "12"},
     "sheet_verdict": VERDICTS | SHEET, "sheet_byuid": BYUID | SHEET, "sheet_portacl": PORTACL | SHEET,
     "check": SHEET | {"sheet ok"}, "unpack": SHEET | {"answered"}, "pack": {"answered", "2", "12", "14"} | FILES,
@@ -408,13 +439,23 @@ def main():
                 print("   ", each)
             sys.exit(1)
 
+    def command_case(name, call, texts, whole, answer, r):
+        """of an expected verdict: the same call, with the command written"""
+        process = process_of(rng)
+        room = room_for(rng, ref.with_command(answer, r, process, 1 << 32))
+        got = command(rng, room, call, texts, whole, r, process)
+        compare(name, got, ref.with_command(answer, r, process, room), texts, r, process, room)
+
     def hosts_case():
         sound = rng.random() < 0.7
-        allow, deny, r = hosts_text(rng, sound), hosts_text(rng, sound), request(rng)
+        allow, deny, r = hosts_text(rng, sound), hosts_text(rng, sound), rng.choice([request, expansion_request])(rng)
+        if rng.random() < 0.5:
+            allow, deny = rng.choice([(allow + command_line(rng), deny), (allow, deny + command_line(rng))])
         if rng.random() < 0.003:
             allow = (allow + b"\n" * 16385)[:rng.choice([16384, 16385])]
-        got = verdict(rng, lib.gate_verdict, [allow, deny], [b"", allow, deny], r)
-        compare("verdict", got, ref.verdict(allow, deny, r), allow, deny, r)
+        expected = ref.verdict(allow, deny, r)
+        compare("verdict", verdict(rng, lib.gate_verdict, [allow, deny], [b"", allow, deny], r), expected, allow, deny, r)
+        command_case("command", lib.gate_command, [allow, deny], [b"", allow, deny], expected, r)
 
     def byuid_request():
         address = rng.choice([host(rng)[1], ("4", 0x0a000000 + rng.randrange(3)), ("6", rng.randrange(3))])
@@ -435,11 +476,15 @@ def main():
         compare("portacl", portacl(rng, lib.gate_portacl, *case), ref.portacl(*case), *case)
 
     def sheet_cases():
-        texts, r = texts_of(rng), request(rng)
+        texts, r = texts_of(rng), rng.choice([request, request, expansion_request])(rng)
+        if rng.random() < 0.4:
+            texts[rng.randrange(2)] += command_line(rng)
         sheet = sheet_of(rng, texts)
         compare("check", check(lib.gate_check, sheet), ref.check(sheet), sheet)
         compare("unpack", unpack(lib.gate_unpack, sheet), ref.unpack(sheet), sheet)
-        compare("sheet_verdict", verdict(rng, lib.gate_sheet_verdict, [sheet], [sheet] * 3, r), ref.sheet_verdict(sheet, r), sheet, r)
+        expected = ref.sheet_verdict(sheet, r)
+        compare("sheet_verdict", verdict(rng, lib.gate_sheet_verdict, [sheet], [sheet] * 3, r), expected, sheet, r)
+        command_case("sheet_command", lib.gate_sheet_command, [sheet], [sheet] * 3, expected, r)
         case = byuid_request()
         compare("sheet_byuid", byuid(rng, lib.gate_sheet_byuid, sheet, *case), ref.sheet_byuid(sheet, *case), sheet, case)
         case = portacl_request()
@@ -452,10 +497,10 @@ def main():
         compare("pack", got, ref.pack(texts, room), texts, room)
 
     def expand_case():
-        command, r, process = command_of(rng), expansion_request(rng), rng.choice([0, 9, 10, 4711, 2 ** 32 - 1, rng.getrandbits(32)])
-        room = room_for(rng, ref.expand(command, r, process, 1 << 32))
-        got = written(rng, room, lib.gate_expand, *sized(command), *request_args(rng, r), process)
-        compare("expand", got, ref.expand(command, r, process, room), command, r, process, room)
+        text, r, process = command_of(rng), expansion_request(rng), process_of(rng)
+        room = room_for(rng, ref.expand(text, r, process, 1 << 32))
+        got = written(rng, room, lib.gate_expand, *sized(text), *request_args(rng, r), process)
+        compare("expand", got, ref.expand(text, r, process, room), text, r, process, room)
 
     def address_cases():
         text = address_text(rng)

@@ -42,16 +42,27 @@ static struct gate_request request_to(const char *daemon) {
     return r;
 }
 
+/* With the command written, as without. */
+static int commanded(const struct gate_command_answer *c, const struct gate_answer *a) {
+    return c->number == GATE_ANSWERED && c->word == a->word && c->file == a->file && c->line == a->line && c->len == a->len &&
+           c->place == a->place;
+}
+
 /* The same word, file and line by texts and by the sheet. */
 static int decided(const struct gate_request *r, uint32_t word, uint32_t file, uint64_t line) {
     struct gate_answer t = gate_verdict_for(allow, sizeof allow - 1, deny, sizeof deny - 1, r);
     struct gate_answer s = gate_sheet_verdict_for(sheet, sheet_len, r);
+    uint8_t out[64];
+    struct gate_command_answer tc = gate_command_for(out, sizeof out, allow, sizeof allow - 1, deny, sizeof deny - 1, r, 7);
+    struct gate_command_answer sc = gate_sheet_command_for(out, sizeof out, sheet, sheet_len, r, 7);
     return t.number == GATE_ANSWERED && t.word == word && t.file == file && t.line == line && s.number == GATE_ANSWERED &&
-           s.word == word && s.file == file && s.line == line && s.len == t.len;
+           s.word == word && s.file == file && s.line == line && s.len == t.len && commanded(&tc, &t) && commanded(&sc, &s);
 }
 
 static int refused(const struct gate_request *r) {
-    return gate_verdict_for(allow, sizeof allow - 1, deny, sizeof deny - 1, r).number == GATE_BAD_REQUEST &&
+    return gate_command_for(NULL, 0, allow, sizeof allow - 1, deny, sizeof deny - 1, r, 7).number == GATE_BAD_REQUEST &&
+           gate_sheet_command_for(NULL, 0, sheet, sheet_len, r, 7).number == GATE_BAD_REQUEST &&
+           gate_verdict_for(allow, sizeof allow - 1, deny, sizeof deny - 1, r).number == GATE_BAD_REQUEST &&
            gate_sheet_verdict_for(sheet, sheet_len, r).number == GATE_BAD_REQUEST;
 }
 
@@ -74,6 +85,8 @@ static void hosts(void) {
         expect(wrong[i], gate_host_read(&read, wrong[i], strlen(wrong[i])) == GATE_BAD_REQUEST && read.kind == before.kind && read.low == before.low);
     }
     expect("no text", gate_host_read(&read, NULL, 0) == GATE_BAD_REQUEST);
+    read.kind = gate_read_address(gate_bytes("10.0.0.01", 9), 9).kind;
+    expect("what is no address is not written", read.kind == GATE_NO_ADDRESS && gate_host_write(out, sizeof out, &read).number == GATE_BAD_REQUEST);
     host = gate_host_unknown();
     expect("an unknown address", gate_host_write(out, sizeof out, &host).count == 7 && !memcmp(out, "unknown", 7));
     expect("no room", gate_host_write(NULL, 0, &host).number == GATE_NO_ROOM);
@@ -146,6 +159,16 @@ static void commands(void) {
     a = gate_sheet_verdict_for(sheet, sheet_len, &r);
     expect("the rule's command", a.len == 7 && !memcmp(sheet + a.place, " log %h", 7));
     expect("expanded", gate_expand_for(out, sizeof out, sheet + a.place, (size_t)a.len, &r, 7).count == 21 && !memcmp(out, "log van7.vans.example", 21));
+    expect("decided and expanded", gate_sheet_command_for(out, sizeof out, sheet, sheet_len, &r, 7).count == 21 &&
+           !memcmp(out, "log van7.vans.example", 21));
+    memset(out, 0, sizeof out);
+    expect("the same by texts", gate_command_for(out, sizeof out, allow, sizeof allow - 1, deny, sizeof deny - 1, &r, 7).count == 21 &&
+           !memcmp(out, "log van7.vans.example", 21));
+    expect("process", gate_command_for(out, sizeof out, "ALL: ALL: %p\n", 13, NULL, 0, &r, 7).count == 1 && out[0] == '7');
+    expect("no room to decide", gate_sheet_command_for(NULL, 0, sheet, sheet_len, &r, 7).number == GATE_NO_ROOM &&
+           gate_command_for(NULL, 0, allow, sizeof allow - 1, NULL, 0, &r, 7).number == GATE_NO_ROOM);
+    expect("no texts", gate_command_for(NULL, 0, NULL, 0, NULL, 0, &r, 7).word == GATE_GRANTED &&
+           gate_sheet_command_for(NULL, 0, NULL, 0, &r, 7).number == GATE_CUT_SHORT);
     expect("client and server", gate_expand_for(out, sizeof out, "%a %A %p", 8, &r, 7).count == 20 && !memcmp(out, "10.0.0.1 192.0.2.1 7", 20));
     expect("no command", gate_expand_for(NULL, 0, NULL, 0, &r, 7).number == GATE_ANSWERED);
     expect("no room", gate_expand_for(NULL, 0, "x", 1, &r, 7).number == GATE_NO_ROOM);

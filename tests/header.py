@@ -27,8 +27,8 @@ FILES = [HEADER, EXPORTS, STRUCTS, FAULTS, SECTIONS, ANSWERS, REQUESTS, FIELDS, 
 SLICES = {"&[u8]": "const uint8_t *", "&mut [u8]": "uint8_t *", "&[u32]": "const uint32_t *"}
 NUMBERS = {"u32": "uint32_t", "u64": "uint64_t"}
 SIZES = {"u32": 4, "u64": 8}
-# gate_check is a function, so its answer's struct has a name of its own
-TAGS = {"GateCheck": "gate_checked"}
+# gate_check and gate_command are functions, so their answers' structs have names of their own
+TAGS = {"GateCheck": "gate_checked", "GateCommand": "gate_command_answer"}
 # numbers that the definitions write as themselves
 ZEROS = ["GATE_ANSWERED", "GATE_NO_SECTION", "GATE_NO_WORD"]
 NEEDED = {"memcpy", "memset"}
@@ -107,10 +107,15 @@ def kinds(source, function):
 
 
 def constant(source, pattern, what):
-    found = re.search(pattern, source)
+    found = re.search(pattern, source, re.M)
     if not found:
         raise Disagreement(f"no definition of {what}")
     return int(found.group(1))
+
+
+def words(text):
+    """[(definition, text, number)] of the table of words"""
+    return equations(text[ANSWERS], r"(\w+) = word", r'"([^"]+)" (\d+)')
 
 
 def sections(text):
@@ -126,10 +131,9 @@ def numbers(text):
         told["GATE_" + snake(case).upper()] = int(number)
     for section, (order, _) in sections(text).items():
         told["GATE_" + section] = order
-    for function in ("verdictCode", "byuidCode", "portaclCode"):
-        for case, number in equations(text[ANSWERS], function, r"\w+\.(\w+) = (\d+)"):
-            if told.setdefault("GATE_" + snake(case).upper(), int(number)) != int(number):
-                raise Disagreement(f"{case} has two numbers")
+    for case, _, number in words(text):
+        told["GATE_" + snake(case).upper()] = int(number)
+    told["GATE_NO_ADDRESS"] = constant(text[ANSWERS], r"^noAddress = (\d+)$", "a refused address's kind")
     for function, prefix in (("nameState", "NAME_"), ("userState", "USER_"), ("protocolOf", "")):
         for case, number in kinds(text[REQUESTS], function):
             told["GATE_" + prefix + snake(case).upper()] = int(number)
@@ -145,7 +149,7 @@ def limits(text):
     found["GATE_DAEMON_LIMIT"] = constant(fields, r"inRange 1 (\d+) \(length \(r \.daemon\)\)", "the daemon's limit")
     found["GATE_USER_LIMIT"] = constant(fields, r"inRange 1 (\d+) \(length \(r \.userName\)\)", "the user's limit")
     found["GATE_NAME_LIMIT"] = constant(fields, r"inRange 1 (\d+) \(length \(h \.name\)\)", "the name's limit")
-    found["GATE_GROUPS_LIMIT"] = constant(text[GROUPS], r"ltb (\d+) \(length \(b \.groups\)\)", "the groups' limit")
+    found["GATE_GROUPS_LIMIT"] = constant(text[GROUPS], r"leb \(length \(b \.groups\)\) (\d+)", "the groups' limit")
     line = found["GATE_LINE_LIMIT"] = constant(text[LINES], r"isTooLong t = ltb (\d+) \(length t\)", "the line's limit")
     found["GATE_ADDRESS_ROOM"] = 8 * 4 + 7
     most = max(found["GATE_DAEMON_LIMIT"], found["GATE_USER_LIMIT"]) + 1 + found["GATE_NAME_LIMIT"]
@@ -167,6 +171,12 @@ def prototypes(source):
 
 def enumerators(source):
     return {name for body in re.findall(r"^enum \w+ \{([^}]*)\}", uncommented(source), re.M) for name in re.findall(r"GATE_\w+", body)}
+
+
+def word_texts(source):
+    """{(enumerator, text)} that gate_word_text gives to words"""
+    body = re.search(r"gate_word_text\(uint32_t word\) \{(.*?)\n\}", source, re.S).group(1)
+    return {pair for pair in re.findall(r'case (\w+): return "([^"]+)";', body) if pair[0] not in ZEROS}
 
 
 def same(what, header, sources):
@@ -204,6 +214,7 @@ def check(text, folder):
         if shown[name] != [p for _, p in parameters_in_c(parameters)]:
             raise Disagreement(f"{name}: parameters {shown[name]}")
     same("numbers", enumerators(text[HEADER]), told)
+    same("words", word_texts(text[HEADER]), {("GATE_" + snake(name).upper(), word) for name, word, _ in words(text)})
     tags = re.findall(r"^(?:struct|enum) (\w+) \{", uncommented(text[HEADER]), re.M)
     functions = re.findall(r"\b(\w+)\([^)]*\)\s*[;{]", uncommented(text[HEADER]))
     if set(tags) & set(functions):
@@ -244,10 +255,17 @@ PLANTED = [
     (STRUCTS, "    pub kind: u32,\n    pub high: u64,", "    pub high: u64,\n    pub kind: u32,"),
     (STRUCTS, "    pub word: u32,\n    pub file: u32,", "    pub word: u32,\n    pub file: u32,\n    pub looked_at: u64,"),
     (FAULTS, "faultNumber F.NoRoom = 14", "faultNumber F.NoRoom = 14\nfaultNumber F.BadTable = 15"),
-    (ANSWERS, "byuidCode B.NoLine = 4", "byuidCode B.NoLine = 5"),
+    (ANSWERS, 'word "no line" 4', 'word "no line" 5'),
+    (ANSWERS, 'word "not ruled" 5', 'word "unruled" 5'),
+    (ANSWERS, "noAddress = 255", "noAddress = 0"),
+    (HEADER, "GATE_NO_ADDRESS = 255", "GATE_NO_ADDRESS = 0"),
+    (HEADER, "struct gate_command_answer gate_command(uint8_t *out", "struct gate_answer gate_command(uint8_t *out"),
+    (HEADER, "    uint64_t place, len;\n    uint64_t count;", "    uint64_t count;\n    uint64_t place, len;"),
+    (HEADER, "GATE_EXEMPT: return \"exempt\"", "GATE_EXEMPT: return \"granted\""),
     (SECTIONS, "order = 4; limit = 1024", "order = 4; limit = 4096"),
     (REQUESTS, "given (eqb n 2) U.Known", "given (eqb n 3) U.Known"),
     (LINES, "ltb 2047", "ltb 2048"),
+    (GROUPS, "(length (b .groups)) 16", "(length (b .groups)) 17"),
 ]
 
 

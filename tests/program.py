@@ -5,6 +5,7 @@ exits with 1 where something was not as expected, which it shows.
 
 A wrong program may write where it should not, and may run as root: so it is given no path outside a scratch folder to write to, works in
 that folder, and reads a copy of the sample. Devices are only opened here, as its standard output."""
+import contextlib
 import errno
 import os
 import pathlib
@@ -31,7 +32,8 @@ NAMES = ("hosts.allow", "hosts.deny", "byuid", "portacl")
 TEXTS = [(TOP / "sample" / name).read_bytes() for name in NAMES]
 SHEET = ref.pack(TEXTS, 42000)
 COMMANDS = ("check", "match", "byuid", "portacl", "pack", "unpack", "explain", "test")
-runs, failures, statuses = 0, [], set()
+PAGE = os.sysconf("SC_PAGE_SIZE")
+runs, failures, statuses, skipped = 0, [], set(), []
 
 
 def gate(*arguments, stdin=b"", **how):
@@ -135,10 +137,15 @@ def test_read():
         expect(what, done, status, None, b"")
     expect("-q prints nothing", gate("match", SAMPLE, "-q", "sshd", "10.1.1.1"), 1, b"", b"")
     expect("version", gate("--version"), 0, re.search(r'GATE_VERSION "(.*)"', (TOP / "include/gate.h").read_text())[1], b"")
-    expect("help", gate("--help"), 0, "Exit status", b"")
+    done, manual = gate("--help"), (TOP / "man/gate.1").read_text()
+    expect("help", done, 0, "Exit status", b"")
+    listed = tuple(re.findall(r"^  ([a-z]+)  ", done.stdout.decode(), re.M))
+    if listed != COMMANDS:
+        fail("the commands of the help are those tested here", listed)
     for command in COMMANDS:
-        expect("help lists " + command, gate("--help"), 0, "\n  " + command, b"")
         expect("help of " + command, gate(command, "--help"), 0, "usage: gate %s " % command, b"")
+        if f"\n.Cm {command}\n" not in manual or f"\n.Ss gate {command}\n" not in manual:
+            fail(f"the manual page has {command} in its synopsis and as a part")
 
 
 # Answers
@@ -482,10 +489,69 @@ def test_faults(folder):
         fail("a sheet in place is whole")
     sheet.write_bytes(old)
     done = gate(*pack, env=faulty(library, "fsync", 1, signal=signal.SIGKILL))
-    if done.returncode != -signal.SIGKILL or sheet.read_bytes() != old:
-        fail("a killed pack leaves the sheet as it was")
+    left = left_over(folder)
+    if done.returncode != -signal.SIGKILL or sheet.read_bytes() != old or len(left) != 1:
+        fail("a killed pack leaves the sheet as it was, and its temporary file", left)
+    expect("packing beside what a killed pack left", gate(*pack), 0, "396 bytes", b"")
+    if sheet.read_bytes() != SHEET or left_over(folder) != left:
+        fail("a sheet beside what a killed pack left")
+    left[0].unlink()
     ignoring = gate(*pack, env=faulty(library, "fsync", 1, signal=signal.SIGHUP), preexec_fn=lambda: signal.signal(signal.SIGHUP, signal.SIG_IGN))
     expect("a signal that is ignored", ignoring, 0, "396 bytes", b"")
+
+
+@contextlib.contextmanager
+def small_disk(folder, pages):
+    """a file system of so many pages, mounted where only a process of our own sees it, and gone with that; None where no one may mount"""
+    script = 'mount -t tmpfs -o size="$1" gate "$0" && echo mounted && exec cat'
+    command = ["unshare", "--map-root-user", "--mount", "/bin/sh", "-c", script, folder, str(pages * PAGE)]
+    try:
+        holder = subprocess.Popen(command, stdin=subprocess.PIPE, stdout=subprocess.PIPE, stderr=subprocess.DEVNULL)
+    except OSError:
+        yield None
+        return
+    with holder:
+        seen = pathlib.Path(f"/proc/{holder.pid}/root{folder}")
+        yield seen if holder.stdout.readline() == b"mounted\n" else None
+
+
+def leave_pages(disk, free):
+    """fills the disk but for so many pages"""
+    with open(disk / "fill", "wb", buffering=0) as fill:
+        fill.truncate(0)
+        try:
+            while fill.write(bytes(PAGE)):
+                pass
+        except OSError as error:
+            if error.errno != errno.ENOSPC:
+                raise
+        fill.truncate(fill.tell() - free * PAGE)
+
+
+def test_full_disk(folder):
+    """the disk is really full, from the first byte or in the midst: what was there stays, and nothing is left beside it"""
+    message, old = "No space left on device; nothing was written, and what was there is as it was", b"what was there"
+    large = station(folder + "/large", b"\n" * 16384, b"\n" * 16384)
+    (pathlib.Path(folder) / "one.sheet").write_bytes(SHEET)
+    os.mkdir(folder + "/disk")
+    with small_disk(folder + "/disk", 16) as disk:
+        if not disk:
+            skipped.append("no full disk was tried: the system lets us mount none")
+            return
+        sheet, texts = disk / "station.sheet", write_station(disk / "texts", [b""] * 4)
+        sheet.write_bytes(old)
+        for free, what, arguments in ((0, "pack", ["pack", SAMPLE, sheet]), (1, "pack in the midst", ["pack", large, sheet]),
+                                      (0, "unpack", ["unpack", folder + "/one.sheet", disk / "out"]),
+                                      (2, "unpack in the midst", ["unpack", folder + "/one.sheet", disk / "out"]),
+                                      (2, "unpack over texts", ["unpack", "-f", folder + "/one.sheet", texts])):
+            leave_pages(disk, free)
+            expect(f"{what} on a full disk", gate(*arguments), 2, b"", message)
+            if sheet.read_bytes() != old or left_over(disk) or (disk / "out").exists() or any((disk / "texts" / name).read_bytes() for name in NAMES):
+                fail(f"{what} on a full disk changes nothing", sheet.read_bytes()[:40], sorted(disk.rglob("*")))
+        leave_pages(disk, 1)
+        expect("pack into the last page", gate("pack", SAMPLE, sheet), 0, "396 bytes", b"")
+        if sheet.read_bytes() != SHEET or left_over(disk):
+            fail("a sheet in the last page is whole")
 
 
 # Generated stations beside the reference
@@ -609,7 +675,7 @@ def run_all():
     os.chmod(SCRATCH, 0o755)
     test_misread()
     test_read()
-    for test in (test_answers, test_checks, test_explain, test_requests, test_reading, test_pack, test_unpack, test_faults):
+    for test in (test_answers, test_checks, test_explain, test_requests, test_reading, test_pack, test_unpack, test_faults, test_full_disk):
         with tempfile.TemporaryDirectory(dir=SCRATCH) as folder:
             test(folder)
     for test in (test_generated_checks, test_generated_answers):
@@ -627,7 +693,7 @@ def main():
     if not {0, 1, 2, 3, 4} <= statuses:
         fail("every exit status came up", statuses)
     if not failures:
-        print(f"program: {runs} runs as expected")
+        print("; ".join([f"program: {runs} runs as expected", *skipped]))
     sys.exit(1 if failures else 0)
 
 

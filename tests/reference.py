@@ -515,6 +515,20 @@ def expand(command, r, process, room):
     return within(room, re.sub(rb"%(.)", piece, trimmed(command), flags=re.S))
 
 
+# The verdict and its command in one call
+
+def refused(answer):
+    return isinstance(answer, tuple) and len(answer) == 3
+
+
+def with_command(answer, r, process, room):
+    """of a verdict: a refusal, or the verdict with the bytes that are written for the command behind it"""
+    if refused(answer):
+        return answer
+    text = expand(answer[4], r, process, room)
+    return text if refused(text) else answer + (text,)
+
+
 # The station sheet
 
 def texts_fault(texts):
@@ -550,10 +564,6 @@ def sheet_of(texts):
 def pack(texts, room):
     """a refusal, or the bytes written"""
     return texts_fault(texts) or within(room, sheet_of(texts))
-
-
-def refused(answer):
-    return isinstance(answer, tuple) and len(answer) == 3
 
 
 def check(sheet):

@@ -17,7 +17,8 @@
 enum { PAGE = 4096, PAINT = 0xa5, BEYOND = 3 };
 
 /* In the order of `exports`; NOTHING is no call at all, and its bytes are not counted. */
-enum export { VERDICT, SHEET_VERDICT, BYUID, SHEET_BYUID, PORTACL, SHEET_PORTACL, CHECK, UNPACK, PACK, EXPAND, READ_ADDRESS, WRITE_ADDRESS, NOTHING };
+enum export { VERDICT, SHEET_VERDICT, COMMAND, SHEET_COMMAND, BYUID, SHEET_BYUID, PORTACL, SHEET_PORTACL, CHECK, UNPACK, PACK, EXPAND, READ_ADDRESS,
+              WRITE_ADDRESS, NOTHING };
 
 struct text {
     uint8_t bytes[GATE_ALLOW_LIMIT];
@@ -89,6 +90,10 @@ static void named(struct gate_host *host, const char *name, const char *address_
 /* The calls. Their numbers are kept, so that none is left out. */
 static uint32_t verdict(void) { return gate_verdict_for(allow.bytes, allow.len, deny.bytes, deny.len, &request).number; }
 static uint32_t sheet_verdict(void) { return gate_sheet_verdict_for(sheet, sheet_len, &request).number; }
+static uint32_t with_command(void) {
+    return gate_command_for(out, sizeof out, allow.bytes, allow.len, deny.bytes, deny.len, &request, 4294967295u).number;
+}
+static uint32_t sheet_command(void) { return gate_sheet_command_for(out, sizeof out, sheet, sheet_len, &request, 4294967295u).number; }
 static uint32_t by_uid(void) { return gate_byuid_for(byuid.bytes, byuid.len, &at, 1023, 432).number; }
 static uint32_t sheet_byuid(void) { return gate_sheet_byuid_for(sheet, sheet_len, &at, 1023, 432).number; }
 static uint32_t port_acl(void) { return gate_portacl_for(portacl.bytes, portacl.len, &settings, &bound).number; }
@@ -106,9 +111,10 @@ static uint32_t nothing(void) { return 0; }
 static const struct {
     const char *name;
     uint32_t (*call)(void);
-} exports[] = {{"gate_verdict", verdict}, {"gate_sheet_verdict", sheet_verdict}, {"gate_byuid", by_uid}, {"gate_sheet_byuid", sheet_byuid},
-               {"gate_portacl", port_acl}, {"gate_sheet_portacl", sheet_portacl}, {"gate_check", check}, {"gate_unpack", unpack}, {"gate_pack", pack},
-               {"gate_expand", expand}, {"gate_read_address", read_address}, {"gate_write_address", write_address}, {"nothing", nothing}};
+} exports[] = {{"gate_verdict", verdict}, {"gate_sheet_verdict", sheet_verdict}, {"gate_command", with_command}, {"gate_sheet_command", sheet_command},
+               {"gate_byuid", by_uid}, {"gate_sheet_byuid", sheet_byuid}, {"gate_portacl", port_acl}, {"gate_sheet_portacl", sheet_portacl},
+               {"gate_check", check}, {"gate_unpack", unpack}, {"gate_pack", pack}, {"gate_expand", expand}, {"gate_read_address", read_address},
+               {"gate_write_address", write_address}, {"nothing", nothing}};
 
 /* In the thread. */
 
@@ -195,6 +201,7 @@ static void chains(void) {
     rules("a@a EXCEPT a@a .., clients", "a:", "a@a EXCEPT ", "a@a", 0);
     rules("a@a EXCEPT a@a .., daemons", "", "a@a EXCEPT ", "a@a:a", 0);
     rules("two chains", "a EXCEPT a EXCEPT a:", "a EXCEPT ", "a:%c", 0);
+    rules("a chain that matches, and its command", "a:", "a EXCEPT b EXCEPT ", "a:%c%s%p", 0);
 }
 
 static void lists(void) {
@@ -251,6 +258,18 @@ static void ports(void) {
     port_texts("no ports", "", "");
 }
 
+/* An expansion, and a verdict with the same command behind the shortest lists. */
+static void expand_all(const char *directive) {
+    input = directive;
+    command.len = 0;
+    fill(&command, directive, GATE_LINE_LIMIT);
+    in_thread(EXPAND);
+    line(&allow, "ALL:ALL:", directive, "");
+    pack_by_hand();
+    in_thread(COMMAND);
+    in_thread(SHEET_COMMAND);
+}
+
 static void expansions(void) {
     const char *directives[] = {"%c", "%s", "%h", "%H", "%a", "%A", "%n", "%N", "%u", "%d", "%p", "%%", "x", "%", "\\\n"};
     memset(long_name, 'n', sizeof long_name);
@@ -261,13 +280,10 @@ static void expansions(void) {
     request.daemon = long_user;
     request.daemon_len = sizeof long_user;
     for (size_t i = 0; i < sizeof directives / sizeof *directives; i++) {
-        command.len = 0;
-        fill(&command, directives[i], GATE_LINE_LIMIT);
-        input = directives[i];
-        in_thread(EXPAND);
+        expand_all(directives[i]);
         gate_host_set_name(&request.client, NULL, 0);
         gate_host_set_name(&request.server, NULL, 0);
-        in_thread(EXPAND);
+        expand_all(directives[i]);
         gate_host_set_name(&request.client, long_name, sizeof long_name);
         gate_host_set_name(&request.server, long_name, sizeof long_name);
     }

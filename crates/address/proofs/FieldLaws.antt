@@ -349,12 +349,12 @@ pub record Landed (e : List ℕ) (i n k v : ℕ) (d : Bool) : Type 0 where
   pub stops : i < length e → stepOf n k v d (getD e i 0) ≡ S.Stop
 
 module _ {X : Type 0} (f : ℕ → ℕ → ℕ → Bool → List ℕ → X) (bad : X) (follows : Follows f bad) (e : List ℕ) where
-  abbrev Told : X → Run → Type 0
-  Told y R.Failed = y ≡ bad
-  Told y (R.At i m l u x) = (y ≡ f m l u x (drop i e)) × Landed e i m l u x
+  abbrev Agrees : X → Run → Type 0
+  Agrees y R.Failed = y ≡ bad
+  Agrees y (R.At i m l u x) = (y ≡ f m l u x (drop i e)) × Landed e i m l u x
 
   told : (t : List ℕ) (j n k v : ℕ) (d : Bool) → drop j e ≡ t → j + length t ≡ length e → k ≤ 3 → n < 256 ^ k → v ≤ 255
-      → Told (f n k v d t) (runFrom j n k v d t)
+      → Agrees (f n k v d t) (runFrom j n k v d t)
   unfolding runFrom
   told [] j n k v d q l few small field = (
     ap (f n k v d) (sym q),
@@ -379,8 +379,8 @@ module _ {X : Type 0} (f : ℕ → ℕ → ℕ → Bool → List ℕ → X) (bad
       head q = let z : getD e j 0 ∷ drop (suc j) e ≡ b ∷ t = sym (drop-cons e j 0 inside) ∙ q in cc
 
       by : (s : Step) → stepOf n k v d b ≡ s
-          → ((m o u : ℕ) (x : Bool) → stepOf n k v d b ≡ S.Go m o u x → o ≤ 3 → m < 256 ^ o → u ≤ 255 → Told (f m o u x t) (runFrom (suc j) m o u x t))
-          → Told (f n k v d (b ∷ t)) (onStep s (R.At j n k v d) (λ m l u x. runFrom (suc j) m l u x t))
+          → ((m o u : ℕ) (x : Bool) → stepOf n k v d b ≡ S.Go m o u x → o ≤ 3 → m < 256 ^ o → u ≤ 255 → Agrees (f m o u x t) (runFrom (suc j) m o u x t))
+          → Agrees (f n k v d (b ∷ t)) (onStep s (R.At j n k v d) (λ m l u x. runFrom (suc j) m l u x t))
       by S.Nothing h ih = follows .fails n k v d b t h
       by S.Stop h ih = (
         ap (f n k v d) (sym q),
@@ -395,18 +395,18 @@ module _ {X : Type 0} (f : ℕ → ℕ → ℕ → Bool → List ℕ → X) (bad
       )
       by (S.Go m o u x) h ih =
           let g = step-bounds n k v d b m o u x few small field h in
-          subst (λ (y : X). Told y (runFrom (suc j) m o u x t)) (sym (follows .goes n k v d b t m o u x h)) (ih m o u x h (g .1 .0) (g .0) (g .1 .1))
+          subst (λ (y : X). Agrees y (runFrom (suc j) m o u x t)) (sym (follows .goes n k v d b t m o u x h)) (ih m o u x h (g .1 .0) (g .0) (g .1 .1))
 
   module _ (r : Run) (is-r : r ≡ runFrom 0 0 0 0 false e) where
-    whole : Told (f 0 0 0 false e) r
+    whole : Agrees (f 0 0 0 false e) r
     whole = rw is-r (told e 0 0 0 0 false refl (omega arith) (omega arith) (omega arith) (omega arith))
 
     pub run-failed : r ≡ R.Failed → f 0 0 0 false e ≡ bad
-    run-failed q = subst (Told (f 0 0 0 false e)) q whole
+    run-failed q = subst (Agrees (f 0 0 0 false e)) q whole
 
     module _ (i n k v : ℕ) (d : Bool) (q : r ≡ R.At i n k v d) where
       pub run-at : (f 0 0 0 false e ≡ f n k v d (drop i e)) × Landed e i n k v d
-      run-at = subst (Told (f 0 0 0 false e)) q whole
+      run-at = subst (Agrees (f 0 0 0 false e)) q whole
 
 -- ## An address, by a pass over the whole text
 

@@ -111,7 +111,8 @@ module _ (b : ℕ) (d : Bool) (is-d : d ≡ isDigit b) where
 hex-cases : (b : ℕ) → ((isHex b ≡ true) × (hexValue b < 16)) ⊎ ((isHex b ≡ false) × (hexValue b ≡ 16))
 hex-cases b = by (isDigit b) (ltb (lower b) 97) (ltb 102 (lower b)) refl refl refl
   where
-    by : (d p q : Bool) → isDigit b ≡ d → ltb (lower b) 97 ≡ p → ltb 102 (lower b) ≡ q → ((isHex b ≡ true) × (hexValue b < 16)) ⊎ ((isHex b ≡ false) × (hexValue b ≡ 16))
+    by : (d p q : Bool) → isDigit b ≡ d → ltb (lower b) 97 ≡ p → ltb 102 (lower b) ≡ q
+        → ((isHex b ≡ true) × (hexValue b < 16)) ⊎ ((isHex b ≡ false) × (hexValue b ≡ 16))
     by true p q e f g = inl (rw e, omega (arith, hexValue-digit b (isDigit b) refl e, leb-true b 57 (and-true (leb 48 b) (leb b 57) e .1)))
     by false true q e f g =
         let h : lower b < 97 = ltb-true (lower b) 97 f in
@@ -214,7 +215,11 @@ groupValue-lt t g e = by (all isHex t) (inRange 1 4 (length t)) refl refl e
     by true true p q r =
         let v : fromDigits 16 0 (map digitValue t) ≡ g = cc in
         let l : length (map digitValue t) ≤ 4 = rw (length-map t digitValue) (leb-true (length t) 4 (and-true (leb 1 (length t)) (leb (length t) 4) q .1)) in
-        omega (arith, fromDigits-lt 16 0 (map digitValue t) (digits-below t p), pow-le-pow-right {n = 16} (omega arith) {i = length (map digitValue t)} {j = 4} l)
+        omega (
+          arith,
+          fromDigits-lt 16 0 (map digitValue t) (digits-below t p),
+          pow-le-pow-right {n = 16} (omega arith) {i = length (map digitValue t)} {j = 4} l,
+        )
     by true false p q r = let z : _≡_ {A = ℕ} 0 1 = cc in absurd (omega arith)
     by false b p q r = let z : _≡_ {A = ℕ} 0 1 = cc in absurd (omega arith)
 

@@ -90,7 +90,8 @@ module _ (w n : ℕ) where
     low-place = omega arith
 
     widen : (x : ℕ) → x * 2 ^ w ≡ x * 2 ^ own * 2 ^ rest
-    widen x = let e : own + rest ≡ w = omega arith in ap (λ (k : ℕ). x * 2 ^ k) (sym e) ∙ ap (λ (z : ℕ). x * z) (pow-add 2 own rest) ∙ sym (mul-assoc x (2 ^ own) (2 ^ rest))
+    widen x = let e : own + rest ≡ w = omega arith in ap (λ (k : ℕ). x * 2 ^ k) (sym e) ∙ ap (λ (z : ℕ). x * z) (pow-add 2 own rest)
+        ∙ sym (mul-assoc x (2 ^ own) (2 ^ rest))
 
     leading-low : (x y : ℕ) → (x * 2 ^ w + y) / 2 ^ ((w + w) - n) ≡ x * 2 ^ own + y / 2 ^ rest
     leading-low x y = rw (low-place, widen x) (mul-add-div-right (pow-pos rest) (x * 2 ^ own) y)
@@ -109,7 +110,8 @@ module _ (w n : ℕ) where
         let k′ : b < 2 ^ (own + rest) = rw e k in
         let l′ : d < 2 ^ (own + rest) = rw e l in
         ne-eqb ((a * 2 ^ w + b) / 2 ^ ((w + w) - n)) ((c * 2 ^ w + d) / 2 ^ ((w + w) - n))
-        (λ q. m (sym (high a own (shr-lt own rest k′)) ∙ ap (λ (z : ℕ). z / 2 ^ own) (sym (leading-low a b) ∙ q ∙ leading-low c d) ∙ high c own (shr-lt own rest l′)))
+        (λ q. m (sym (high a own (shr-lt own rest k′)) ∙ ap (λ (z : ℕ). z / 2 ^ own) (sym (leading-low a b) ∙ q ∙ leading-low c d)
+        ∙ high c own (shr-lt own rest l′)))
 
     pub clear-low : (x y : ℕ) → eqb ((x * 2 ^ w + y) % 2 ^ ((w + w) - n)) 0 ≡ eqb (y % 2 ^ (w - (n - w))) 0
     clear-low x y = rw (low-place, widen x) (ap (λ (z : ℕ). eqb z 0) (mul-add-mod-self-right (x * 2 ^ own) (2 ^ rest) y))

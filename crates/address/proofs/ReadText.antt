@@ -62,7 +62,8 @@ isHex-digitByte d h =
     (λ (c : ℕ). isHex c ≡ true)
     d
     (λ k. rw (le-leb 48 (48 + d) (omega arith), le-leb (48 + d) 57 (omega arith)))
-    (λ k. rw (le-leb 97 (97 + (d - 10)) (omega arith), le-leb (97 + (d - 10)) 102 (omega arith)) (or-true (isDigit (97 + (d - 10)) || charRange "A" "F" (97 + (d - 10)))))
+    (λ k. rw (le-leb 97 (97 + (d - 10)) (omega arith), le-leb (97 + (d - 10)) 102 (omega arith))
+    (or-true (isDigit (97 + (d - 10)) || charRange "A" "F" (97 + (d - 10)))))
 
 isHex-numeral : (g : ℕ) → all isHex (numeral 16 4 g) ≡ true
 isHex-numeral = all-numeral isHex 16 (omega arith) isHex-digitByte 4
@@ -77,7 +78,12 @@ readGroup-numeral : (g : ℕ) → g < 65536 → readGroup (numeral 16 4 g) ≡ s
 unfolding readGroup
 readGroup-numeral g h =
     let long = length-numeral 16 4 g in
-    rw (isHex-numeral g, le-leb 1 (length (numeral 16 4 g)) (long .1 (omega arith)), le-leb (length (numeral 16 4 g)) 4 (omega arith), fromDigits-numeral 16 (omega arith) (omega arith) 4 g (omega arith))
+    rw (
+      isHex-numeral g,
+      le-leb 1 (length (numeral 16 4 g)) (long .1 (omega arith)),
+      le-leb (length (numeral 16 4 g)) 4 (omega arith),
+      fromDigits-numeral 16 (omega arith) (omega arith) 4 g (omega arith),
+    )
 
 readLastGroup-numeral : (g : ℕ) → g < 65536 → readLastGroup (numeral 16 4 g) ≡ some (g ∷ [])
 unfolding readLastGroup
@@ -125,7 +131,14 @@ readCompressed-hexGroups l r k e f long =
     let m : length l + suc k + length r ≡ 8 = simp (length-append, length-replicate) at long in
     let n : length (l ++ r) ≡ length l + length r = length-append l r in
     let z : 8 - length (l ++ r) ≡ suc k = omega arith in
-    rw (side-hexGroups l, side-hexGroups r, readGroups-map readGroup readGroup-numeral l e, readGroups-map readLastGroup readLastGroup-numeral r f, lt-ltb (length (l ++ r)) 8 (omega arith), z)
+    rw (
+      side-hexGroups l,
+      side-hexGroups r,
+      readGroups-map readGroup readGroup-numeral l e,
+      readGroups-map readLastGroup readLastGroup-numeral r f,
+      lt-ltb (length (l ++ r)) 8 (omega arith),
+      z,
+    )
 
 -- how compress writes the groups gs
 data Written (gs t : List ℕ) : Type 0 where
@@ -139,7 +152,8 @@ written-compress (suc k) gs = by (splitOnce (replicate (suc (suc k)) 0) gs) refl
   where
     by : (o : Option (List ℕ × List ℕ)) → splitOnce (replicate (suc (suc k)) 0) gs ≡ o → Written gs (compress k gs) → Written gs (compress (suc k) gs)
     by none e h = rw e h
-    by (some p) e h = short (p .0) (p .1) (suc k) (splitOnce-some (replicate (suc (suc k)) 0) gs p e ∙ sym (append-assoc (p .0) (replicate (suc (suc k)) 0) (p .1))) (rw e)
+    by (some p) e h = short (p .0) (p .1) (suc k)
+        (splitOnce-some (replicate (suc (suc k)) 0) gs p e ∙ sym (append-assoc (p .0) (replicate (suc (suc k)) 0) (p .1))) (rw e)
 
 -- groups alone hold no `::`, and the first one after groups stands right behind them
 splitOnce-hexGroups : (gs : List ℕ) → splitOnce (bytes "::") (hexGroups gs) ≡ none

@@ -127,7 +127,8 @@ groups-are : (o : Option (List ℕ)) (a : ℕ) (l : Words) → groupsFrom 0 0 o 
 groups-are none a l e = let z : _≡_ {A = ℕ} 0 1 = cc in absurd (omega arith)
 groups-are (some gs) a l e = by (leb (0 + length gs) 8) refl e
   where
-    by : (b : Bool) → leb (0 + length gs) 8 ≡ b → (if b then R.Groups (0 + length gs) (wordsOf (fromDigits 65536 0 gs)) else R.Nothing) ≡ R.Groups a l → AreGroups (some gs) a l
+    by : (b : Bool) → leb (0 + length gs) 8 ≡ b → (if b then R.Groups (0 + length gs) (wordsOf (fromDigits 65536 0 gs)) else R.Nothing) ≡ R.Groups a l
+        → AreGroups (some gs) a l
     by true p q =
         let x : 0 + length gs ≡ a = cc in
         record { groups = gs; read = refl; count = omega arith; few = omega (arith, leb-true (0 + length gs) 8 p); number = cc }
@@ -141,7 +142,8 @@ groups-none : (o : Option (List ℕ)) → groupsFrom 0 0 o ≡ R.Nothing → (gs
 groups-none none e gs q = let z : _≡_ {A = ℕ} 0 1 = cc in absurd (omega arith)
 groups-none (some hs) e gs q = let r : hs ≡ gs = cc in omega (arith, ap length r, by (leb (0 + length hs) 8) refl e)
   where
-    by : (b : Bool) → leb (0 + length hs) 8 ≡ b → (if b then R.Groups (0 + length hs) (wordsOf (fromDigits 65536 0 hs)) else R.Nothing) ≡ R.Nothing → 8 < length hs
+    by : (b : Bool) → leb (0 + length hs) 8 ≡ b → (if b then R.Groups (0 + length hs) (wordsOf (fromDigits 65536 0 hs)) else R.Nothing) ≡ R.Nothing
+        → 8 < length hs
     by true p q = let z : _≡_ {A = ℕ} 0 1 = cc in absurd (omega arith)
     by false p q = omega (arith, leb-false (0 + length hs) 8 p)
 
@@ -198,12 +200,15 @@ module _ (gs hs : List ℕ) where
           rw (length-joined z q, fromDigits-joined z q)
       by false e = refl
 
-pub groups-fit : (tail : Bool) (ws : List (List ℕ)) (a : ℕ) (l : Words) → groupsFrom 0 0 (readGroups (readsLast tail) ws) ≡ R.Groups a l → (a ≤ 8) × (numberOf l < 65536 ^ a)
+pub groups-fit : (tail : Bool) (ws : List (List ℕ)) (a : ℕ) (l : Words) → groupsFrom 0 0 (readGroups (readsLast tail) ws) ≡ R.Groups a l → (a ≤ 8)
+    × (numberOf l < 65536 ^ a)
 groups-fit tail ws a l e =
     let o : Option (List ℕ) = readGroups (readsLast tail) ws in
     let r : AreGroups o a l = groups-are o a l e in
-    let p : 65536 ^ a ≡ 65536 ^ length (r .groups) = ap (λ (k : ℕ). 65536 ^ k) (r .count) in
-    (omega (arith, r .count, r .few), omega (arith, p, numberOf-groups o a l r, fromDigits-lt 65536 0 (r .groups) (readGroups-below tail ws (r .groups) (r .read))))
+    let p : 65536 ^ a ≡ 65536 ^ length (r .groups) = ap (λ (k : ℕ). 65536 ^ k) (r .count) in (
+      omega (arith, r .count, r .few),
+      omega (arith, p, numberOf-groups o a l r, fromDigits-lt 65536 0 (r .groups) (readGroups-below tail ws (r .groups) (r .read))),
+    )
 
 compressed-both : (o p : Option (List ℕ)) (a : ℕ) (l : Words) (b : ℕ) (r : Words) → groupsFrom 0 0 o ≡ R.Groups a l → groupsFrom 0 0 p ≡ R.Groups b r
     → compressed o p ≡ given (ltb (a + b) 8) (numberOf l * 65536 ^ (8 - a) + numberOf r)
@@ -336,14 +341,16 @@ ofGroups-nothing : (o : Option (List ℕ)) → groupsFrom 0 0 o ≡ R.Nothing �
 ofGroups-nothing none e = refl
 ofGroups-nothing (some gs) e = rw (ne-eqb (length gs) 8 (λ q. omega (arith, groups-none (some gs) e gs refl)))
 
-ofGroups-are : (o : Option (List ℕ)) (c : ℕ) (w : Words) → groupsFrom 0 0 o ≡ R.Groups c w → asV6 (ofGroups o) ≡ (if eqb c 8 then S.Value (w .high) (w .low) else S.Nothing)
+ofGroups-are : (o : Option (List ℕ)) (c : ℕ) (w : Words) → groupsFrom 0 0 o ≡ R.Groups c w → asV6 (ofGroups o)
+    ≡ (if eqb c 8 then S.Value (w .high) (w .low) else S.Nothing)
 ofGroups-are o c w e = let r : AreGroups o c w = groups-are o c w e in by (r .groups) (r .read) (r .count) (r .number)
   where
     if-given : (b : Bool) (n : ℕ) → asV6 (given b n) ≡ (if b then S.Value (n / 2 ^ 64) (n % 2 ^ 64) else S.Nothing)
     if-given true n = refl
     if-given false n = refl
 
-    by : (gs : List ℕ) → o ≡ some gs → c ≡ length gs → w ≡ wordsOf (fromDigits 65536 0 gs) → asV6 (ofGroups o) ≡ (if eqb c 8 then S.Value (w .high) (w .low) else S.Nothing)
+    by : (gs : List ℕ) → o ≡ some gs → c ≡ length gs → w ≡ wordsOf (fromDigits 65536 0 gs) → asV6 (ofGroups o)
+        ≡ (if eqb c 8 then S.Value (w .high) (w .low) else S.Nothing)
     by gs x y n = rw (x, y, n) (if-given (eqb (length gs) 8) (fromDigits 65536 0 gs))
 
 -- with `::` in it
@@ -356,7 +363,12 @@ module _ (t : List ℕ) (i : ℕ) (is-i : i ≡ placeOf (bytes "::") t) where
     unfolding readV6
     readV6-compressed =
         let k : placeOf (bytes "::") t < length t = rw is-i at h in
-        rw (splitOnce-place (bytes "::") t k, readGroups-others readLastGroup (split ":" t) (split-some t) (others-none readLastGroup t k), ← is-i, orElse-none (readCompressed (take i t, drop (i + 2) t)))
+        rw (
+          splitOnce-place (bytes "::") t k,
+          readGroups-others readLastGroup (split ":" t) (split-some t) (others-none readLastGroup t k),
+          ← is-i,
+          orElse-none (readCompressed (take i t, drop (i + 2) t)),
+        )
 
     pub v6-compressed : (v : V6Read) → v ≡ asV6 (ofGroups (readCompressed (take i t, drop (i + 2) t))) → v ≡ asV6 (readV6 t)
     v6-compressed v e = e ∙ sym (ap asV6 readV6-compressed)

@@ -89,12 +89,14 @@ module _ (tail : Bool) (k n : ℕ) (t : List ℕ) where
   abbrev colon : ℕ
   colon = indexOf 58 t
 
-  by-group : (P : Group → Type 0) → ((b : Bool) (o : Option ℕ) → ltb colon (length t) ≡ b → groupValue (take colon t) ≡ o → P (groupAt colon b o)) → P (firstGroup t)
+  by-group : (P : Group → Type 0) → ((b : Bool) (o : Option ℕ) → ltb colon (length t) ≡ b → groupValue (take colon t) ≡ o → P (groupAt colon b o))
+      → P (firstGroup t)
   unfolding firstGroup
   by-group P f = f (ltb colon (length t)) (groupValue (take colon t)) refl refl
 
   row-parts : ltb colon (length t) ≡ true
-      → rowFrom tail k n t ≡ groupsFrom k n (readGroup (take colon t) >>= λ g. readGroups (readsLast tail) (split ":" (drop (colon + 1) t)) >>= λ gs. some (g ++ gs))
+      → rowFrom tail k n t
+      ≡ groupsFrom k n (readGroup (take colon t) >>= λ g. readGroups (readsLast tail) (split ":" (drop (colon + 1) t)) >>= λ gs. some (g ++ gs))
   unfolding rowFrom
   row-parts p =
       ap (groupsFrom k n)
@@ -136,7 +138,8 @@ module _ (tail : Bool) (k n : ℕ) (t : List ℕ) where
           )
 
 -- what holds of every group and of every IPv4 text, and of two rows together, holds of whatever is read
-module _ (P : List ℕ → Type 0) (one : (g : ℕ) → g < 65536 → P (g ∷ [])) (two : (n : ℕ) → P (toDigits 65536 2 n)) (both : (gs hs : List ℕ) → P gs → P hs → P (gs ++ hs)) where
+module _ (P : List ℕ → Type 0) (one : (g : ℕ) → g < 65536 → P (g ∷ [])) (two : (n : ℕ) → P (toDigits 65536 2 n))
+    (both : (gs hs : List ℕ) → P gs → P hs → P (gs ++ hs)) where
   readGroup-all : (t gs : List ℕ) → readGroup t ≡ some gs → P gs
   readGroup-all t gs e = by (groupValue t) refl (sym (readGroup-value t) ∙ e)
     where
@@ -174,14 +177,16 @@ module _ (P : List ℕ → Type 0) (one : (g : ℕ) → g < 65536 → P (g ∷ [
 
 -- one group at least, so none fits after eight
 readGroups-some : (tail : Bool) (w : List ℕ) (ws : List (List ℕ)) (gs : List ℕ) → readGroups (readsLast tail) (w ∷ ws) ≡ some gs → 0 < length gs
-readGroups-some = readGroups-all (λ gs. 0 < length gs) (λ g h. omega arith) (λ n. rw (length-toDigits 65536 2 n) (omega arith)) (λ gs hs h k. rw (length-append gs hs) (omega arith))
+readGroups-some = readGroups-all (λ gs. 0 < length gs) (λ g h. omega arith) (λ n. rw (length-toDigits 65536 2 n) (omega arith))
+    (λ gs hs h k. rw (length-append gs hs) (omega arith))
 
 -- every group is below 65536
 pub readGroups-below : (tail : Bool) (ws : List (List ℕ)) (gs : List ℕ) → readGroups (readsLast tail) ws ≡ some gs → all (λ g. ltb g 65536) gs ≡ true
 unfolding readGroups all
 readGroups-below tail [] gs e = let q : [] ≡ gs = cc in rw (← q)
 readGroups-below tail (w ∷ ws) gs e =
-    readGroups-all (λ gs. all (λ g. ltb g 65536) gs ≡ true) (λ g h. rw (lt-ltb g 65536 h)) (λ n. toDigits-below 65536 2 n (omega arith)) (all-append (λ g. ltb g 65536)) tail w ws gs e
+    readGroups-all (λ gs. all (λ g. ltb g 65536) gs ≡ true) (λ g h. rw (lt-ltb g 65536 h)) (λ n. toDigits-below 65536 2 n (omega arith))
+    (all-append (λ g. ltb g 65536)) tail w ws gs e
 
 groupsFrom-over : (n : ℕ) (o : Option (List ℕ)) → ((gs : List ℕ) → o ≡ some gs → 0 < length gs) → groupsFrom 8 n o ≡ R.Nothing
 groupsFrom-over n none f = refl
@@ -238,7 +243,8 @@ module _ (w : Words) (k : ℕ) (few : k < 8) (small : numberOf w < 65536 ^ k) wh
       pub last-nothing : v ≡ N.Nothing → tail ≡ false → R.Nothing ≡ groupsFrom k (numberOf w) (readsLast tail t)
       last-nothing e f = sym (rw (f, readGroup-value t, asNumber-none (groupValue t) (sym is-v ∙ e)))
 
-      pub last-tail : v ≡ N.Nothing → tail ≡ true → (r : GroupsRead) → r ≡ groupsFrom k (numberOf w) (readTail t) → r ≡ groupsFrom k (numberOf w) (readsLast tail t)
+      pub last-tail : v ≡ N.Nothing → tail ≡ true → (r : GroupsRead) → r ≡ groupsFrom k (numberOf w) (readTail t) → r
+          ≡ groupsFrom k (numberOf w) (readsLast tail t)
       unfolding readLastGroup
       last-tail e f r h = h ∙ sym (rw (f, readGroup-value t, asNumber-none (groupValue t) (sym is-v ∙ e)))
 
@@ -279,7 +285,8 @@ module _ (s : List ℕ) (tail : Bool) (w : Words) (count at : ℕ) (r : Row s ta
 
     pub row-ends : g ≡ G.Last → (a : GroupsRead) → a ≡ groupsFrom count (numberOf w) (readsLast tail (take (length s - at) (drop at s)))
         → a ≡ groupsFrom 0 0 (readGroups (readsLast tail) (sideParts s))
-    row-ends e a h = h ∙ ap (λ (t : List ℕ). groupsFrom count (numberOf w) (readsLast tail t)) (take-rest s at) ∙ sym (r .rest ∙ row-last tail count (numberOf w) (drop at s) (is-first ∙ e))
+    row-ends e a h = h ∙ ap (λ (t : List ℕ). groupsFrom count (numberOf w) (readsLast tail t)) (take-rest s at)
+        ∙ sym (r .rest ∙ row-last tail count (numberOf w) (drop at s) (is-first ∙ e))
 
     module _ (n j : ℕ) (e : g ≡ G.More n j) where
       pub row-group : n < 65536

@@ -52,7 +52,8 @@ module _ (j k a b g : ℕ) (ha : a < 2 ^ j) (hb : b < 2 ^ (j + k)) (hg : g < 2 ^
   pushed-number : (a * 2 ^ w + b) * 2 ^ k + g ≡ up * 2 ^ w + down
   pushed-number = rw (pow-add 2 j k) (omega (arith, ap (λ (x : ℕ). x * 2 ^ k) (split b j)))
 
-  pub pushed : words (bitOr (a * 2 ^ k % 2 ^ w) (b / 2 ^ j)) (bitOr (b * 2 ^ k % 2 ^ w) g) ≡ words (((a * 2 ^ w + b) * 2 ^ k + g) / 2 ^ w) (((a * 2 ^ w + b) * 2 ^ k + g) % 2 ^ w)
+  pub pushed : words (bitOr (a * 2 ^ k % 2 ^ w) (b / 2 ^ j)) (bitOr (b * 2 ^ k % 2 ^ w) g)
+      ≡ words (((a * 2 ^ w + b) * 2 ^ k + g) / 2 ^ w) (((a * 2 ^ w + b) * 2 ^ k + g) % 2 ^ w)
   pushed =
       ap₂ words
       (pushed-high ∙ sym (ap (λ (x : ℕ). x / 2 ^ w) pushed-number ∙ high up w down-lt))
@@ -83,7 +84,8 @@ module _ (w : Words) (count : ℕ) (n : Words) (k : ℕ) (r : Padded w count n k
   padded-room h =
       let e : count + (k - count) ≡ k = omega (arith, r .from) in
       let p : 65536 ^ k ≡ 65536 ^ count * 65536 ^ (k - count) = ap (λ (j : ℕ). 65536 ^ j) (sym e) ∙ pow-add 65536 count (k - count) in
-      let q : numberOf w * 65536 ^ (k - count) < 65536 ^ count * 65536 ^ (k - count) = mul-lt-mul-of-pos-right (r .small) (one-le-pow (k - count) 65536 (omega arith)) in
+      let q : numberOf w * 65536 ^ (k - count) < 65536 ^ count * 65536 ^ (k - count) = mul-lt-mul-of-pos-right (r .small)
+      (one-le-pow (k - count) 65536 (omega arith)) in
       omega (arith, padded-number, pow-le-pow-right {n = 65536} (omega arith) {i = k} {j = 7} (omega arith))
 
   pub padded-step : k < 8 → (u : Words) → u ≡ wordsOf (numberOf n * 65536 + 0) → Padded w count u (k + 1)
@@ -93,7 +95,9 @@ module _ (w : Words) (count : ℕ) (n : Words) (k : ℕ) (r : Padded w count n k
         from = omega (arith, r .from);
         few = omega arith;
         small = r .small;
-        number = is-u ∙ ap wordsOf (add-zero (numberOf n * 65536) ∙ rw (padded-number, e, pow-suc 65536 (k - count)) (mul-assoc (numberOf w) (65536 ^ (k - count)) 65536));
+        number = is-u
+            ∙ ap wordsOf
+            (add-zero (numberOf n * 65536) ∙ rw (padded-number, e, pow-suc 65536 (k - count)) (mul-assoc (numberOf w) (65536 ^ (k - count)) 65536));
       }
 
   pub padded-end : 8 ≤ k → n ≡ wordsOf (numberOf w * 65536 ^ (8 - count))
@@ -113,7 +117,8 @@ apart k m n h = by (leb k 4) refl
         let hp : 0 < p = one-le-pow (4 - k) 65536 (omega arith) in
         let hq : 0 < q = one-le-pow k 65536 (omega arith) in
         let w : p * q ≡ 2 ^ 64 = sym (pow-add 65536 (4 - k) k) ∙ ap (λ (j : ℕ). 65536 ^ j) l in
-        let x : m * q % 2 ^ 64 ≡ m % p * q = ap (λ (z : ℕ). m * q % z) (sym w) ∙ mod-mul (m * q) hp hq ∙ ap₂ (λ (y z : ℕ). y % p * q + z) (mul-div-cancel m hq) (mul-mod-left m q) ∙ add-zero (m % p * q) in
+        let x : m * q % 2 ^ 64 ≡ m % p * q = ap (λ (z : ℕ). m * q % z) (sym w) ∙ mod-mul (m * q) hp hq
+        ∙ ap₂ (λ (y z : ℕ). y % p * q + z) (mul-div-cancel m hq) (mul-mod-left m q) ∙ add-zero (m % p * q) in
         omega (arith, x, w, mod-le n (2 ^ 64), digits-lt (mod-lt m hp) h)
     by false e =
         let l : (k - 4) + 4 ≡ k = omega (arith, leb-false k 4 e) in
@@ -123,7 +128,8 @@ apart k m n h = by (leb k 4) refl
         omega (arith, x, mod-lt n {m = 2 ^ 64} (omega arith))
 
 by-words : (x y : ℕ) → x % 18446744073709551616 + y % 18446744073709551616 < 18446744073709551616
-    → ((x + y) / 18446744073709551616 ≡ x / 18446744073709551616 + y / 18446744073709551616) × ((x + y) % 18446744073709551616 ≡ x % 18446744073709551616 + y % 18446744073709551616)
+    → ((x + y) / 18446744073709551616 ≡ x / 18446744073709551616 + y / 18446744073709551616)
+    × ((x + y) % 18446744073709551616 ≡ x % 18446744073709551616 + y % 18446744073709551616)
 by-words x y h = omega arith
 
 module _ (l : Words) (a : ℕ) (r : Words) (b : ℕ) (ha : a ≤ 8) (hl : numberOf l < 65536 ^ a) (hr : numberOf r < 65536 ^ b) where
@@ -137,7 +143,8 @@ module _ (l : Words) (a : ℕ) (r : Words) (b : ℕ) (ha : a ≤ 8) (hl : number
     below : numberOf r < 65536 ^ (8 - a)
     below = lt-of-lt-of-le hr (pow-le-pow-right {n = 65536} (omega arith) {i = b} {j = 8 - a} (omega arith))
 
-    abbrev word-by-word : (joined / 2 ^ 64 ≡ numberOf l * 65536 ^ (8 - a) / 2 ^ 64 + numberOf r / 2 ^ 64) × (joined % 2 ^ 64 ≡ numberOf l * 65536 ^ (8 - a) % 2 ^ 64 + numberOf r % 2 ^ 64)
+    abbrev word-by-word : (joined / 2 ^ 64 ≡ numberOf l * 65536 ^ (8 - a) / 2 ^ 64 + numberOf r / 2 ^ 64)
+        × (joined % 2 ^ 64 ≡ numberOf l * 65536 ^ (8 - a) % 2 ^ 64 + numberOf r % 2 ^ 64)
     word-by-word = by-words (numberOf l * 65536 ^ (8 - a)) (numberOf r) (apart (8 - a) (numberOf l) (numberOf r) below)
 
     is-high : w .high + r .high ≡ joined / 2 ^ 64

@@ -24,22 +24,22 @@ fn step_over(n: u32, k: u32, v: u32, begun: bool, b: u8) -> Step
     requires { ⌜ k ≤ 3 ⌝ }
     ensures { λ r. ⌜ r ≡ stepOf n k v begun b ⌝ }
 {
-    if b == 46 {
+    if b == b'.' {
         if begun & (k < 3) {
             return Step::Go(n * 256 + v, k + 1, 0, false);
         }
         return Step::Nothing;
     }
-    if b < 48 {
+    if b < b'0' {
         return Step::Stop;
     }
-    if 57 < b {
+    if b'9' < b {
         return Step::Stop;
     }
     if begun & (v == 0) {
         return Step::Nothing;
     }
-    let u = v * 10 + (b - 48) as u32;
+    let u = v * 10 + (b - b'0') as u32;
     if 255 < u {
         return Step::Nothing;
     }

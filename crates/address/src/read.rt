@@ -72,13 +72,13 @@ fn hex_digit(b: u8) -> u32
     ensures { λ r. ⌜ r ≡ hexValue b ⌝ }
 {
     if text::is_digit(b) {
-        return (b - 48) as u32;
+        return (b - b'0') as u32;
     }
     let l = text::lower(b);
-    if l < 97 {
+    if l < b'a' {
         return 16;
     }
-    if 102 < l {
+    if b'f' < l {
         return 16;
     }
     (l - 87) as u32
@@ -133,7 +133,7 @@ fn push_v4(w: Words, n: u32) -> Words
 fn first_group(s: &[u8]) -> Group
     ensures { λ r. ⌜ r ≡ firstGroup (now (s .entry)) ⌝ }
 {
-    let i = text::index_of(s, 58);
+    let i = text::index_of(s, b':');
     if i == s.len() {
         return Group::Last;
     }
@@ -216,7 +216,7 @@ fn double_colon(s: &[u8]) -> usize
     let mut i = 0;
     while i + 1 < s.len() {
         let j = i + 1;
-        if (s[i] == 58) & (s[j] == 58) {
+        if (s[i] == b':') & (s[j] == b':') {
             return i;
         }
         i = j;

@@ -122,7 +122,8 @@ length-colonGroups (g ∷ gs) = simp length-append (omega (arith, length-numeral
 pub length-hexGroups : (gs : List ℕ) → length (hexGroups gs) ≤ 5 * length gs - 1
 unfolding intercalate
 length-hexGroups [] = omega arith
-length-hexGroups (g ∷ gs) = rw (hexGroups-cons g gs, length-append (numeral 16 4 g) (colonGroups gs)) (omega (arith, length-numeral 16 4 g .0, length-colonGroups gs))
+length-hexGroups (g ∷ gs) = rw (hexGroups-cons g gs, length-append (numeral 16 4 g) (colonGroups gs))
+    (omega (arith, length-numeral 16 4 g .0, length-colonGroups gs))
 
 -- the first i groups of gs are written into d from `at` on, which gave o; p is the place after them
 pub record Groups (d o gs : List ℕ) (at p i : ℕ) : Type 0 where
@@ -157,7 +158,8 @@ module _ (d gs : List ℕ) (at : ℕ) (room : at + length (colonGroups gs) ≤ l
     groups-step q k w e =
         record {
           done = h .done ++ next;
-          wrote = rest-all d (h .done ++ next) (h .done) next at refl (front-room d (colonGroups gs) (h .done ++ next) (colonGroups (drop (i + 1) gs)) at whole-next room) o p (h .wrote) q k w;
+          wrote = rest-all d (h .done ++ next)
+              (h .done) next at refl (front-room d (colonGroups gs) (h .done ++ next) (colonGroups (drop (i + 1) gs)) at whole-next room) o p (h .wrote) q k w;
           whole = whole-next;
           long = e ∙ h .long;
           within = omega arith;
@@ -183,14 +185,17 @@ module _ (d gs : List ℕ) (at : ℕ) where
 
   module _ (room : at + length (hexGroups gs) ≤ length d) (n : length gs ≡ 0 → ⊥) where
     pub hexGroups-first-room : at + length (numeral 16 4 (getD gs 0 0)) ≤ length d
-    hexGroups-first-room = front-room d (hexGroups gs) (numeral 16 4 (getD gs 0 0)) (colonGroups (take (length gs - 1) (drop 1 gs))) at (hexGroups-first gs n) room
+    hexGroups-first-room = front-room d (hexGroups gs) (numeral 16 4 (getD gs 0 0))
+        (colonGroups (take (length gs - 1) (drop 1 gs))) at (hexGroups-first gs n) room
 
     module _ (o : List ℕ) (p : ℕ) (w : Wrote d o (numeral 16 4 (getD gs 0 0)) at p) where
       pub hexGroups-rest-room : p + length (colonGroups (take (length gs - 1) (drop 1 gs))) ≤ length o
-      hexGroups-rest-room = rest-room d (hexGroups gs) (numeral 16 4 (getD gs 0 0)) (colonGroups (take (length gs - 1) (drop 1 gs))) at (hexGroups-first gs n) room o p w
+      hexGroups-rest-room = rest-room d (hexGroups gs) (numeral 16 4 (getD gs 0 0))
+          (colonGroups (take (length gs - 1) (drop 1 gs))) at (hexGroups-first gs n) room o p w
 
       pub hexGroups-all : (q : List ℕ) (k : ℕ) → Wrote o q (colonGroups (take (length gs - 1) (drop 1 gs))) p k → Wrote d q (hexGroups gs) at k
-      hexGroups-all = rest-all d (hexGroups gs) (numeral 16 4 (getD gs 0 0)) (colonGroups (take (length gs - 1) (drop 1 gs))) at (hexGroups-first gs n) room o p w
+      hexGroups-all = rest-all d (hexGroups gs) (numeral 16 4 (getD gs 0 0))
+          (colonGroups (take (length gs - 1) (drop 1 gs))) at (hexGroups-first gs n) room o p w
 
 -- ## `::`
 
@@ -224,7 +229,8 @@ module _ (d gs : List ℕ) (at : ℕ) (r : Run) (is-r : r ≡ longestRun gs) (lo
         pub run-behind-room : k + length (hexGroups (take (length gs - (r .place + r .len)) (drop (r .place + r .len) gs))) ≤ length p
         run-behind-room = third-room d (compress 7 gs) before (bytes "::") behind at whole-run room o m w p k v
 
-        pub run-all : (q : List ℕ) (i : ℕ) → Wrote p q (hexGroups (take (length gs - (r .place + r .len)) (drop (r .place + r .len) gs))) k i → Wrote d q (compress 7 gs) at i
+        pub run-all : (q : List ℕ) (i : ℕ) → Wrote p q (hexGroups (take (length gs - (r .place + r .len)) (drop (r .place + r .len) gs))) k i
+            → Wrote d q (compress 7 gs) at i
         run-all = third-all d (compress 7 gs) before (bytes "::") behind at whole-run room o m w p k v
 
 -- ## The digits of an address
@@ -240,14 +246,16 @@ toDigits-append b j (suc k) h l pos lt =
     let e : j + suc k ≡ suc (j + k) = omega arith in
     let f : h * b ^ suc k + l ≡ h * b ^ k * b + l = rw (pow-suc b k, mul-assoc h (b ^ k) b) in
     let m : l / b < b ^ k = div-lt-iff-lt-mul {k = b} {x = l} {y = b ^ k} pos .1 (rw (pow-suc b k) at lt) in
-    rw (e, f, mul-add-div-right pos (h * b ^ k) l, mul-add-mod-self-right (h * b ^ k) b l, toDigits-append b j k h (l / b) pos m) (append-assoc (toDigits b j h) (toDigits b k (l / b)) (l % b ∷ []))
+    rw (e, f, mul-add-div-right pos (h * b ^ k) l, mul-add-mod-self-right (h * b ^ k) b l, toDigits-append b j k h (l / b) pos m)
+    (append-assoc (toDigits b j h) (toDigits b k (l / b)) (l % b ∷ []))
 
 toDigits-four : (b n : ℕ) → toDigits b 4 n ≡ n / (b * b * b) % b ∷ n / (b * b) % b ∷ n / b % b ∷ n % b ∷ []
 unfolding toDigits
 toDigits-four b n = rw (div-div-eq-div-mul n b b, div-div-eq-div-mul n (b * b) b)
 
 pub toDigits-halves : (high low : ℕ) → high < 2 ^ 64 → low < 2 ^ 64
-    → high / 2 ^ 48 ∷ high / 2 ^ 32 % 65536 ∷ high / 2 ^ 16 % 65536 ∷ high % 65536 ∷ low / 2 ^ 48 ∷ low / 2 ^ 32 % 65536 ∷ low / 2 ^ 16 % 65536 ∷ low % 65536 ∷ []
+    → high / 2 ^ 48 ∷ high / 2 ^ 32 % 65536 ∷ high / 2 ^ 16 % 65536 ∷ high % 65536 ∷ low / 2 ^ 48 ∷ low / 2 ^ 32 % 65536 ∷ low / 2 ^ 16 % 65536 ∷ low % 65536
+    ∷ []
     ≡ toDigits 65536 8 (high * 2 ^ 64 + low)
 toDigits-halves high low h l =
     let a : high / 2 ^ 48 % 65536 ≡ high / 2 ^ 48 = mod-eq-of-lt (omega arith) in
@@ -312,7 +320,13 @@ length-compress gs e = by (ltb (longestRun gs .len) 2) refl
         let w : longestRun gs .place + longestRun gs .len ≤ length gs = run-within gs (longestRun gs) refl in
         rw (compress-run gs (longestRun gs) refl m 7 (omega arith))
         (simp length-append
-        (omega (arith, length-hexGroups (take (longestRun gs .place) gs), length-hexGroups (drop (longestRun gs .place + longestRun gs .len) gs), length-take-le (longestRun gs .place) gs (omega arith), length-drop (longestRun gs .place + longestRun gs .len) gs)))
+        (omega (
+          arith,
+          length-hexGroups (take (longestRun gs .place) gs),
+          length-hexGroups (drop (longestRun gs .place + longestRun gs .len) gs),
+          length-take-le (longestRun gs .place) gs (omega arith),
+          length-drop (longestRun gs .place + longestRun gs .len) gs,
+        )))
 
 pub length-addrText : (a : Addr) → length (addrText a) ≤ 39
 unfolding addrText

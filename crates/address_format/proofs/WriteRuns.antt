@@ -144,7 +144,8 @@ module _ (gs : List ℕ) (r : Run) (is-r : r ≡ longestRun gs) where
   compress-plain h zero = refl
   compress-plain h (suc k) = rw (longest .longer (suc (suc k)) (omega arith)) (compress-plain h k)
 
-  pub compress-run : 2 ≤ r .len → (k : ℕ) → r .len ≤ suc k → compress k gs ≡ hexGroups (take (r .place) gs) ++ bytes "::" ++ hexGroups (drop (r .place + r .len) gs)
+  pub compress-run : 2 ≤ r .len → (k : ℕ) → r .len ≤ suc k → compress k gs
+      ≡ hexGroups (take (r .place) gs) ++ bytes "::" ++ hexGroups (drop (r .place + r .len) gs)
   unfolding compress
   compress-run h zero l = absurd (omega arith)
   compress-run h (suc k) l = by (ltb (r .len) (suc (suc k))) refl (compress-run h k)

@@ -29,10 +29,10 @@ fn put_digit(out: &mut [u8], at: usize, d: u16) -> usize
     ensures written { λ _. ⌜ now (out .exit) ≡ putAt (now (out .entry)) at (digitByte d ∷ []) ⌝ }
 {
     if d < 10 {
-        out[at] = 48 + d as u8;
+        out[at] = b'0' + d as u8;
         return at + 1;
     }
-    out[at] = 97 + (d - 10) as u8;
+    out[at] = b'a' + (d - 10) as u8;
     at + 1
 }
 
@@ -69,7 +69,7 @@ fn put_next_group(out: &mut [u8], at: usize, g: u16) -> usize
     ensures next { λ r. ⌜ r ≡ at + length (bytes ":" ++ numeral 16 4 g) ⌝ }
     ensures written { λ _. ⌜ now (out .exit) ≡ putAt (now (out .entry)) at (bytes ":" ++ numeral 16 4 g) ⌝ }
 {
-    out[at] = 58;
+    out[at] = b':';
     put_group(out, at + 1, g)
 }
 
@@ -186,7 +186,7 @@ fn put_next_field(out: &mut [u8], at: usize, n: u32) -> usize
     ensures next { λ r. ⌜ r ≡ at + length (bytes "." ++ decimal n) ⌝ }
     ensures written { λ _. ⌜ now (out .exit) ≡ putAt (now (out .entry)) at (bytes "." ++ decimal n) ⌝ }
 {
-    out[at] = 46;
+    out[at] = b'.';
     text::put_decimal(out, at + 1, n)
 }
 

@@ -22,11 +22,11 @@ use Rattle.address.specs.declared.read.V6Read.{V6Read}
 use Rattle.address.specs.declared.read.V6Read.the-variants as W
 use Rattle.address.proofs.ReadLaws.{readDecimal-le, asNumber-none, asNumber-some}
 use Rattle.byuid.specs.Byuid.{Range}
-use Rattle.byuid.specs.Code.{readerOf, wideOf, inside, heldBy, betweenOf, endsOf, netFrom}
+use Rattle.byuid.specs.Code.{readerOf, wideOf, inside, membership, betweenOf, endsOf, netFrom}
 use Rattle.byuid.specs.declared.line.Kind.{Kind}
 use Rattle.byuid.specs.declared.line.Kind.the-variants as K
-use Rattle.byuid.specs.declared.line.Held.{Held}
-use Rattle.byuid.specs.declared.line.Held.the-variants as H
+use Rattle.byuid.specs.declared.line.Membership.{Membership}
+use Rattle.byuid.specs.declared.line.Membership.the-variants as H
 
 -- ## Two words
 
@@ -89,21 +89,22 @@ abbrev pub range : ℕ → ℕ → Option Range
 range low high = some (low, high)
 
 -- between what two texts write
-between-read : (o p : Option ℕ) (n : ℕ) → betweenOf (asV6 o) (asV6 p) n ≡ heldBy (inside n) (o >>= λ l. p >>= λ h. range l h)
-unfolding heldBy inside
+between-read : (o p : Option ℕ) (n : ℕ) → betweenOf (asV6 o) (asV6 p) n ≡ membership (inside n) (o >>= λ l. p >>= λ h. range l h)
+unfolding membership inside
 between-read none p n = refl
 between-read (some l) none n = refl
 between-read (some l) (some h) n = rw (div-add-mod' l (2 ^ 64), div-add-mod' h (2 ^ 64))
 
-pub ends-held : (f : List ℕ → Option ℕ) (x y : List ℕ) (n : ℕ) (min max : V6Read) (r : Held) → min ≡ asV6 (f x) → max ≡ asV6 (f y) → r ≡ betweenOf min max n
-    → r ≡ heldBy (inside n) (endsOf f x y)
+pub ends-held : (f : List ℕ → Option ℕ) (x y : List ℕ) (n : ℕ) (min max : V6Read) (r : Membership) → min ≡ asV6 (f x) → max ≡ asV6 (f y) → r
+    ≡ betweenOf min max n
+    → r ≡ membership (inside n) (endsOf f x y)
 unfolding endsOf
 ends-held f x y n min max r p q e = e ∙ rw (p, q) (between-read (f x) (f y) n)
 
-pub alone-held : (f : List ℕ → Option ℕ) (t : List ℕ) (n : ℕ) (v : V6Read) (r : Held) → v ≡ asV6 (f t) → r ≡ betweenOf v v n
-    → r ≡ heldBy (inside n) (f t >>= λ m. range m m)
+pub alone-held : (f : List ℕ → Option ℕ) (t : List ℕ) (n : ℕ) (v : V6Read) (r : Membership) → v ≡ asV6 (f t) → r ≡ betweenOf v v n
+    → r ≡ membership (inside n) (f t >>= λ m. range m m)
 unfolding endsOf
-alone-held f t n v r p e = ends-held f t t n v v r p p e ∙ ap (heldBy (inside n)) (twice (f t))
+alone-held f t n v r p e = ends-held f t t n v v r p p e ∙ ap (membership (inside n)) (twice (f t))
   where
     twice : (o : Option ℕ) → (o >>= λ l. o >>= λ h. range l h) ≡ (o >>= λ m. range m m)
     twice none = refl
@@ -146,8 +147,8 @@ module _ (k n a : ℕ) (clear : n % 2 ^ k ≡ 0) where
 
 -- the net of n, of w bits, with its length in t
 module _ (w n a : ℕ) (t : List ℕ) (v : NumberRead) (is-v : v ≡ asNumber (readDecimal w t)) where
-  pub len-nothing : v ≡ N.Nothing → H.Nothing ≡ heldBy (inside a) (netFrom w n t)
-  unfolding netFrom heldBy
+  pub len-nothing : v ≡ N.Nothing → H.Nothing ≡ membership (inside a) (netFrom w n t)
+  unfolding netFrom membership
   len-nothing e = rw (asNumber-none (readDecimal w t) (sym is-v ∙ e))
 
   module _ (m : ℕ) (e : v ≡ N.Value m) where
@@ -158,11 +159,11 @@ module _ (w n a : ℕ) (t : List ℕ) (v : NumberRead) (is-v : v ≡ asNumber (r
     len-le = readDecimal-le w m t is-read
 
     module _ (x : Bool) (is-x : x ≡ eqb (n % 2 ^ (w - m)) 0) where
-      pub len-set : x ≡ false → H.Nothing ≡ heldBy (inside a) (netFrom w n t)
-      unfolding netFrom heldBy
+      pub len-set : x ≡ false → H.Nothing ≡ membership (inside a) (netFrom w n t)
+      unfolding netFrom membership
       len-set f = rw (is-read, ← is-x, f)
 
-      pub len-clear : x ≡ true → (y : Bool) → y ≡ samePrefix w m n a → H.Is y ≡ heldBy (inside a) (netFrom w n t)
-      unfolding netFrom heldBy inside samePrefix
+      pub len-clear : x ≡ true → (y : Bool) → y ≡ samePrefix w m n a → H.Is y ≡ membership (inside a) (netFrom w n t)
+      unfolding netFrom membership inside samePrefix
       len-clear f y is-y =
           rw (is-read, ← is-x, f) (ap H.Is (is-y ∙ sym (inRange-prefix (w - m) n a (eqb-true (n % 2 ^ (w - m)) 0 (sym is-x ∙ f)))))

@@ -3,6 +3,7 @@
 use Prim.Native.Nat.{ℕ, _+_, _-_, _<_, _≤_}
 use mathlib.Core.Bool.{Bool, true, false, not, _||_}
 use mathlib.Core.List.{List, []}
+use mathlib.Core.Option.{some}
 use mathlib.Core.Path.{_≡_, refl, sym, ap, _∙_}
 use native.Mathlib.Omega.{arith}
 use borrow.Author.Tests.{ltb-true, ltb-false}
@@ -18,7 +19,7 @@ use Rattle.section.specs.declared.Refusal.{Refusal}
 use Rattle.section.specs.Refusal.{refusal, placeless}
 use Rattle.address.specs.declared.Addr.{Addr}
 use Rattle.address.specs.declared.Addr.the-variants as A
-use Rattle.byuid.specs.Byuid.{lineGrants, byuidDecision, decideByuid, rulingOf}
+use Rattle.byuid.specs.Byuid.{lineGrants, byuidDecision, bind, decideByuid, byuidRuling}
 use Rattle.byuid.specs.declared.Decision.{Decision}
 use Rattle.byuid.specs.declared.Decision.the-variants.{NotRuled, Granted, NoLine}
 use Rattle.byuid.specs.declared.Ruling.the-variants as R
@@ -94,19 +95,21 @@ module _ (t : List ℕ) (p : ℕ) (addr : Addr) (uid : ℕ) where
     no-line f = rw (e, ← is-x, f)
 
   module _ (x : Bool) (is-x : x ≡ ltb 8192 (length t)) where
-    pub over-limit : x ≡ true → (r : Refusal) → r ≡ refusal F.OverLimit 3 0 → R.Refused r ≡ rulingOf (decideByuid t p addr uid)
+    pub over-limit : x ≡ true → (r : Refusal) → r ≡ refusal F.OverLimit 3 0 → R.Refused r ≡ byuidRuling (decideByuid t (some (bind p addr uid)))
     unfolding decideByuid
     over-limit f r e = rw (← is-x, f, e)
 
     module _ (f : x ≡ false) where
-      pub unknown-address : addr ≡ A.Unknown → (r : Refusal) → r ≡ placeless F.BadRequest → R.Refused r ≡ rulingOf (decideByuid t p addr uid)
+      pub unknown-address : addr ≡ A.Unknown → (r : Refusal) → r ≡ placeless F.BadRequest → R.Refused r ≡ byuidRuling (decideByuid t (some (bind p addr uid)))
       unfolding decideByuid
       unknown-address g r e = rw (← is-x, f, g, e)
 
-      pub answered-v4 : (n : ℕ) → addr ≡ A.V4 n → (d : Decision) → d ≡ byuidDecision t p addr uid → R.Answered d ≡ rulingOf (decideByuid t p addr uid)
+      pub answered-v4 : (n : ℕ) → addr ≡ A.V4 n → (d : Decision) → d ≡ byuidDecision t p addr uid → R.Answered d
+          ≡ byuidRuling (decideByuid t (some (bind p addr uid)))
       unfolding decideByuid
       answered-v4 n g d e = rw (e, ← is-x, f, g)
 
-      pub answered-v6 : (a b : ℕ) → addr ≡ A.V6 a b → (d : Decision) → d ≡ byuidDecision t p addr uid → R.Answered d ≡ rulingOf (decideByuid t p addr uid)
+      pub answered-v6 : (a b : ℕ) → addr ≡ A.V6 a b → (d : Decision) → d ≡ byuidDecision t p addr uid → R.Answered d
+          ≡ byuidRuling (decideByuid t (some (bind p addr uid)))
       unfolding decideByuid
       answered-v6 a b g d e = rw (e, ← is-x, f, g)

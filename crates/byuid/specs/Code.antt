@@ -3,7 +3,7 @@
 --   readerOf k           == what reads a number of a kind
 --   wideOf v             == a number of at most 32 bits, as the code answers one of two words
 --   inside a g           == the range g holds a; insideBoth a p g == the two ranges of a line hold a and p
---   heldBy p o           == whether p holds of o, as the code answers it
+--   membership p o           == whether p holds of o, as the code answers it
 --   betweenOf l h n      == whether n is between two numbers that were read
 --   endsOf f x y         == the range from what x writes to what y writes
 --   netFrom w n t        == the net of n, of w bits, whose length t writes
@@ -27,8 +27,8 @@ use Rattle.byuid.specs.declared.Decision.{Decision}
 use Rattle.byuid.specs.declared.Decision.the-variants.{NotRuled, Granted, NoLine}
 use Rattle.byuid.specs.declared.line.Kind.{Kind}
 use Rattle.byuid.specs.declared.line.Kind.the-variants as K
-use Rattle.byuid.specs.declared.line.Held.{Held}
-use Rattle.byuid.specs.declared.line.Held.the-variants as H
+use Rattle.byuid.specs.declared.line.Membership.{Membership}
+use Rattle.byuid.specs.declared.line.Membership.the-variants as H
 
 -- the paper's words; no promise cites them
 abbrev pub decisionWord : Decision → List ℕ
@@ -56,20 +56,20 @@ unfoldable pub insideBoth : ℕ → ℕ → Range × Range → Bool
 insideBoth a p g = inside a (g .0) && inside p (g .1)
 
 module _ {A : Type 0} where
-  unfoldable pub heldBy : (A → Bool) → Option A → Held
-  heldBy p none = H.Nothing
-  heldBy p (some x) = H.Is (p x)
+  unfoldable pub membership : (A → Bool) → Option A → Membership
+  membership p none = H.Nothing
+  membership p (some x) = H.Is (p x)
 
-abbrev pub isHeld : Held → Bool
-isHeld H.Nothing = false
-isHeld (H.Is b) = b
+abbrev pub isMember : Membership → Bool
+isMember H.Nothing = false
+isMember (H.Is b) = b
 
-abbrev pub bothOf : Held → Held → Held
+abbrev pub bothOf : Membership → Membership → Membership
 bothOf H.Nothing h = H.Nothing
 bothOf (H.Is x) H.Nothing = H.Nothing
 bothOf (H.Is x) (H.Is y) = H.Is (x && y)
 
-abbrev pub betweenOf : V6Read → V6Read → ℕ → Held
+abbrev pub betweenOf : V6Read → V6Read → ℕ → Membership
 betweenOf W.Nothing m n = H.Nothing
 betweenOf (W.Value a b) W.Nothing n = H.Nothing
 betweenOf (W.Value a b) (W.Value c d) n = H.Is (inRange (a * 2 ^ 64 + b) (c * 2 ^ 64 + d) n)

@@ -3,10 +3,11 @@
 use address::Addr;
 use section::Fault;
 use section::Refusal;
+ghost use mathlib.Core.Option.{some};
 ghost use mathlib.Core.Path.{_≡_};
 ghost use Rattle.text.specs.Basics.{any};
 ghost use Rattle.text.specs.Text.{split};
-ghost use Rattle.byuid.specs.Byuid.{lineGrants, byuidDecision, decideByuid, rulingOf};
+ghost use Rattle.byuid.specs.Byuid.{lineGrants, byuidDecision, bind, decideByuid, byuidRuling};
 
 // The words of the decision.
 pub enum Decision {
@@ -29,7 +30,7 @@ fn any_grants(s: &[u8], addr: Addr, port: u16) -> bool
 {
     let mut at = 0;
     while at < s.len() {
-        let n = text::index_of(&s[at..], 10);
+        let n = text::index_of(&s[at..], b'\n');
         let e = at + n;
         if line::grants(&s[at..e], addr, port) {
             return true;
@@ -55,7 +56,7 @@ fn decide_by_lines(text: &[u8], port: u16, addr: Addr, uid: u32) -> Decision
 
 // Whether a caller may bind a port at an address, by the lines of the text.
 pub fn decide(text: &[u8], port: u16, addr: Addr, uid: u32) -> Ruling
-    ensures { λ r. ⌜ r ≡ rulingOf (decideByuid (now (text .entry)) port addr uid) ⌝ }
+    ensures { λ r. ⌜ r ≡ byuidRuling (decideByuid (now (text .entry)) (some (bind port addr uid))) ⌝ }
 {
     if section::Byuid::over(text.len()) {
         return Ruling::Refused(section::Byuid::refusal(Fault::OverLimit, 0));

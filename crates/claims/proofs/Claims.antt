@@ -2,17 +2,25 @@
 -- Assumes nothing.
 use Rattle.claims.specs.Claims.{Claims}
 use Rattle.claims.proofs.ExampleClaims.{examples}
-use Rattle.claims.proofs.SheetClaims.{cut-short, longest, unpack-pack, pack-unpack}
+use Rattle.claims.proofs.AnswerLaws.{refusal-writes-nothing, every-decision, every-number}
+use Rattle.claims.proofs.SheetClaims.{cut-short, longest, unpack-pack, pack-unpack, sheet-as-texts}
 use Rattle.claims.proofs.AddressClaims.{read-written}
-use Rattle.claims.proofs.UserClaims.{name-cannot-matter}
+use Rattle.claims.proofs.CommandClaims.{command-in-turn}
+use Rattle.claims.proofs.UserClaims.{ask-only-unfetched, name-cannot-matter}
 
 pub claims : Claims
 claims = record {
   examples = examples;
   cut-short = cut-short;
   longest = longest;
+  refusal-writes-nothing = refusal-writes-nothing;
+  every-decision = every-decision;
+  every-number = every-number;
   unpack-pack = unpack-pack;
   pack-unpack = pack-unpack;
   read-written = read-written;
+  sheet-as-texts = sheet-as-texts;
+  command-in-turn = command-in-turn;
+  ask-only-unfetched = ask-only-unfetched;
   name-cannot-matter = name-cannot-matter;
 }

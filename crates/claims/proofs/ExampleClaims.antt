@@ -40,7 +40,7 @@ unfolding
     Pattern.namePattern Pattern.hostPattern
     Element.halves Element.reservedStart Element.isPlainName Element.daemonName Element.userHalf Element.daemonParts Element.clientParts
     Element.daemonElement Element.clientElement
-    ListCheck.exceptMisplaced ListCheck.ruleFault Walk.included Walk.excluded Walk.ruleFound
+    ListCheck.withoutExcept ListCheck.exceptMisplaced ListCheck.ruleFault Walk.included Walk.excluded Walk.ruleFound
     Check.lineFault Check.hostsFault Search.lineAnswer Search.search Search.decide
     Expand.inserted Expand.safeByte Expand.pieceText Expand.expansion Expand.expand
     Byuid.readRange Byuid.readNet Byuid.readCommaForm Byuid.readColonForm Byuid.lineGrants Byuid.byuidDecision Byuid.decideByuid

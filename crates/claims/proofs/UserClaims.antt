@@ -1,114 +1,208 @@
--- Demand 3 whole: the walk's half from rules, the expansion's half from expansion.
+-- Demand 3 whole: the walk's half from rules, the expansion's half from expansion; and that who has fetched is never asked.
 -- Assumes nothing.
 use Prim.Native.Nat.{ℕ, _<_}
-use mathlib.Core.List.{List}
-use mathlib.Core.Path.{_≡_, refl, sym, ap, _∙_, subst}
 use native.Mathlib.Omega.{arith}
-use borrow.Author.Tests.{le-leb}
+use mathlib.Core.Bool.{Bool, true, false}
+use mathlib.Core.List.{List, []}
+use mathlib.Core.Option.{Option, none, some}
+use mathlib.Core.Path.{_≡_, refl, sym, ap, subst, _∙_}
+use borrow.Author.Tests.{le-leb, eqb-true, eqb-false}
+use lib.Dec.{eqb}
 use lib.ListN.{length}
-use Rattle.text.specs.Basics.{isSome}
-use Rattle.section.specs.Refusal.{Outcome, refused, answered, _>>=_}
+use Rattle.text.specs.Basics.{if_then_else_, _>>=_, given}
+use Rattle.text.specs.Text.{inRange}
+use Rattle.section.specs.Refusal.{_>>=_ as _andThen_}
+use Rattle.section.specs.Refusal.{Outcome, refused, answered}
+use Rattle.section.specs.Section.{bytesAt}
+use Rattle.patterns.specs.Host.{Endpoint}
 use Rattle.elements.specs.declared.User.{User}
 use Rattle.elements.specs.declared.User.the-variants as U
+use Rattle.elements.specs.Request.{Request, requestOf, wellFormed}
 use Rattle.elements.specs.Code as R
-use Rattle.elements.specs.Request.{Request, wellFormed}
 use Rattle.rules.specs.declared.Answer.{Answer}
 use Rattle.rules.specs.declared.Verdict.{Verdict}
 use Rattle.rules.specs.declared.Verdict.the-variants.{Granted, Denied, Ask}
 use Rattle.rules.specs.Search.{decide}
-use Rattle.rules.proofs.UserLaws.{QuietVerdict, QuietOutcome, decide-same}
-use Rattle.expansion.specs.Expand.{expand}
+use Rattle.rules.proofs.UserLaws.{QuietVerdict, QuietOutcome, decide-same, Fetched, decide-quiet, decide-none-quiet}
+use Rattle.expansion.specs.Expand.{usesUser, expand}
 use Rattle.expansion.proofs.UserLaws.{expand-same}
 use Rattle.sheet.specs.declared.Parts.{Parts}
-use Rattle.sheet.specs.Sheet.{textAt, unpack}
+use Rattle.sheet.specs.Sheet.{unpack}
 use Rattle.station.specs.Station.{inSheet, decideSheet}
-use Rattle.codes.specs.Requests.{userState, userBy, RequestNumbers, numbersFit, request}
-use Rattle.codes.specs.Answers.{verdictCode, verdictAnswer}
-use Rattle.claims.specs.Claims.{withUser, Permitted, named, unknown, Decided, granted, denied, SameFor, byTexts, bySheet, deciding, rawCommand, NameCannotMatter}
+use Rattle.codes.specs.declared.GateAnswer.{GateAnswer}
+use Rattle.codes.specs.declared.request.HostNumbers.{HostNumbers}
+use Rattle.codes.specs.Requests.{userState, RequestNumbers, requestNumbers, hostBy, knownUser, request}
+use Rattle.codes.specs.Answers.{verdictWord, verdictAnswer}
+use Rattle.gate.specs.Calls.{wrote, gateVerdict, gateSheetVerdict}
+use Rattle.claims.specs.Claims.{asUser, Permitted, named, unknown, Decided, is-granted, is-denied, SameFor, deciding, commandIn, NameCannotMatter, AskOnlyUnfetched}
 
 -- ## The request
 
-module _ (n : RequestNumbers) (user : ℕ) (name : List ℕ) (p : Permitted user name) (e : n .user ≡ 0) where
-  state-fits : {u : ℕ} {t : List ℕ} → Permitted u t → isSome (userState u) ≡ isSome (userState (n .user))
-  unfolding userState
-  state-fits (named t h k) = rw e
-  state-fits (unknown t) = rw e
+-- a permitted user is unknown, or known by a name within its size
+state-permitted : {u : ℕ} {t : List ℕ} → Permitted u t → (u ≡ 1 → ⊥) → u ≡ 2
+state-permitted (named t h k) n = refl
+state-permitted (unknown t) n = absurd (n refl)
 
-  -- alike in all else
-  alike : request (withUser n user name) ≡ R.withUser (request n) (userBy user) name
-  unfolding request numbersFit
-  alike = rw (state-fits p)
+name-permitted : {u : ℕ} {t : List ℕ} → Permitted u t → u ≡ 2 → inRange 1 64 (length t) ≡ true
+name-permitted (named t h k) e = rw (le-leb 1 (length t) h, le-leb (length t) 64 k)
+name-permitted (unknown t) e = absurd (omega arith)
 
-  not-fetched : R.withUser (request n) U.NotFetched (n .userName) ≡ request n
-  unfolding request userState
-  not-fetched = rw e
+-- so it fits exactly if one that was not fetched does
+user-alike : (P : Option Request → Option Request → Type 0)
+    → ((r : Request) (u : User) (t : List ℕ) → wellFormed (R.withUser r u t) ≡ wellFormed (R.withUser r U.NotFetched [])
+    → P (some (R.withUser r u t)) (some (R.withUser r U.NotFetched [])))
+    → (daemon : List ℕ) (client server : Endpoint) (name : List ℕ) (u : ℕ) (t : List ℕ) → Permitted u t
+    → P (userState u >>= λ v. some (requestOf daemon client server v (knownUser v t)))
+    (userState 0 >>= λ v. some (requestOf daemon client server v (knownUser v name)))
+unfolding userState wellFormed
+user-alike P f daemon client server name u t p = by (eqb u 1) refl
+  where
+    by : (b : Bool) → eqb u 1 ≡ b
+        → P ((if eqb u 0 then some U.NotFetched else if eqb u 1 then some U.Unknown else given (eqb u 2) U.Known) >>= λ v. some
+        (requestOf daemon client server v (knownUser v t)))
+        (some (requestOf daemon client server U.NotFetched []))
+    by true e = rw (eqb-true u 1 e) (f (requestOf daemon client server U.NotFetched []) U.Unknown [] refl)
+    by false e =
+        let z : u ≡ 2 = state-permitted p (eqb-false u 1 e) in
+        rw z (f (requestOf daemon client server U.NotFetched []) U.Known t (rw (name-permitted p z)))
 
--- a permitted user fits whenever no user does
-permitted-fits : {u : ℕ} {name : List ℕ} → Permitted u name → (r : Request) (t : List ℕ)
-    → wellFormed (R.withUser r (userBy u) name) ≡ wellFormed (R.withUser r U.NotFetched t)
-unfolding wellFormed userState
-permitted-fits (named name h k) r t = rw (le-leb 1 (length name) h, le-leb (length name) 64 k)
-permitted-fits (unknown name) r t = refl
+-- both requests are none, or alike but for a user that fits exactly if none does
+module _ (n : RequestNumbers) (user : ℕ) (name : List ℕ) (permitted : Permitted user name) (e : n .user ≡ 0) where
+  alike : (P : Option Request → Option Request → Type 0) → P none none
+      → ((r : Request) (u : User) (t : List ℕ) → wellFormed (R.withUser r u t) ≡ wellFormed (R.withUser r U.NotFetched [])
+      → P (some (R.withUser r u t)) (some (R.withUser r U.NotFetched [])))
+      → P (request (asUser n user name)) (request n)
+  unfolding request
+  alike P z f = by (hostBy (n .client) (n .clientName)) (hostBy (n .server) (n .serverName)) permitted
+    where
+      by : (c s : Option Endpoint) → Permitted user name
+          → P (c >>= λ x. s >>= λ y. userState user >>= λ v. some (requestOf (n .daemon) x y v (knownUser v name)))
+          (c >>= λ x. s >>= λ y. userState (n .user) >>= λ v. some (requestOf (n .daemon) x y v (knownUser v (n .userName))))
+      by none s p = z
+      by (some x) none p = z
+      by (some x) (some y) p = rw e (user-alike P f (n .daemon) x y (n .userName) user name p)
 
 -- ## The answer
 
 decided-word : {n w : ℕ} → Decided n w → w < 3
-decided-word granted = omega arith
-decided-word denied = omega arith
+decided-word is-granted = omega arith
+decided-word is-denied = omega arith
 
 decided-quiet : (o : Outcome Answer) → Decided (verdictAnswer o .number) (verdictAnswer o .word) → QuietOutcome o
 unfolding verdictAnswer
 decided-quiet (refused r) d = tt
 decided-quiet (answered a) d = by (a .verdict) (decided-word d)
   where
-    by : (v : Verdict) → verdictCode v < 3 → QuietVerdict v
+    by : (v : Verdict) → verdictWord v .number < 3 → QuietVerdict v
     by Granted h = tt
     by Denied h = tt
     by Ask h = omega arith
 
 -- a call that gives every user that fits the same outcome, unless it asks
-abbrev Same : (Request → Outcome Answer) → Type 0
+abbrev Same : (Option Request → Outcome Answer) → Type 0
 Same call = (r : Request) (t : List ℕ) (u : User) (name : List ℕ) → wellFormed (R.withUser r u name) ≡ wellFormed (R.withUser r U.NotFetched t)
-    → QuietOutcome (call (R.withUser r U.NotFetched t)) → call (R.withUser r u name) ≡ call (R.withUser r U.NotFetched t)
+    → QuietOutcome (call (some (R.withUser r U.NotFetched t))) → call (some (R.withUser r u name)) ≡ call (some (R.withUser r U.NotFetched t))
 
-same-for : (call : Request → Outcome Answer) → Same call → (command : List ℕ) (n : RequestNumbers) → n .user ≡ 0
+same-for : (call : Option Request → Outcome Answer) → Same call → (command : List ℕ) (n : RequestNumbers) → n .user ≡ 0
     → Decided (verdictAnswer (call (request n)) .number) (verdictAnswer (call (request n)) .word)
     → (user : ℕ) (name : List ℕ) → Permitted user name → SameFor (λ m. verdictAnswer (call (request m))) command n user name
-same-for call same command n e d user name p =
-    let fits : wellFormed (R.withUser (request n) (userBy user) name) ≡ wellFormed (R.withUser (request n) U.NotFetched (n .userName)) = permitted-fits p (request n) (n .userName) in
-    let quiet : QuietOutcome (call (R.withUser (request n) U.NotFetched (n .userName))) =
-    subst (λ r. QuietOutcome (call r)) (sym (not-fetched n user name p e)) (decided-quiet (call (request n)) d) in
-    record {
-      same-answer = ap (λ o. verdictAnswer o)
-          (ap call (alike n user name p e) ∙ same (request n) (n .userName) (userBy user) name fits quiet ∙ ap call (not-fetched n user name p e));
-      same-expansion = λ process room free.
-          ap (λ r. expand command r process room) (alike n user name p e)
-          ∙ expand-same (request n) (userBy user) U.NotFetched name (n .userName) process command room fits free
-          ∙ ap (λ r. expand command r process room) (not-fetched n user name p e);
-    }
+same-for call same command n e d user name p = record {
+  same-answer = ap verdictAnswer
+      (alike n user name p e (λ o q. QuietOutcome (call q) → call o ≡ call q) (λ h. refl) (λ r u t fits. same r [] u t fits)
+      (decided-quiet (call (request n)) d));
+  same-expansion = λ process out free. ap (wrote out)
+      (alike n user name p e (λ o q. expand command o process (length out) ≡ expand command q process (length out)) refl
+      (λ r u t fits. expand-same r u U.NotFetched t [] process command (length out) fits free));
+}
 
 -- an accepted sheet decides as its two texts do
-sheet-same : (sheet : List ℕ) → Same (decideSheet sheet)
-unfolding decideSheet
-sheet-same sheet r t u name fits = by (unpack sheet)
-  where
-    quiet : (p : Parts) (o : Outcome Answer) → QuietOutcome (o >>= λ a. answered (inSheet p a)) → QuietOutcome o
-    quiet p (refused f) h = tt
-    quiet p (answered a) h = h
+module _ (sheet : List ℕ) where
+  decides : Option Request → Parts → Outcome Answer
+  decides q p = decide (bytesAt sheet (p .allow)) (bytesAt sheet (p .deny)) q andThen λ a. answered (inSheet p a)
 
-    decides : Request → Parts → Outcome Answer
-    decides q p = decide (textAt sheet (p .allow)) (textAt sheet (p .deny)) q >>= λ a. answered (inSheet p a)
+  quiet : (p : Parts) (o : Outcome Answer) → QuietOutcome (o andThen λ a. answered (inSheet p a)) → QuietOutcome o
+  quiet p (refused f) h = tt
+  quiet p (answered a) h = h
 
-    by : (o : Outcome Parts) → QuietOutcome (o >>= decides (R.withUser r U.NotFetched t)) → (o >>= decides (R.withUser r u name)) ≡ (o >>= decides (R.withUser r U.NotFetched t))
-    by (refused f) h = refl
-    by (answered p) h =
-        ap (λ o. o >>= λ a. answered (inSheet p a))
-        (decide-same r t u name fits (textAt sheet (p .allow)) (textAt sheet (p .deny))
-        (quiet p (decide (textAt sheet (p .allow)) (textAt sheet (p .deny)) (R.withUser r U.NotFetched t)) h))
+  placed-quiet : (p : Parts) (o : Outcome Answer) → QuietOutcome o → QuietOutcome (o andThen λ a. answered (inSheet p a))
+  placed-quiet p (refused f) h = tt
+  placed-quiet p (answered a) h = h
+
+  sheet-same : Same (decideSheet sheet)
+  unfolding decideSheet decides
+  sheet-same r t u name fits = by (unpack sheet)
+    where
+      by : (o : Outcome Parts) → QuietOutcome (o andThen decides (some (R.withUser r U.NotFetched t)))
+          → (o andThen decides (some (R.withUser r u name))) ≡ (o andThen decides (some (R.withUser r U.NotFetched t)))
+      by (refused f) h = refl
+      by (answered p) h =
+          ap (λ o. o andThen λ a. answered (inSheet p a))
+          (decide-same r t u name fits (bytesAt sheet (p .allow)) (bytesAt sheet (p .deny))
+          (quiet p (decide (bytesAt sheet (p .allow)) (bytesAt sheet (p .deny)) (some (R.withUser r U.NotFetched t))) h))
+
+  sheet-quiet : (q : Option Request) → ((a d : List ℕ) → QuietOutcome (decide a d q)) → QuietOutcome (decideSheet sheet q)
+  unfolding decideSheet decides
+  sheet-quiet q h = by (unpack sheet)
+    where
+      by : (o : Outcome Parts) → QuietOutcome (o andThen decides q)
+      by (refused f) = tt
+      by (answered p) = placed-quiet p (decide (bytesAt sheet (p .allow)) (bytesAt sheet (p .deny)) q) (h (bytesAt sheet (p .allow)) (bytesAt sheet (p .deny)))
 
 pub name-cannot-matter : NameCannotMatter
 name-cannot-matter = record {
   by-texts = λ allow deny n.
-      same-for (decide allow deny) (λ r t u name fits. decide-same r t u name fits allow deny) (rawCommand (deciding allow deny (byTexts allow deny n)) (byTexts allow deny n)) n;
-  by-sheet = λ sheet n. same-for (decideSheet sheet) (sheet-same sheet) (rawCommand sheet (bySheet sheet n)) n;
+      same-for (decide allow deny) (λ r t u name fits. decide-same r t u name fits allow deny)
+      (commandIn (deciding allow deny (gateVerdict allow deny n)) (gateVerdict allow deny n)) n;
+  by-sheet = λ sheet n. same-for (decideSheet sheet) (sheet-same sheet) (commandIn sheet (gateSheetVerdict sheet n)) n;
+}
+
+-- as two calls of the exported verdict hand it over
+pub same-verdict : (allow deny daemon : List ℕ) (client : HostNumbers) (clientName : List ℕ) (server : HostNumbers) (serverName t : List ℕ) (x : GateAnswer)
+    → x ≡ gateVerdict allow deny (requestNumbers daemon client clientName server serverName 0 t)
+    → (user : ℕ) (name : List ℕ) (y : GateAnswer) → y ≡ gateVerdict allow deny (requestNumbers daemon client clientName server serverName user name)
+    → Decided (x .number) (x .word) → Permitted user name → y ≡ x
+same-verdict allow deny daemon client clientName server serverName t x is-x user name y is-y d p =
+    let n : RequestNumbers = requestNumbers daemon client clientName server serverName 0 t in
+    is-y ∙ name-cannot-matter .by-texts allow deny n refl (subst (λ (a : GateAnswer). Decided (a .number) (a .word)) is-x d) user name p .same-answer ∙ sym is-x
+
+-- ## Who has fetched is never asked
+
+asked-loud : (o : Outcome Answer) → verdictAnswer o .word ≡ 3 → QuietOutcome o → ⊥
+unfolding verdictAnswer
+asked-loud (refused r) e h = omega arith
+asked-loud (answered a) e h = by (a .verdict) e h
+  where
+    by : (v : Verdict) → verdictWord v .number ≡ 3 → QuietVerdict v → ⊥
+    by Granted e h = omega arith
+    by Denied e h = omega arith
+    by Ask e h = h
+
+module _ (n : RequestNumbers) (call : Option Request → Outcome Answer) (none-quiet : QuietOutcome (call none))
+    (fetched-quiet : (r : Request) → Fetched (r .user) → QuietOutcome (call (some r))) where
+  request-quiet : (eqb (n .user) 0 ≡ false) → QuietOutcome (call (request n))
+  unfolding request userState
+  request-quiet e = rw e (by (hostBy (n .client) (n .clientName)) (hostBy (n .server) (n .serverName)) (eqb (n .user) 1) (eqb (n .user) 2))
+    where
+      by : (c s : Option Endpoint) (b d : Bool)
+          → QuietOutcome
+          (call (c >>= λ x. s >>= λ y. (if b then some U.Unknown else given d U.Known) >>= λ v. some
+          (requestOf (n .daemon) x y v (knownUser v (n .userName)))))
+      by none s b d = none-quiet
+      by (some x) none b d = none-quiet
+      by (some x) (some y) true d = fetched-quiet (requestOf (n .daemon) x y U.Unknown []) tt
+      by (some x) (some y) false true = fetched-quiet (requestOf (n .daemon) x y U.Known (n .userName)) tt
+      by (some x) (some y) false false = none-quiet
+
+  unfetched : verdictAnswer (call (request n)) .word ≡ 3 → n .user ≡ 0
+  unfetched w = by (eqb (n .user) 0) refl
+    where
+      by : (b : Bool) → eqb (n .user) 0 ≡ b → n .user ≡ 0
+      by true e = eqb-true (n .user) 0 e
+      by false e = absurd (asked-loud (call (request n)) w (request-quiet e))
+
+pub ask-only-unfetched : AskOnlyUnfetched
+ask-only-unfetched = record {
+  asked-by-texts = λ allow deny n. unfetched n (decide allow deny) (decide-none-quiet allow deny) (λ r h. decide-quiet r h allow deny);
+  asked-by-sheet = λ sheet n. unfetched n (decideSheet sheet) (sheet-quiet sheet none decide-none-quiet)
+      (λ r h. sheet-quiet sheet (some r) (λ a d. decide-quiet r h a d));
 }

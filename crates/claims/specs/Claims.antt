@@ -1,94 +1,184 @@
--- The demands on the gate, as statements about what its calls answer: the right-hand sides of the promises in crate gate.
--- proofs/Claims.antt proves them all.
+-- The demands on the gate, as statements about what its exported calls answer: crate gate has a definition for each (Calls.antt), which its
+-- promise cites too. proofs/Claims.antt proves them all.
 -- Assumes nothing: these are statements.
-use Prim.Native.Nat.{ℕ, _≤_, _<_, _^_}
+use Prim.Native.Nat.{ℕ, _+_, _≤_, _<_, _^_}
 use mathlib.Core.Bool.{true, false}
 use mathlib.Core.List.{List}
 use mathlib.Core.Path.{_≡_}
 use lib.ListN.{length, take}
 use lib.Dec.{ltb, eqb}
 use Rattle.text.specs.Basics.{if_then_else_, all}
+use Rattle.section.specs.declared.Fault.the-variants as F
+use Rattle.section.specs.declared.Refusal.{Refusal}
 use Rattle.section.specs.Section as S
-use Rattle.section.specs.Section.{part}
-use Rattle.section.specs.Refusal.{Outcome, lentAfter}
-use Rattle.address.specs.Address.{readAddress}
-use Rattle.rules.specs.declared.Verdict.the-variants.{Granted, Denied, Ask}
-use Rattle.rules.specs.Search.{decide}
-use Rattle.expansion.specs.Expand.{usesUser, expand}
+use Rattle.section.specs.Section.{part, bytesAt}
+use Rattle.section.specs.Refusal.{refusal}
+use Rattle.expansion.specs.Expand.{usesUser}
 use Rattle.portacl.specs.declared.Settings.{Settings}
-use Rattle.portacl.specs.Portacl.{Bind}
-use Rattle.sheet.specs.Sheet.{Texts, texts, textAt, unpack, pack}
-use Rattle.station.specs.Station.{decideSheet, decideByuidSheet, decidePortaclSheet}
+use Rattle.sheet.specs.Sheet.{Texts, texts}
 use Rattle.codes.specs.declared.GateAnswer.{GateAnswer}
+use Rattle.codes.specs.declared.GateCommand.{GateCommand}
 use Rattle.codes.specs.declared.GateParts.{GateParts}
-use Rattle.codes.specs.Requests.{RequestNumbers, requestNumbers, request, portBy, addressBy, writeBy}
-use Rattle.codes.specs.Answers.{gateAnswer, verdictCode, verdictAnswer, byuidAnswer, portaclAnswer, gateCheck, checkAnswer, gateParts, noParts, partsAnswer, gateWritten, writtenAnswer, gateAddress, addressAnswer}
+use Rattle.codes.specs.declared.GateWritten.{GateWritten}
+use Rattle.codes.specs.Requests.{RequestNumbers, requestNumbers}
+use Rattle.codes.specs.Answers.{granted, denied, ask, refusalAnswer, refusedCheck, accepted, refusedParts, countWritten, withCount, addressWith}
+use Rattle.gate.specs.Calls.{gateVerdict, gateSheetVerdict, gateByuid, gateSheetByuid, gatePortacl, gateSheetPortacl}
+use Rattle.gate.specs.Calls.{gateCheck, gateUnpack, gateReadAddress, Wrote, gatePack, gateExpand, gateWriteAddress}
+use Rattle.gate.specs.Calls.{WroteCommand, gateCommand, gateSheetCommand}
 use Rattle.claims.specs.Examples.{Examples}
 
 -- numbers that fit a byte
 abbrev pub AreBytes : List ℕ → Type 0
 AreBytes t = all (λ b. ltb b 256) t ≡ true
 
--- the sheet is accepted: gate_check answers so
 abbrev pub Accepted : List ℕ → Type 0
-Accepted sheet = checkAnswer (unpack sheet) ≡ gateCheck 0 0 0
+Accepted sheet = gateCheck sheet ≡ accepted
 
--- what a call with the outcome o has written at the front of out: as many bytes as it counts
-abbrev pub front : List ℕ → Outcome (List ℕ) → List ℕ
-front out o = take (writtenAnswer o .count) (lentAfter out o)
+-- what a call has written at the front of its output: as many bytes as it counts
+abbrev pub front : Wrote → List ℕ
+front w = take (w .answer .count) (w .out)
 
 -- ## Demand 1
 
--- every call refuses the sheet by 1, at section s
-pub record CutAt (s : ℕ) (sheet : List ℕ) : Type 0 where
-  pub check : checkAnswer (unpack sheet) ≡ gateCheck 1 s 0
-  pub unpacked : partsAnswer (unpack sheet) ≡ gateParts 1 s 0 noParts
-  pub verdict : (n : RequestNumbers) → verdictAnswer (decideSheet sheet (request n)) ≡ gateAnswer 1 s 0 0 0 0 0
-  pub byuid : (port kind high low uid : ℕ) → byuidAnswer (decideByuidSheet sheet (portBy port) (addressBy port kind high low) uid) ≡ gateAnswer 1 s 0 0 0 0 0
-  pub portacl : (settings : Settings) (b : Bind) → portaclAnswer (decidePortaclSheet sheet settings b) ≡ gateAnswer 1 s 0 0 0 0 0
+-- every call by a sheet answers this refusal
+pub record RefusedBy (r : Refusal) (sheet : List ℕ) : Type 0 where
+  pub check : gateCheck sheet ≡ refusedCheck r
+  pub unpacked : gateUnpack sheet ≡ refusedParts r
+  pub verdict : (n : RequestNumbers) → gateSheetVerdict sheet n ≡ refusalAnswer r
+  pub byuid : (port kind high low uid : ℕ) → gateSheetByuid sheet port kind high low uid ≡ refusalAnswer r
+  pub portacl : (s : Settings) (uid : ℕ) (groups : List ℕ) (protocol port : ℕ) → gateSheetPortacl sheet s uid groups protocol port ≡ refusalAnswer r
 
--- "An accepted sheet cut short anywhere is refused, never half used"
+-- "An accepted sheet cut short anywhere is refused, never half used": by 1, at the section that is cut
 abbrev pub CutShort : Type 0
-CutShort = (sheet : List ℕ) (n : ℕ) → Accepted sheet → n < length sheet → (s : ℕ) × (1 ≤ s) × (s ≤ 4) × CutAt s (take n sheet)
+CutShort = (sheet : List ℕ) (n : ℕ) → Accepted sheet → n < length sheet
+    → (s : ℕ) × (1 ≤ s) × (s ≤ 4) × RefusedBy (refusal F.CutShort s 0) (take n sheet)
 
 -- "The longest sheet is 42,000 bytes."
 pub record Longest : Type 0 where
   pub at-most : (sheet : List ℕ) → Accepted sheet → length sheet ≤ 42000
   pub reached : (sheet : List ℕ) × AreBytes sheet × Accepted sheet × (length sheet ≡ 42000)
   -- so a reader may stop after one byte more
-  pub enough : (sheet : List ℕ) → checkAnswer (unpack (take 42001 sheet)) ≡ checkAnswer (unpack sheet)
+  pub enough : (sheet : List ℕ) → gateCheck (take 42001 sheet) ≡ gateCheck sheet
+
+-- "A refusal .. writes nothing": a lent output is as it was
+pub record RefusalWritesNothing : Type 0 where
+  pub packing : (ts : Texts) (out : List ℕ) → (gatePack ts out .answer .number ≡ 0 → ⊥) → gatePack ts out .out ≡ out
+  pub expanding : (command : List ℕ) (n : RequestNumbers) (process : ℕ) (out : List ℕ) → (gateExpand command n process out .answer .number ≡ 0 → ⊥)
+      → gateExpand command n process out .out ≡ out
+  pub writing : (kind high low : ℕ) (out : List ℕ) → (gateWriteAddress kind high low out .answer .number ≡ 0 → ⊥)
+      → gateWriteAddress kind high low out .out ≡ out
+  pub commanding : (allow deny : List ℕ) (n : RequestNumbers) (process : ℕ) (out : List ℕ) → (gateCommand allow deny n process out .answer .number ≡ 0 → ⊥)
+      → gateCommand allow deny n process out .out ≡ out
+  pub sheet-commanding : (sheet : List ℕ) (n : RequestNumbers) (process : ℕ) (out : List ℕ) → (gateSheetCommand sheet n process out .answer .number ≡ 0 → ⊥)
+      → gateSheetCommand sheet n process out .out ≡ out
+
+-- a decision is a word, or a refusal by one of the fourteen numbers "and gives no verdict"
+pub data Decision : GateAnswer → Type 0 where
+  by-word : (a : GateAnswer) → a .number ≡ 0 → a .section ≡ 0 → 1 ≤ a .word → a .word ≤ 6 → Decision a
+  by-refusal : (r : Refusal) → 1 ≤ refusalAnswer r .number → refusalAnswer r .number ≤ 14 → Decision (refusalAnswer r)
+
+pub record EveryDecision : Type 0 where
+  pub verdict-decided : (allow deny : List ℕ) (n : RequestNumbers) → Decision (gateVerdict allow deny n)
+  pub sheet-verdict-decided : (sheet : List ℕ) (n : RequestNumbers) → Decision (gateSheetVerdict sheet n)
+  pub byuid-decided : (text : List ℕ) (port kind high low uid : ℕ) → Decision (gateByuid text port kind high low uid)
+  pub sheet-byuid-decided : (sheet : List ℕ) (port kind high low uid : ℕ) → Decision (gateSheetByuid sheet port kind high low uid)
+  pub portacl-decided : (text : List ℕ) (s : Settings) (uid : ℕ) (groups : List ℕ) (protocol port : ℕ) → Decision (gatePortacl text s uid groups protocol port)
+  pub sheet-portacl-decided : (sheet : List ℕ) (s : Settings) (uid : ℕ) (groups : List ℕ) (protocol port : ℕ)
+      → Decision (gateSheetPortacl sheet s uid groups protocol port)
+
+-- the other calls give none but the fourteen numbers, and 0, either
+pub record EveryNumber : Type 0 where
+  pub check-number : (sheet : List ℕ) → gateCheck sheet .number ≤ 14
+  pub unpack-number : (sheet : List ℕ) → gateUnpack sheet .number ≤ 14
+  pub read-number : (text : List ℕ) → gateReadAddress text .number ≤ 14
+  pub pack-number : (ts : Texts) (out : List ℕ) → gatePack ts out .answer .number ≤ 14
+  pub expand-number : (command : List ℕ) (n : RequestNumbers) (process : ℕ) (out : List ℕ) → gateExpand command n process out .answer .number ≤ 14
+  pub write-number : (kind high low : ℕ) (out : List ℕ) → gateWriteAddress kind high low out .answer .number ≤ 14
 
 -- ## Demand 2
 
 -- the four texts that gate_unpack finds in a sheet
 abbrev pub textsOf : List ℕ → Texts
 textsOf sheet =
-    let p : GateParts = partsAnswer (unpack sheet) in
-    texts (textAt sheet (part (p .«allow_place») (p .«allow_len»))) (textAt sheet (part (p .«deny_place») (p .«deny_len»)))
-    (textAt sheet (part (p .«byuid_place») (p .«byuid_len»))) (textAt sheet (part (p .«portacl_place») (p .«portacl_len»)))
+    let p : GateParts = gateUnpack sheet in
+    texts (bytesAt sheet (part (p .«allow_place») (p .«allow_len»))) (bytesAt sheet (part (p .«deny_place») (p .«deny_len»)))
+    (bytesAt sheet (part (p .«byuid_place») (p .«byuid_len»))) (bytesAt sheet (part (p .«portacl_place») (p .«portacl_len»)))
 
 -- "A sheet packed from four accepted texts unpacks to those texts": the bytes that gate_pack wrote are accepted
 abbrev pub UnpackPack : Type 0
-UnpackPack = (ts : Texts) (out : List ℕ) → writtenAnswer (pack ts (length out)) .number ≡ 0
-    → Accepted (front out (pack ts (length out))) × (textsOf (front out (pack ts (length out))) ≡ ts)
+UnpackPack = (ts : Texts) (out : List ℕ) → gatePack ts out .answer .number ≡ 0 → Accepted (front (gatePack ts out)) × (textsOf (front (gatePack ts out)) ≡ ts)
 
 -- "the texts of any accepted sheet, given room, pack to that same sheet"
 abbrev pub PackUnpack : Type 0
 PackUnpack = (sheet out : List ℕ) → AreBytes sheet → Accepted sheet → length sheet ≤ length out
-    → (writtenAnswer (pack (textsOf sheet) (length out)) ≡ gateWritten 0 0 0 (length sheet)) × (front out (pack (textsOf sheet) (length out)) ≡ sheet)
+    → (gatePack (textsOf sheet) out .answer ≡ countWritten (length sheet)) × (front (gatePack (textsOf sheet) out) ≡ sheet)
 
 -- gate_read_address gives back what gate_write_address wrote
 pub record ReadWritten : Type 0 where
-  pub v4 : (high low : ℕ) (out : List ℕ) → writtenAnswer (writeBy 4 high low (length out)) .number ≡ 0
-      → addressAnswer (readAddress (front out (writeBy 4 high low (length out)))) ≡ gateAddress 0 0 0 4 0 low
-  pub v6 : (high low : ℕ) (out : List ℕ) → high < 2 ^ 64 → low < 2 ^ 64 → writtenAnswer (writeBy 6 high low (length out)) .number ≡ 0
-      → addressAnswer (readAddress (front out (writeBy 6 high low (length out)))) ≡ gateAddress 0 0 0 6 high low
+  pub v4 : (high low : ℕ) (out : List ℕ) → gateWriteAddress 4 high low out .answer .number ≡ 0
+      → gateReadAddress (front (gateWriteAddress 4 high low out)) ≡ addressWith 4 0 low
+  pub v6 : (high low : ℕ) (out : List ℕ) → high < 2 ^ 64 → low < 2 ^ 64 → gateWriteAddress 6 high low out .answer .number ≡ 0
+      → gateReadAddress (front (gateWriteAddress 6 high low out)) ≡ addressWith 6 high low
+
+-- where the text of a verdict's file stands in a sheet, and the answer with its command found there
+abbrev pub filePlace : GateParts → ℕ → ℕ
+filePlace p file = if eqb file (S.allow .order) then p .«allow_place» else if eqb file (S.deny .order) then p .«deny_place» else 0
+
+abbrev pub placedIn : GateParts → GateAnswer → GateAnswer
+placedIn p a = record {
+  number = a .number;
+  section = a .section;
+  line = a .line;
+  word = a .word;
+  file = a .file;
+  place = filePlace p (a .file) + a .place;
+  len = a .len;
+}
+
+-- an accepted sheet decides as its texts do
+pub record SheetAsTexts : Type 0 where
+  pub same-verdict : (sheet : List ℕ) (n : RequestNumbers) → Accepted sheet
+      → gateSheetVerdict sheet n ≡ placedIn (gateUnpack sheet) (gateVerdict (textsOf sheet .allow) (textsOf sheet .deny) n)
+  pub same-byuid : (sheet : List ℕ) (port kind high low uid : ℕ) → Accepted sheet
+      → gateSheetByuid sheet port kind high low uid ≡ gateByuid (textsOf sheet .byuid) port kind high low uid
+  pub same-portacl : (sheet : List ℕ) (s : Settings) (uid : ℕ) (groups : List ℕ) (protocol port : ℕ) → Accepted sheet
+      → gateSheetPortacl sheet s uid groups protocol port ≡ gatePortacl (textsOf sheet .portacl) s uid groups protocol port
+
+-- the raw command in the text that decided
+abbrev pub deciding : List ℕ → List ℕ → GateAnswer → List ℕ
+deciding allow deny a = if eqb (a .file) (S.deny .order) then deny else allow
+
+abbrev pub commandIn : List ℕ → GateAnswer → List ℕ
+commandIn text a = bytesAt text (part (a .place) (a .len))
+
+-- a verdict, and then the writing of its command: what refuses first is the refusal, and writes nothing
+abbrev pub unwritten : GateWritten → GateCommand
+unwritten w = record { number = w .number; section = w .section; line = w .line; word = 0; file = 0; place = 0; len = 0; count = 0 }
+
+abbrev pub inTurn : GateAnswer → Wrote → List ℕ → WroteCommand
+inTurn v w out =
+    if eqb (v .number) 0 then record { answer = if eqb (w .answer .number) 0 then withCount v (w .answer .count) else unwritten (w .answer); out = w .out }
+    else record { answer = withCount v 0; out = out }
+
+-- one call decides and expands as two do
+pub record CommandInTurn : Type 0 where
+  pub command-by-texts : (allow deny : List ℕ) (n : RequestNumbers) (process : ℕ) (out : List ℕ)
+      → gateCommand allow deny n process out
+      ≡ inTurn (gateVerdict allow deny n) (gateExpand (commandIn (deciding allow deny (gateVerdict allow deny n)) (gateVerdict allow deny n)) n process out) out
+  pub command-by-sheet : (sheet : List ℕ) (n : RequestNumbers) (process : ℕ) (out : List ℕ)
+      → gateSheetCommand sheet n process out
+      ≡ inTurn (gateSheetVerdict sheet n) (gateExpand (commandIn sheet (gateSheetVerdict sheet n)) n process out) out
+
+-- ""Ask" comes nowhere else": only for a user not fetched, so who has fetched is never asked again
+pub record AskOnlyUnfetched : Type 0 where
+  pub asked-by-texts : (allow deny : List ℕ) (n : RequestNumbers) → gateVerdict allow deny n .word ≡ ask .number → n .user ≡ 0
+  pub asked-by-sheet : (sheet : List ℕ) (n : RequestNumbers) → gateSheetVerdict sheet n .word ≡ ask .number → n .user ≡ 0
 
 -- ## Demand 3
 
 -- "Two are alike in all else when at most the user differs"
-abbrev pub withUser : RequestNumbers → ℕ → List ℕ → RequestNumbers
-withUser n user name = requestNumbers (n .daemon) (n .client) (n .clientName) (n .server) (n .serverName) user name
+abbrev pub asUser : RequestNumbers → ℕ → List ℕ → RequestNumbers
+asUser n user name = requestNumbers (n .daemon) (n .client) (n .clientName) (n .server) (n .serverName) user name
 
 -- "for every permitted name, and an unknown one": "A permitted name is any known user of 1 to 64 bytes."
 pub data Permitted : ℕ → List ℕ → Type 0 where
@@ -97,36 +187,24 @@ pub data Permitted : ℕ → List ℕ → Type 0 where
 
 -- "granted or denied": the number and the word of the answer
 pub data Decided : ℕ → ℕ → Type 0 where
-  granted : Decided 0 (verdictCode Granted)
-  denied : Decided 0 (verdictCode Denied)
+  is-granted : Decided 0 (granted .number)
+  is-denied : Decided 0 (denied .number)
 
 -- the name could not have mattered: the same answer whole, so the same raw command, and "expanding that command for both in
 -- the same room gives the same bytes or the same refusal, unless it uses %u or %c"
 pub record SameFor (call : RequestNumbers → GateAnswer) (command : List ℕ) (n : RequestNumbers) (user : ℕ) (name : List ℕ) : Type 0 where
-  pub same-answer : call (withUser n user name) ≡ call n
-  pub same-expansion : (process room : ℕ) → usesUser command ≡ false → expand command (request (withUser n user name)) process room ≡ expand command (request n) process room
-
--- what gate_verdict and gate_sheet_verdict answer, and the raw command in the text that decided
-abbrev pub byTexts : List ℕ → List ℕ → RequestNumbers → GateAnswer
-byTexts allow deny n = verdictAnswer (decide allow deny (request n))
-
-abbrev pub bySheet : List ℕ → RequestNumbers → GateAnswer
-bySheet sheet n = verdictAnswer (decideSheet sheet (request n))
-
-abbrev pub deciding : List ℕ → List ℕ → GateAnswer → List ℕ
-deciding allow deny a = if eqb (a .file) (S.deny .order) then deny else allow
-
-abbrev pub rawCommand : List ℕ → GateAnswer → List ℕ
-rawCommand text a = textAt text (part (a .place) (a .len))
+  pub same-answer : call (asUser n user name) ≡ call n
+  pub same-expansion : (process : ℕ) (out : List ℕ) → usesUser command ≡ false → gateExpand command (asUser n user name) process out
+      ≡ gateExpand command n process out
 
 -- "Take any rules, and any request whose user was not fetched and that is granted or denied": by two texts, and by a sheet
 pub record NameCannotMatter : Type 0 where
-  pub by-texts : (allow deny : List ℕ) (n : RequestNumbers) → n .user ≡ 0 → Decided (byTexts allow deny n .number) (byTexts allow deny n .word)
+  pub by-texts : (allow deny : List ℕ) (n : RequestNumbers) → n .user ≡ 0 → Decided (gateVerdict allow deny n .number) (gateVerdict allow deny n .word)
       → (user : ℕ) (name : List ℕ) → Permitted user name
-      → SameFor (byTexts allow deny) (rawCommand (deciding allow deny (byTexts allow deny n)) (byTexts allow deny n)) n user name
-  pub by-sheet : (sheet : List ℕ) (n : RequestNumbers) → n .user ≡ 0 → Decided (bySheet sheet n .number) (bySheet sheet n .word)
+      → SameFor (gateVerdict allow deny) (commandIn (deciding allow deny (gateVerdict allow deny n)) (gateVerdict allow deny n)) n user name
+  pub by-sheet : (sheet : List ℕ) (n : RequestNumbers) → n .user ≡ 0 → Decided (gateSheetVerdict sheet n .number) (gateSheetVerdict sheet n .word)
       → (user : ℕ) (name : List ℕ) → Permitted user name
-      → SameFor (bySheet sheet) (rawCommand sheet (bySheet sheet n)) n user name
+      → SameFor (gateSheetVerdict sheet) (commandIn sheet (gateSheetVerdict sheet n)) n user name
 
 -- ## All
 
@@ -134,7 +212,13 @@ pub record Claims : Type 0 where
   pub examples : Examples
   pub cut-short : CutShort
   pub longest : Longest
+  pub refusal-writes-nothing : RefusalWritesNothing
+  pub every-decision : EveryDecision
+  pub every-number : EveryNumber
   pub unpack-pack : UnpackPack
   pub pack-unpack : PackUnpack
   pub read-written : ReadWritten
+  pub sheet-as-texts : SheetAsTexts
+  pub command-in-turn : CommandInTurn
+  pub ask-only-unfetched : AskOnlyUnfetched
   pub name-cannot-matter : NameCannotMatter

@@ -4,6 +4,7 @@ use Prim.Native.Nat.{ℕ}
 use Prim.Native.String.{String}
 use mathlib.Core.Bool.{Bool, true}
 use mathlib.Core.List.{List, [], _∷_}
+use mathlib.Core.Option.{some}
 use mathlib.Core.Path.{_≡_}
 use lib.ListN.{replicate}
 use Rattle.text.specs.Text.{bytes}
@@ -27,7 +28,7 @@ use Rattle.rules.specs.declared.File.the-variants.{Neither, Deny}
 use Rattle.rules.specs.Search.{answer, decide}
 use Rattle.expansion.specs.Expand.{expand}
 use Rattle.byuid.specs.declared.Decision.the-variants as B
-use Rattle.byuid.specs.Byuid.{decideByuid}
+use Rattle.byuid.specs.Byuid.{bind, decideByuid}
 use Rattle.portacl.specs.declared.Decision.the-variants as P
 use Rattle.portacl.specs.declared.Protocol.the-variants.{Tcp, Udp}
 use Rattle.portacl.specs.declared.Settings.{Settings}
@@ -35,14 +36,14 @@ use Rattle.portacl.specs.Portacl.{Bind, decidePortacl}
 use Rattle.sheet.specs.Sheet.{unpack}
 
 -- a request by a client, and to a server, of one known name and address, with a known user
-abbrev pub requestOf : String → Addr → String → Request
-requestOf name addr user =
+abbrev pub requestBy : String → Addr → String → Request
+requestBy name addr user =
     let host : Endpoint = record { host = record { name = N.Known; addr = addr }; name = bytes name } in
     record { daemon = bytes "sshd"; client = host; server = host; user = U.Known; userName = bytes user }
 
 -- what a client list finds of a client with that name and address
 abbrev pub listFinds : String → String → Addr → Found
-listFinds list name addr = included (λ e. lookAt (requestOf name addr "fitter") (clientElement e)) (elements (bytes list))
+listFinds list name addr = included (λ e. lookAt (requestBy name addr "fitter") (clientElement e)) (elements (bytes list))
 
 -- the settings of mac_portacl(4) as it starts
 abbrev pub settings : Settings
@@ -52,8 +53,8 @@ abbrev pub udp80 : Bind
 udp80 = record { uid = 80; groups = []; protocol = Udp; port = 80 }
 
 pub record Examples : Type 0 where
-  pub p1 : (r : Request) → wellFormed r ≡ true → decide [] [] r ≡ answered (answer Granted Neither 0 (part 0 0))
-  pub p2 : (r : Request) → wellFormed r ≡ true → decide [] (bytes "ALL: ALL\n") r ≡ answered (answer Denied Deny 1 (part 8 0))
+  pub p1 : (r : Request) → wellFormed r ≡ true → decide [] [] (some r) ≡ answered (answer Granted Neither 0 (part 0 0))
+  pub p2 : (r : Request) → wellFormed r ≡ true → decide [] (bytes "ALL: ALL\n") (some r) ≡ answered (answer Denied Deny 1 (part 8 0))
   pub p3-yes : listFinds "ALL EXCEPT .x.example EXCEPT p.x.example" "p.x.example" Unknown ≡ Yes
   pub p3-no : listFinds "ALL EXCEPT .x.example EXCEPT p.x.example" "q.x.example" Unknown ≡ No
   pub p4-yes : listFinds "131.155.72.0/255.255.254.0" "x" (V4 0x839b49ff) ≡ Yes
@@ -62,10 +63,10 @@ pub record Examples : Type 0 where
   pub p5-no : listFinds "[3ffe:505:2:1::]/64" "x" (V6 0x3ffe050500020002 0) ≡ No
   pub p6-yes : listFinds ".tue.nl" "wzv.win.tue.nl" Unknown ≡ Yes
   pub p6-no : listFinds ".tue.nl" "tue.nl" Unknown ≡ No
-  pub p7-no : decideByuid (bytes "10.0.0.1/8,80") 80 (V4 0x0aff0001) 432 ≡ answered B.NoLine
-  pub p7-yes : decideByuid (bytes "10.0.0.0/8,80") 80 (V4 0x0aff0001) 432 ≡ answered B.Granted
-  pub p8 : decidePortacl (bytes "uid:80:tcp:80") settings udp80 ≡ answered P.Denied
-  pub p9 : expand (bytes "/bin/log %u") (requestOf "x" Unknown "a;b") 1 99 ≡ answered (bytes "/bin/log a_b")
+  pub p7-no : decideByuid (bytes "10.0.0.1/8,80") (some (bind 80 (V4 0x0aff0001) 432)) ≡ answered B.NoLine
+  pub p7-yes : decideByuid (bytes "10.0.0.0/8,80") (some (bind 80 (V4 0x0aff0001) 432)) ≡ answered B.Granted
+  pub p8 : decidePortacl (bytes "uid:80:tcp:80") settings (some udp80) ≡ answered P.Denied
+  pub p9 : expand (bytes "/bin/log %u") (some (requestBy "x" Unknown "a;b")) 1 99 ≡ answered (bytes "/bin/log a_b")
   pub p10 : (readAddress (bytes "2620:106:e002:f00f:0:0:0:21") >>= λ a. writeAddress a 99) ≡ answered (bytes "2620:106:e002:f00f::21")
   pub p11-accepted : unpack (replicate 16 0) ≡ answered (record { allow = part 4 0; deny = part 8 0; byuid = part 12 0; portacl = part 16 0 })
   pub p11-short : unpack (replicate 15 0) ≡ refused (refusal F.CutShort 4 0)

@@ -1,12 +1,13 @@
 -- What a call answers as numbers is the definition's outcome as numbers.
 -- Assumes nothing.
 use Prim.Native.Nat.{ℕ}
+use native.Mathlib.Omega.{arith}
 use mathlib.Core.List.{List}
-use mathlib.Core.Path.{_≡_}
+use mathlib.Core.Path.{_≡_, refl, ap, _∙_}
 use Rattle.section.specs.declared.Written.{Written}
 use Rattle.section.specs.declared.Written.the-variants as W
 use Rattle.section.specs.declared.Refusal.{Refusal}
-use Rattle.section.specs.Refusal.{Outcome, refused, answered, writtenOf}
+use Rattle.section.specs.Refusal.{Outcome, refused, answered, _>>=_, writtenOf, lentAfter}
 use Rattle.address.specs.declared.Addr.{Addr}
 use Rattle.address.specs.declared.Addr.the-variants as A
 use Rattle.address.specs.declared.read.AddressRead.{AddressRead}
@@ -31,20 +32,21 @@ use Rattle.sheet.specs.declared.unpack.Unpacked.the-variants as Un
 use Rattle.sheet.specs.Sheet.{unpackedOf}
 use Rattle.codes.specs.declared.GateAnswer.{GateAnswer}
 use Rattle.codes.specs.declared.GateCheck.{GateCheck}
+use Rattle.codes.specs.declared.GateCommand.{GateCommand}
 use Rattle.codes.specs.declared.GateParts.{GateParts}
 use Rattle.codes.specs.declared.GateWritten.{GateWritten}
 use Rattle.codes.specs.declared.GateAddress.{GateAddress}
-use Rattle.codes.specs.Answers.{gateAnswer, refusalAnswer, wordAnswer, verdictCode, byuidCode, portaclCode, answerNumbers}
-use Rattle.codes.specs.Answers.{gateCheck, gateParts, gateWritten, gateAddress, addressNumbers}
-use Rattle.codes.specs.Answers.{verdictAnswer, byuidAnswer, portaclAnswer, checkAnswer, partsAnswer, writtenAnswer, addressAnswer}
-use Rattle.codes.specs.Code.{byuidNumbers, portaclNumbers, verdictNumbers, checkNumbers, partsNumbers, writtenNumbers, readNumbers}
+use Rattle.codes.specs.Answers.{verdictWord, byuidWord, portaclWord, refusalAnswer, wordAnswer, answerNumbers, accepted, foundParts, countWritten, addressWith}
+use Rattle.codes.specs.Answers.{addressNumbers, verdictAnswer, byuidAnswer, portaclAnswer, checkAnswer, partsAnswer, writtenAnswer, addressAnswer, command, together, withCount, commandAnswer}
+use Rattle.codes.specs.Code.{byuidNumbers, portaclNumbers, verdictNumbers, checkNumbers, partsNumbers, writtenNumbers, commandWritten, readNumbers}
 
-pub byuid-numbers : (o : Outcome ByuidDecision) (x : ByuidRuling) (a : GateAnswer) → x ≡ Byuid.rulingOf o → a ≡ byuidNumbers x → a ≡ byuidAnswer o
+pub byuid-numbers : (o : Outcome ByuidDecision) (x : ByuidRuling) (a : GateAnswer) → x ≡ Byuid.byuidRuling o → a ≡ byuidNumbers x → a ≡ byuidAnswer o
 unfolding byuidNumbers byuidAnswer
 byuid-numbers (refused r) x a e f = rw e at f
 byuid-numbers (answered d) x a e f = rw e at f
 
-pub portacl-numbers : (o : Outcome PortaclDecision) (x : PortaclRuling) (a : GateAnswer) → x ≡ Portacl.rulingOf o → a ≡ portaclNumbers x → a ≡ portaclAnswer o
+pub portacl-numbers : (o : Outcome PortaclDecision) (x : PortaclRuling) (a : GateAnswer) → x ≡ Portacl.portaclRuling o → a ≡ portaclNumbers x → a
+    ≡ portaclAnswer o
 unfolding portaclNumbers portaclAnswer
 portacl-numbers (refused r) x a e f = rw e at f
 portacl-numbers (answered d) x a e f = rw e at f
@@ -53,12 +55,12 @@ pub verdict-answered : (x : VerdictRuling) (b : Answer) (a : GateAnswer) → x �
 unfolding verdictNumbers
 verdict-answered x b a e f = rw e f
 
-pub verdict-numbers : (o : Outcome Answer) (x : VerdictRuling) (a : GateAnswer) → x ≡ Search.rulingOf o → a ≡ verdictNumbers x → a ≡ verdictAnswer o
+pub verdict-numbers : (o : Outcome Answer) (x : VerdictRuling) (a : GateAnswer) → x ≡ Search.verdictRuling o → a ≡ verdictNumbers x → a ≡ verdictAnswer o
 unfolding verdictNumbers verdictAnswer
 verdict-numbers (refused r) x a e f = rw e at f
 verdict-numbers (answered b) x a e f = rw e at f
 
-pub parts-found : (x : Unpacked) (p : Parts) (a : GateParts) → x ≡ Un.Parts p → a ≡ gateParts 0 0 0 p → a ≡ partsNumbers x
+pub parts-found : (x : Unpacked) (p : Parts) (a : GateParts) → x ≡ Un.Parts p → a ≡ foundParts p → a ≡ partsNumbers x
 unfolding partsNumbers
 parts-found x p a e f = rw e f
 
@@ -86,7 +88,8 @@ pub byuid-refused : (x : ByuidRuling) (r : Refusal) (a : GateAnswer) → x ≡ B
 unfolding byuidNumbers
 byuid-refused x r a e f = rw e f
 
-pub byuid-answered : (x : ByuidRuling) (d : ByuidDecision) (k : ℕ) (a : GateAnswer) → x ≡ B.Answered d → k ≡ byuidCode d → a ≡ wordAnswer k → a ≡ byuidNumbers x
+pub byuid-answered : (x : ByuidRuling) (d : ByuidDecision) (k : ℕ) (a : GateAnswer) → x ≡ B.Answered d → k ≡ byuidWord d .number → a ≡ wordAnswer k → a
+    ≡ byuidNumbers x
 unfolding byuidNumbers
 byuid-answered x d k a e g f = rw e (rw g at f)
 
@@ -94,7 +97,8 @@ pub portacl-refused : (x : PortaclRuling) (r : Refusal) (a : GateAnswer) → x �
 unfolding portaclNumbers
 portacl-refused x r a e f = rw e f
 
-pub portacl-answered : (x : PortaclRuling) (d : PortaclDecision) (k : ℕ) (a : GateAnswer) → x ≡ P.Answered d → k ≡ portaclCode d → a ≡ wordAnswer k → a ≡ portaclNumbers x
+pub portacl-answered : (x : PortaclRuling) (d : PortaclDecision) (k : ℕ) (a : GateAnswer) → x ≡ P.Answered d → k ≡ portaclWord d .number → a ≡ wordAnswer k → a
+    ≡ portaclNumbers x
 unfolding portaclNumbers
 portacl-answered x d k a e g f = rw e (rw g at f)
 
@@ -112,29 +116,82 @@ pub read-found : (x : AddressRead) (b : Addr) (a : GateAddress) → x ≡ R.Addr
 unfolding readNumbers
 read-found x b a e f = rw e f
 
-pub verdict-word : (a : Answer) (w : ℕ) → w ≡ verdictCode (a .verdict) → (f : ℕ) → f ≡ fileSection (a .file)
-    → gateAnswer 0 0 (a .line) w f (a .command .place) (a .command .len) ≡ answerNumbers a
+pub verdict-word : (a : Answer) (w : ℕ) → w ≡ verdictWord (a .verdict) .number → (f : ℕ) → f ≡ fileSection (a .file)
+    → _≡_ {A = GateAnswer}
+    (record { number = 0; section = 0; line = a .line; word = w; file = f; place = a .command .place; len = a .command .len }) (answerNumbers a)
 verdict-word a w is-w f is-f = rw (is-w, is-f)
 
 pub check-refused : (x : Unpacked) (r : Refusal) (a : GateCheck) → x ≡ Un.Refused r → a ≡ checkNumbers (Un.Refused r) → a ≡ checkNumbers x
 check-refused x r a e f = rw e f
 
-pub check-accepted : (x : Unpacked) (p : Parts) → x ≡ Un.Parts p → gateCheck 0 0 0 ≡ checkNumbers x
+pub check-accepted : (x : Unpacked) (p : Parts) → x ≡ Un.Parts p → accepted ≡ checkNumbers x
 unfolding checkNumbers
 check-accepted x p e = rw e
 
 pub written-refused : (x : Written) (r : Refusal) (a : GateWritten) → x ≡ W.Refused r → a ≡ writtenNumbers (W.Refused r) → a ≡ writtenNumbers x
 written-refused x r a e f = rw e f
 
-pub written-count : (x : Written) (n : ℕ) → x ≡ W.Count n → gateWritten 0 0 0 n ≡ writtenNumbers x
+pub written-count : (x : Written) (n : ℕ) → x ≡ W.Count n → countWritten n ≡ writtenNumbers x
 unfolding writtenNumbers
 written-count x n e = rw e
 
-pub address-unknown : (x : Addr) (a : GateAddress) → x ≡ A.Unknown → a ≡ gateAddress 0 0 0 0 0 0 → a ≡ addressNumbers x
+pub refusal-counted : (r : Refusal) (b : GateAnswer) → b ≡ refusalAnswer r → (a : GateCommand) → a ≡ withCount b 0 → a ≡ withCount (refusalAnswer r) 0
+refusal-counted r b is-b a is-a = rw (is-a, is-b)
+
+module _ (b : Answer) (x : Written) where
+  pub command-refused : (r : Refusal) → x ≡ W.Refused r → (a : GateCommand) → a ≡ withCount (refusalAnswer r) 0 → a ≡ commandWritten b x
+  unfolding commandWritten
+  command-refused r e a f = rw e f
+
+  pub command-count : (n : ℕ) → x ≡ W.Count n → (v : GateAnswer) → v ≡ answerNumbers b → (a : GateCommand) → a ≡ withCount v n → a ≡ commandWritten b x
+  unfolding commandWritten
+  command-count n e v is-v a f = rw e (f ∙ ap (λ (y : GateAnswer). withCount y n) is-v)
+
+-- a verdict, and then its command
+module _ (out : List ℕ) (d : Outcome Answer) (f : Answer → Outcome (List ℕ)) where
+  pub together-refused : (g : Refusal) → Search.verdictRuling d ≡ Ver.Refused g → withCount (refusalAnswer g) 0 ≡ commandAnswer (together d f)
+  unfolding commandAnswer
+  together-refused g e = by d e
+    where
+      by : (d : Outcome Answer) → Search.verdictRuling d ≡ Ver.Refused g → withCount (refusalAnswer g) 0 ≡ commandAnswer (together d f)
+      by (refused r) k = let z : r ≡ g = cc in rw z
+      by (answered a) k = let z : _≡_ {A = ℕ} 0 1 = cc in absurd (omega arith)
+
+  pub together-kept : (g : Refusal) → Search.verdictRuling d ≡ Ver.Refused g → out ≡ lentAfter out (together d f >>= λ c. answered (c .text))
+  together-kept g e = by d e
+    where
+      by : (d : Outcome Answer) → Search.verdictRuling d ≡ Ver.Refused g → out ≡ lentAfter out (together d f >>= λ c. answered (c .text))
+      by (refused r) k = refl
+      by (answered a) k = let z : _≡_ {A = ℕ} 0 1 = cc in absurd (omega arith)
+
+  module _ (b : Answer) (e : Search.verdictRuling d ≡ Ver.Answered b) where
+    is-answered : d ≡ answered b
+    is-answered = by d e
+      where
+        by : (d : Outcome Answer) → Search.verdictRuling d ≡ Ver.Answered b → d ≡ answered b
+        by (refused r) k = let z : _≡_ {A = ℕ} 0 1 = cc in absurd (omega arith)
+        by (answered a) k = cc
+
+    pub together-written : (w : Written) → w ≡ writtenOf (f b) → commandWritten b w ≡ commandAnswer (together d f)
+    unfolding commandAnswer commandWritten
+    together-written w is-w = rw (is-answered, is-w) (by (f b))
+      where
+        by : (o : Outcome (List ℕ)) → commandWritten b (writtenOf o) ≡ commandAnswer (o >>= λ t. answered (command b t))
+        by (refused r) = refl
+        by (answered t) = refl
+
+    pub together-holds : lentAfter out (f b) ≡ lentAfter out (together d f >>= λ c. answered (c .text))
+    together-holds = rw is-answered (by (f b))
+      where
+        by : (o : Outcome (List ℕ)) → lentAfter out o ≡ lentAfter out ((o >>= λ t. answered (command b t)) >>= λ c. answered (c .text))
+        by (refused r) = refl
+        by (answered t) = refl
+
+pub address-unknown : (x : Addr) (a : GateAddress) → x ≡ A.Unknown → a ≡ addressWith 0 0 0 → a ≡ addressNumbers x
 address-unknown x a e f = rw e f
 
-pub address-v4 : (x : Addr) (n : ℕ) (a : GateAddress) → x ≡ A.V4 n → a ≡ gateAddress 0 0 0 4 0 n → a ≡ addressNumbers x
+pub address-v4 : (x : Addr) (n : ℕ) (a : GateAddress) → x ≡ A.V4 n → a ≡ addressWith 4 0 n → a ≡ addressNumbers x
 address-v4 x n a e f = rw e f
 
-pub address-v6 : (x : Addr) (high low : ℕ) (a : GateAddress) → x ≡ A.V6 high low → a ≡ gateAddress 0 0 0 6 high low → a ≡ addressNumbers x
+pub address-v6 : (x : Addr) (high low : ℕ) (a : GateAddress) → x ≡ A.V6 high low → a ≡ addressWith 6 high low → a ≡ addressNumbers x
 address-v6 x high low a e f = rw e f

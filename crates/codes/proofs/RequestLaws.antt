@@ -1,31 +1,43 @@
--- What the tests of a number say of what it stands for, and what the states that were read say of the request.
+-- What the tests of a number say of what it stands for, and what was read of the request and of the binds that C hands over.
 -- Assumes nothing.
-use Prim.Native.Nat.{ℕ, _<_, _≤_, _^_}
+use Prim.Native.Nat.{ℕ, _+_, _<_, _≤_, _^_}
+use native.Mathlib.Omega.{arith}
 use mathlib.Core.Bool.{Bool, true, false, _&&_, _||_}
-use mathlib.Core.List.{List, []}
+use mathlib.Core.List.{List, [], _++_, append-assoc, append-nil}
 use mathlib.Core.Option.{Option, none, some, Option·getD}
-use mathlib.Core.Path.{_≡_, refl}
-use borrow.Author.Tests.{ne-eqb, lt-ltb, le-ltb}
-use lib.Dec.{ltb, eqb}
-use lib.ListN.{replicate}
-use Rattle.text.specs.Basics.{if_then_else_, given, isSome}
+use mathlib.Core.Path.{_≡_, refl, sym, ap, _∙_}
+use borrow.Author.Tests.{ne-eqb, lt-ltb, le-ltb, leb-true}
+use lib.Dec.{leb, ltb, eqb}
+use lib.ListN.{length, replicate, length-append}
+use Rattle.text.specs.Basics.{if_then_else_, _>>=_, given, isSome}
+use Rattle.text.specs.Text.{inRange}
+use Rattle.text.specs.Scan.{after}
+use Rattle.text.proofs.BasicLaws.{and-true}
+use Rattle.section.specs.declared.Fault.the-variants as F
+use Rattle.section.specs.Refusal.{Outcome, refused, answered, placeless, fitting}
+use Rattle.section.proofs.PartLaws.{part-in}
 use Rattle.address.specs.declared.Addr.{Addr}
 use Rattle.address.specs.declared.Addr.the-variants as A
-use Rattle.patterns.specs.Host.{endpoint}
-use Rattle.elements.specs.Request.{requestOf}
 use Rattle.patterns.specs.declared.Host.{Host}
+use Rattle.patterns.specs.Host.{Endpoint, endpoint, nameCase}
+use Rattle.elements.specs.Request.{Request, requestOf, wellFormed}
+use Rattle.elements.specs.declared.request.Request.{Request as Places}
+use Rattle.elements.specs.Places.{requestAt}
 use Rattle.patterns.specs.declared.Name.{Name}
 use Rattle.patterns.specs.declared.Name.the-variants as N
 use Rattle.elements.specs.declared.User.{User}
 use Rattle.elements.specs.declared.User.the-variants as U
+use Rattle.byuid.specs.Byuid as Byuid
+use Rattle.byuid.specs.Byuid.{addressKnown}
 use Rattle.portacl.specs.declared.Protocol.{Protocol}
 use Rattle.portacl.specs.declared.Protocol.the-variants.{Tcp, Udp}
-use Rattle.portacl.specs.Portacl.{Bind}
+use Rattle.portacl.specs.Portacl as Portacl
+use Rattle.portacl.specs.Portacl.{groupsFit}
+use Rattle.codes.specs.declared.request.HostNumbers.{HostNumbers}
 use Rattle.codes.specs.declared.request.States.{States}
 use Rattle.codes.specs.declared.request.Target.{Target}
-use Rattle.codes.specs.Requests.{nameState, userState, addressOf, protocolOf, nameBy, userBy, addrBy, protocolBy, portBy, bindBy}
-use Rattle.codes.specs.Requests.{HostNumbers, hostNumbers, hostFits, hostBy, numbersFit, requestNumbers, request}
-use Rattle.codes.specs.Code.{statesOf, targetOf}
+use Rattle.codes.specs.Requests.{nameState, userState, addressOf, protocolOf, isPort, requestNumbers, request, knownName, knownUser, hostBy, byuidBind, portaclBind}
+use Rattle.codes.specs.Code.{nameBy, userBy, addrBy, protocolBy, hostFits, hostTaken, numbersFit, statesOf, withNames, placed, unfit, portBy, addressBy, targetOf}
 
 -- ## Whether a number is of its kinds
 
@@ -117,15 +129,15 @@ module _ (kind high low : ℕ) where
   unfolding addressOf
   address-else h k = rw (ne-eqb kind 4 h, ne-eqb kind 6 k) (first-else (eqb kind 0) A.Unknown)
 
--- ## The requests
+-- ## What the calls read, together
 
-module _ (state kind high low : ℕ) where
-  pub host-fits : (n : Bool) → n ≡ isSome (nameState state) → (a : Bool) → a ≡ isSome (addressOf kind high low)
-      → (n && a) ≡ hostFits (hostNumbers state kind high low)
+module _ (h : HostNumbers) where
+  pub host-fits : (n : Bool) → n ≡ isSome (nameState (h .state)) → (a : Bool) → a ≡ isSome (addressOf (h .kind) (h .high) (h .low))
+      → (n && a) ≡ hostFits h
   host-fits n is-n a is-a = rw (is-n, is-a)
 
-  pub host-read : (n : Name) → n ≡ nameBy state → (a : Addr) → a ≡ addrBy kind high low
-      → _≡_ {A = Host} (record { name = n; addr = a }) (hostBy (hostNumbers state kind high low))
+  pub host-read : (n : Name) → n ≡ nameBy (h .state) → (a : Addr) → a ≡ addrBy (h .kind) (h .high) (h .low)
+      → _≡_ {A = Host} (record { name = n; addr = a }) (hostTaken h)
   host-read n is-n a is-a = rw (is-n, is-a)
 
 module _ (client server : HostNumbers) (user : ℕ) where
@@ -134,7 +146,7 @@ module _ (client server : HostNumbers) (user : ℕ) where
   unfolding numbersFit
   numbers-fit c is-c s is-s u is-u = rw (is-c, is-s, is-u)
 
-  pub states-read : (f : Bool) → f ≡ numbersFit client server user → (c : Host) → c ≡ hostBy client → (s : Host) → s ≡ hostBy server
+  pub states-read : (f : Bool) → f ≡ numbersFit client server user → (c : Host) → c ≡ hostTaken client → (s : Host) → s ≡ hostTaken server
       → (u : User) → u ≡ userBy user
       → _≡_ {A = States} (record { fit = f; client = c; server = s; user = u }) (statesOf client server user)
   states-read f is-f c is-c s is-s u is-u = rw (is-f, is-c, is-s, is-u)
@@ -143,15 +155,149 @@ pub target-read : (protocol port : ℕ) (f : Bool) → f ≡ isSome (protocolOf 
     → _≡_ {A = Target} (record { fit = f && ltb port (2 ^ 16); protocol = p; port = n }) (targetOf protocol port)
 target-read protocol port f is-f p is-p n is-n = rw (is-f, is-p, is-n)
 
-pub request-read : (d clientName serverName userName d' : List ℕ) (client server : HostNumbers) (user : ℕ) (x : States)
-    → x ≡ statesOf client server user → d' ≡ (if x .fit then d else [])
-    → requestOf d' (endpoint (x .client) clientName) (endpoint (x .server) serverName) (x .user) userName
-    ≡ request (requestNumbers d client clientName server serverName user userName)
-unfolding request
-request-read d clientName serverName userName d' client server user x e f = rw (f, e)
+-- ## Names in a block
 
-pub bind-read : (uid protocol port : ℕ) (groups groups' : List ℕ) (x : Target)
-    → x ≡ targetOf protocol port → groups' ≡ (if x .fit then groups else replicate 17 0)
-    → _≡_ {A = Bind} (record { uid = uid; groups = groups'; protocol = x .protocol; port = x .port }) (bindBy uid groups protocol port)
-unfolding bindBy
-bind-read uid protocol port groups groups' x e f = rw (f, e)
+module _ (d o s1 s2 s3 s4 : List ℕ) (w : o ≡ after (((s1 ++ s2) ++ s3) ++ s4) d) (client server : Host) (user : User) where
+  pub four-placed : requestAt o (placed (length s1) client (length s2) server (length s3) user (length s4))
+      ≡ requestOf s1 (endpoint client s2) (endpoint server s3) user s4
+  four-placed =
+      rw (
+        part-in [] s1 (s2 ++ (s3 ++ s4)) d o 0 (length s1) (w ∙ simp append-assoc) refl refl,
+        part-in s1 s2 (s3 ++ s4) d o (length s1) (length s2) (w ∙ simp append-assoc) refl refl,
+        part-in (s1 ++ s2) s3 s4 d o (length s1 + length s2) (length s3) (w ∙ simp append-assoc) (sym (length-append s1 s2)) refl,
+        part-in ((s1 ++ s2) ++ s3) s4 [] d o (length s1 + length s2 + length s3) (length s4) (w ∙ rw (append-nil s4))
+            (omega (arith, length-append s1 s2, length-append (s1 ++ s2) s3)) refl,
+      )
+
+unfit-refused : (o : List ℕ) → fitting wellFormed (some (requestAt o unfit)) answered ≡ refused (placeless F.BadRequest)
+unfolding wellFormed
+unfit-refused o = refl
+
+-- ## The request
+
+abbrev endpointBy : Option Name → Option Addr → List ℕ → Option Endpoint
+endpointBy n a name = n >>= λ x. a >>= λ y. some (endpoint (record { name = x; addr = y }) (knownName x name))
+
+abbrev endpointTaken : Option Name → Option Addr → List ℕ → Endpoint
+endpointTaken n a name = endpoint (record { name = Option·getD n N.Unknown; addr = Option·getD a A.Unknown }) (knownName (Option·getD n N.Unknown) name)
+
+-- what was taken for the numbers makes the request, where every number is of its kinds
+module _ (d cn sn un : List ℕ) (client server : HostNumbers) (user : ℕ) where
+  pub request-taken : request (requestNumbers d client cn server sn user un)
+      ≡ given (statesOf client server user .fit) (withNames (statesOf client server user) d cn sn un)
+  unfolding request hostBy numbersFit
+  request-taken =
+      by (nameState (client .state)) (addressOf (client .kind) (client .high) (client .low))
+      (nameState (server .state)) (addressOf (server .kind) (server .high) (server .low)) (userState user)
+    where
+      by : (n : Option Name) (a : Option Addr) (m : Option Name) (b : Option Addr) (u : Option User)
+          → (endpointBy n a cn >>= λ c. endpointBy m b sn >>= λ s. u >>= λ x. some (requestOf d c s x (knownUser x un)))
+          ≡ given ((isSome n && isSome a) && (isSome m && isSome b) && isSome u)
+          (requestOf d (endpointTaken n a cn) (endpointTaken m b sn) (Option·getD u U.Unknown) (knownUser (Option·getD u U.Unknown) un))
+      by none a m b u = refl
+      by (some x) none m b u = refl
+      by (some x) (some y) none b u = refl
+      by (some x) (some y) (some z) none u = refl
+      by (some x) (some y) (some z) (some w) none = refl
+      by (some x) (some y) (some z) (some w) (some v) = refl
+
+  pub read-gathered : (x : States) → x ≡ statesOf client server user → (o : List ℕ) (q : Places)
+      → fitting wellFormed (some (requestAt o q)) answered ≡ fitting wellFormed (given (x .fit) (withNames x d cn sn un)) answered
+      → fitting wellFormed (some (requestAt o q)) answered ≡ fitting wellFormed (request (requestNumbers d client cn server sn user un)) answered
+  read-gathered x is-x o q e =
+      e ∙ ap (λ (y : States). fitting wellFormed (given (y .fit) (withNames y d cn sn un)) answered) is-x
+      ∙ ap (λ (r : Option Request). fitting wellFormed r answered) (sym request-taken)
+
+-- a name that is known is within its size, and one that is not is left out
+name-length : (n : Name) (a : Addr) (t name : List ℕ) → t ≡ knownName n name
+    → nameCase (endpoint (record { name = n; addr = a }) t) true true (inRange 1 255 (length t)) ≡ true → length t ≤ 255
+name-length N.Unknown a t name e h = rw e (omega arith)
+name-length N.Paranoid a t name e h = rw e (omega arith)
+name-length N.Known a t name e h = leb-true (length t) 255 (and-true (leb 1 (length t)) (leb (length t) 255) h .1)
+
+user-length : (v : User) (t name : List ℕ) → t ≡ knownUser v name → elim v [ U.NotFetched ↦ true | U.Unknown ↦ true | U.Known ↦ inRange 1 64 (length t) ] ≡ true
+    → length t ≤ 64
+user-length U.NotFetched t name e h = rw e (omega arith)
+user-length U.Unknown t name e h = rw e (omega arith)
+user-length U.Known t name e h = leb-true (length t) 64 (and-true (leb 1 (length t)) (leb (length t) 64) h .1)
+
+module _ (x : States) (d cn sn un c s u : List ℕ) (is-c : c ≡ knownName (x .client .name) cn) (is-s : s ≡ knownName (x .server .name) sn)
+    (is-u : u ≡ knownUser (x .user) un) (b : Bool) (is-b : b ≡ wellFormed (requestOf d (endpoint (x .client) c) (endpoint (x .server) s) (x .user) u)) where
+  names-are : requestOf d (endpoint (x .client) c) (endpoint (x .server) s) (x .user) u ≡ withNames x d cn sn un
+  names-are = rw (is-c, is-s, is-u)
+
+  module _ (fits : (x .fit && b) ≡ true) where
+    fit : x .fit ≡ true
+    fit = and-true (x .fit) b fits .0
+
+    sized : wellFormed (requestOf d (endpoint (x .client) c) (endpoint (x .server) s) (x .user) u) ≡ true
+    sized = sym is-b ∙ and-true (x .fit) b fits .1
+
+    -- four names within their sizes are within a block of the most that they have together
+    pub gathered-room : length d + length c + length s + length u ≤ 638
+    unfolding wellFormed
+    gathered-room =
+        let e3 = and-true
+        (inRange 1 64 (length d) && nameCase (endpoint (x .client) c) true true (inRange 1 255 (length c)) && nameCase (endpoint (x .server) s) true true
+        (inRange 1 255 (length s)))
+        (elim (x .user) [ U.NotFetched ↦ true | U.Unknown ↦ true | U.Known ↦ inRange 1 64 (length u) ]) sized in
+        let e2 = and-true (inRange 1 64 (length d) && nameCase (endpoint (x .client) c) true true (inRange 1 255 (length c)))
+        (nameCase (endpoint (x .server) s) true true (inRange 1 255 (length s))) (e3 .0) in
+        let e1 = and-true (inRange 1 64 (length d)) (nameCase (endpoint (x .client) c) true true (inRange 1 255 (length c))) (e2 .0) in
+        let hd : length d ≤ 64 = leb-true (length d) 64 (and-true (leb 1 (length d)) (leb (length d) 64) (e1 .0) .1) in
+        let hc : length c ≤ 255 = name-length (x .client .name) (x .client .addr) c cn is-c (e1 .1) in
+        let hs : length s ≤ 255 = name-length (x .server .name) (x .server .addr) s sn is-s (e2 .1) in
+        let hu : length u ≤ 64 = user-length (x .user) u un is-u (e3 .1) in
+        omega (arith, hd, hc, hs, hu)
+
+    pub gathered-within : (names : List ℕ) → 638 ≤ length names → length d + length c + length s + length u ≤ length names
+    gathered-within names h = omega (arith, gathered-room, h)
+
+    pub gathered-fits : (names o : List ℕ) → o ≡ after (((d ++ c) ++ s) ++ u) names → (q : Places)
+        → q ≡ placed (length d) (x .client) (length c) (x .server) (length s) (x .user) (length u)
+        → fitting wellFormed (some (requestAt o q)) answered ≡ fitting wellFormed (given (x .fit) (withNames x d cn sn un)) answered
+    gathered-fits names o is-o q is-q =
+        ap (λ (r : Request). fitting wellFormed (some r) answered)
+        (ap (requestAt o) is-q ∙ four-placed names o d c s u is-o (x .client) (x .server) (x .user) ∙ names-are)
+        ∙ ap (λ (y : Bool). fitting wellFormed (given y (withNames x d cn sn un)) answered) (sym fit)
+
+  pub gathered-unfit : (x .fit && b) ≡ false → (o : List ℕ) (q : Places) → q ≡ unfit
+      → fitting wellFormed (some (requestAt o q)) answered ≡ fitting wellFormed (given (x .fit) (withNames x d cn sn un)) answered
+  gathered-unfit e o q is-q =
+      ap (λ (p : Places). fitting wellFormed (some (requestAt o p)) answered) is-q ∙ unfit-refused o
+      ∙ by (x .fit) b is-b e
+    where
+      by : (y z : Bool) → z ≡ wellFormed (requestOf d (endpoint (x .client) c) (endpoint (x .server) s) (x .user) u) → (y && z) ≡ false
+          → refused (placeless F.BadRequest) ≡ fitting wellFormed (given y (withNames x d cn sn un)) answered
+      by false z is-z k = refl
+      by true z is-z k = rw (← names-are, ← is-z, k)
+
+-- ## Binds
+
+module _ (port kind high low uid p : ℕ) (a : Addr) (is-p : p ≡ portBy port) (is-a : a ≡ addressBy port kind high low) where
+  pub byuid-read : {B : Type 0} (f : Byuid.Bind → Outcome B) → fitting addressKnown (some (Byuid.bind p a uid)) f
+      ≡ fitting addressKnown (byuidBind port kind high low uid) f
+  unfolding portBy addressBy byuidBind
+  byuid-read f = rw (is-p, is-a) (by (isPort port) (addressOf kind high low))
+    where
+      by : (b : Bool) (o : Option Addr)
+          → fitting addressKnown (some (Byuid.bind (if b then port else 0) (if b then Option·getD o A.Unknown else A.Unknown) uid)) f
+          ≡ fitting addressKnown (o >>= λ x. given b (Byuid.bind port x uid)) f
+      by true none = refl
+      by true (some x) = refl
+      by false none = refl
+      by false (some x) = refl
+
+module _ (uid protocol port : ℕ) (groups groups' : List ℕ) (x : Target) (is-x : x ≡ targetOf protocol port)
+    (is-groups : groups' ≡ (if x .fit then groups else replicate 17 0)) where
+  pub portacl-read : {B : Type 0} (f : Portacl.Bind → Outcome B)
+      → fitting groupsFit (some (Portacl.bind uid groups' (x .protocol) (x .port))) f ≡ fitting groupsFit (portaclBind uid groups protocol port) f
+  unfolding portBy portaclBind
+  portacl-read f = rw (is-groups, is-x) (by (protocolOf protocol) (isPort port))
+    where
+      by : (o : Option Protocol) (b : Bool)
+          → fitting groupsFit (some (Portacl.bind uid (if isSome o && b then groups else replicate 17 0) (Option·getD o Tcp) (if b then port else 0))) f
+          ≡ fitting groupsFit (o >>= λ q. given b (Portacl.bind uid groups q port)) f
+      by none b = refl
+      by (some q) true = refl
+      by (some q) false = refl

@@ -1,16 +1,19 @@
 -- Document 01, "The inetd on the box is C and calls by bytes and numbers": what it gets back.
+--   granted, denied, ..                       == the paper's words, each with its number
 --   verdictAnswer, byuidAnswer, portaclAnswer == a decision as numbers: number 0 stands for "answered", word 0 for no word
 --   checkAnswer, partsAnswer                  == what checking and unpacking a sheet answer
 --   writtenAnswer                             == what a call that writes answers
+--   commandAnswer                             == what a call that decides and expands answers
 --   addressAnswer                             == an address read
--- Of a refusal all have number, section and line; all else is 0.
+-- Of a refusal all have number, section and line; all else is 0, and of an address its kind is one that no address has.
 -- Assumes nothing: these are definitions.
 use Prim.Native.Nat.{ℕ}
+use Prim.Native.String.{String}
 use mathlib.Core.List.{List}
 use lib.ListN.{length}
+use Rattle.text.specs.Text.{bytes}
 use Rattle.section.specs.declared.Refusal.{Refusal}
-use Rattle.section.specs.Refusal.{Outcome, refused, answered, faultNumber}
-use Rattle.section.specs.Section.{part}
+use Rattle.section.specs.Refusal.{Outcome, refused, answered, _>>=_, faultNumber}
 use Rattle.address.specs.declared.Addr.{Addr}
 use Rattle.address.specs.declared.Addr.the-variants as A
 use Rattle.rules.specs.declared.Answer.{Answer}
@@ -24,67 +27,119 @@ use Rattle.portacl.specs.declared.Decision.the-variants as P
 use Rattle.sheet.specs.declared.Parts.{Parts}
 use Rattle.codes.specs.declared.GateAnswer.{GateAnswer}
 use Rattle.codes.specs.declared.GateCheck.{GateCheck}
+use Rattle.codes.specs.declared.GateCommand.{GateCommand}
 use Rattle.codes.specs.declared.GateWritten.{GateWritten}
 use Rattle.codes.specs.declared.GateParts.{GateParts}
 use Rattle.codes.specs.declared.GateAddress.{GateAddress}
 
+-- ## Words
+
+-- "The definition gives this paper's number and values for each of the enum's cases."
+pub record Word : Type 0 where
+  pub text : List ℕ
+  pub number : ℕ
+
+abbrev pub word : String → ℕ → Word
+word t n = record { text = bytes t; number = n }
+
+abbrev pub granted : Word
+granted = word "granted" 1
+
+abbrev pub denied : Word
+denied = word "denied" 2
+
+abbrev pub ask : Word
+ask = word "ask" 3
+
+abbrev pub noLine : Word
+noLine = word "no line" 4
+
+abbrev pub notRuled : Word
+notRuled = word "not ruled" 5
+
+abbrev pub exempt : Word
+exempt = word "exempt" 6
+
+abbrev pub verdictWord : Verdict → Word
+verdictWord Ver.Granted = granted
+verdictWord Ver.Denied = denied
+verdictWord Ver.Ask = ask
+
+abbrev pub byuidWord : ByuidDecision → Word
+byuidWord B.Granted = granted
+byuidWord B.NoLine = noLine
+byuidWord B.NotRuled = notRuled
+
+abbrev pub portaclWord : PortaclDecision → Word
+portaclWord P.Granted = granted
+portaclWord P.Denied = denied
+portaclWord P.NotRuled = notRuled
+portaclWord P.Exempt = exempt
+
 -- ## Decisions
 
-abbrev pub gateAnswer : ℕ → ℕ → ℕ → ℕ → ℕ → ℕ → ℕ → GateAnswer
-gateAnswer n s l w f p k = record { number = n; section = s; line = l; word = w; file = f; place = p; len = k }
-
 abbrev pub refusalAnswer : Refusal → GateAnswer
-refusalAnswer r = gateAnswer (faultNumber (r .fault)) (r .section) (r .line) 0 0 0 0
+refusalAnswer r = record { number = faultNumber (r .fault); section = r .section; line = r .line; word = 0; file = 0; place = 0; len = 0 }
 
--- a word alone: "Both port decisions give their word only."
+-- a word alone, by its number: "Both port decisions give their word only."
 abbrev pub wordAnswer : ℕ → GateAnswer
-wordAnswer w = gateAnswer 0 0 0 w 0 0 0
-
-abbrev pub verdictCode : Verdict → ℕ
-verdictCode Ver.Granted = 1
-verdictCode Ver.Denied = 2
-verdictCode Ver.Ask = 3
+wordAnswer w = record { number = 0; section = 0; line = 0; word = w; file = 0; place = 0; len = 0 }
 
 abbrev pub answerNumbers : Answer → GateAnswer
-answerNumbers a = gateAnswer 0 0 (a .line) (verdictCode (a .verdict)) (fileSection (a .file)) (a .command .place) (a .command .len)
+answerNumbers a = record {
+  number = 0;
+  section = 0;
+  line = a .line;
+  word = verdictWord (a .verdict) .number;
+  file = fileSection (a .file);
+  place = a .command .place;
+  len = a .command .len;
+}
 
 unfoldable pub verdictAnswer : Outcome Answer → GateAnswer
 verdictAnswer (refused r) = refusalAnswer r
 verdictAnswer (answered a) = answerNumbers a
 
-abbrev pub byuidCode : ByuidDecision → ℕ
-byuidCode B.Granted = 1
-byuidCode B.NoLine = 4
-byuidCode B.NotRuled = 5
-
 unfoldable pub byuidAnswer : Outcome ByuidDecision → GateAnswer
 byuidAnswer (refused r) = refusalAnswer r
-byuidAnswer (answered d) = wordAnswer (byuidCode d)
-
-abbrev pub portaclCode : PortaclDecision → ℕ
-portaclCode P.Granted = 1
-portaclCode P.Denied = 2
-portaclCode P.NotRuled = 5
-portaclCode P.Exempt = 6
+byuidAnswer (answered d) = wordAnswer (byuidWord d .number)
 
 unfoldable pub portaclAnswer : Outcome PortaclDecision → GateAnswer
 portaclAnswer (refused r) = refusalAnswer r
-portaclAnswer (answered d) = wordAnswer (portaclCode d)
+portaclAnswer (answered d) = wordAnswer (portaclWord d .number)
 
 -- ## Sheets
 
-abbrev pub gateCheck : ℕ → ℕ → ℕ → GateCheck
-gateCheck n s l = record { number = n; section = s; line = l }
+abbrev pub refusedCheck : Refusal → GateCheck
+refusedCheck r = record { number = faultNumber (r .fault); section = r .section; line = r .line }
+
+abbrev pub accepted : GateCheck
+accepted = record { number = 0; section = 0; line = 0 }
 
 unfoldable pub checkAnswer : Outcome Parts → GateCheck
-checkAnswer (refused r) = gateCheck (faultNumber (r .fault)) (r .section) (r .line)
-checkAnswer (answered p) = gateCheck 0 0 0
+checkAnswer (refused r) = refusedCheck r
+checkAnswer (answered p) = accepted
 
-abbrev pub gateParts : ℕ → ℕ → ℕ → Parts → GateParts
-gateParts n s l p = record {
-  number = n;
-  section = s;
-  line = l;
+abbrev pub refusedParts : Refusal → GateParts
+refusedParts r = record {
+  number = faultNumber (r .fault);
+  section = r .section;
+  line = r .line;
+  «allow_place» = 0;
+  «allow_len» = 0;
+  «deny_place» = 0;
+  «deny_len» = 0;
+  «byuid_place» = 0;
+  «byuid_len» = 0;
+  «portacl_place» = 0;
+  «portacl_len» = 0;
+}
+
+abbrev pub foundParts : Parts → GateParts
+foundParts p = record {
+  number = 0;
+  section = 0;
+  line = 0;
   «allow_place» = p .allow .place;
   «allow_len» = p .allow .len;
   «deny_place» = p .deny .place;
@@ -95,30 +150,68 @@ gateParts n s l p = record {
   «portacl_len» = p .portacl .len;
 }
 
-abbrev pub noParts : Parts
-noParts = record { allow = part 0 0; deny = part 0 0; byuid = part 0 0; portacl = part 0 0 }
-
 unfoldable pub partsAnswer : Outcome Parts → GateParts
-partsAnswer (refused r) = gateParts (faultNumber (r .fault)) (r .section) (r .line) noParts
-partsAnswer (answered p) = gateParts 0 0 0 p
+partsAnswer (refused r) = refusedParts r
+partsAnswer (answered p) = foundParts p
 
 -- ## Outputs and addresses
 
-abbrev pub gateWritten : ℕ → ℕ → ℕ → ℕ → GateWritten
-gateWritten n s l k = record { number = n; section = s; line = l; count = k }
+abbrev pub refusedWritten : Refusal → GateWritten
+refusedWritten r = record { number = faultNumber (r .fault); section = r .section; line = r .line; count = 0 }
+
+abbrev pub countWritten : ℕ → GateWritten
+countWritten n = record { number = 0; section = 0; line = 0; count = n }
 
 unfoldable pub writtenAnswer : Outcome (List ℕ) → GateWritten
-writtenAnswer (refused r) = gateWritten (faultNumber (r .fault)) (r .section) (r .line) 0
-writtenAnswer (answered t) = gateWritten 0 0 0 (length t)
+writtenAnswer (refused r) = refusedWritten r
+writtenAnswer (answered t) = countWritten (length t)
 
-abbrev pub gateAddress : ℕ → ℕ → ℕ → ℕ → ℕ → ℕ → GateAddress
-gateAddress n s l k h w = record { number = n; section = s; line = l; kind = k; high = h; low = w }
+-- a verdict, and the command of the rule that decided, expanded
+pub record Command : Type 0 where
+  pub answer : Answer
+  pub text : List ℕ
+
+abbrev pub command : Answer → List ℕ → Command
+command a t = record { answer = a; text = t }
+
+-- the verdict, then f, the expansion of its command; what refuses first is the refusal
+abbrev pub together : Outcome Answer → (Answer → Outcome (List ℕ)) → Outcome Command
+together verdict f = do
+  a ← verdict
+  t ← f a
+  answered (command a t)
+
+abbrev pub withCount : GateAnswer → ℕ → GateCommand
+withCount a n = record {
+  number = a .number;
+  section = a .section;
+  line = a .line;
+  word = a .word;
+  file = a .file;
+  place = a .place;
+  len = a .len;
+  count = n;
+}
+
+unfoldable pub commandAnswer : Outcome Command → GateCommand
+commandAnswer (refused r) = withCount (refusalAnswer r) 0
+commandAnswer (answered c) = withCount (answerNumbers (c .answer)) (length (c .text))
+
+-- no address has this kind, so a refused answer can't be handed on as one
+abbrev pub noAddress : ℕ
+noAddress = 255
+
+abbrev pub refusedAddress : Refusal → GateAddress
+refusedAddress r = record { number = faultNumber (r .fault); section = r .section; line = r .line; kind = noAddress; high = 0; low = 0 }
+
+abbrev pub addressWith : ℕ → ℕ → ℕ → GateAddress
+addressWith kind high low = record { number = 0; section = 0; line = 0; kind = kind; high = high; low = low }
 
 abbrev pub addressNumbers : Addr → GateAddress
-addressNumbers A.Unknown = gateAddress 0 0 0 0 0 0
-addressNumbers (A.V4 n) = gateAddress 0 0 0 4 0 n
-addressNumbers (A.V6 high low) = gateAddress 0 0 0 6 high low
+addressNumbers A.Unknown = addressWith 0 0 0
+addressNumbers (A.V4 n) = addressWith 4 0 n
+addressNumbers (A.V6 high low) = addressWith 6 high low
 
 unfoldable pub addressAnswer : Outcome Addr → GateAddress
-addressAnswer (refused r) = gateAddress (faultNumber (r .fault)) (r .section) (r .line) 0 0 0
+addressAnswer (refused r) = refusedAddress r
 addressAnswer (answered a) = addressNumbers a

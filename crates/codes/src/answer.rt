@@ -2,6 +2,7 @@
 use crate::GateAddress;
 use crate::GateAnswer;
 use crate::GateCheck;
+use crate::GateCommand;
 use crate::GateParts;
 use crate::GateWritten;
 use address::Addr;
@@ -15,8 +16,11 @@ ghost use Rattle.rules.specs.Search.{fileSection};
 ghost use Rattle.section.specs.declared.Written.the-variants as W;
 ghost use Rattle.address.specs.declared.read.AddressRead.the-variants as R;
 ghost use Rattle.sheet.specs.declared.unpack.Unpacked.the-variants as Un;
-ghost use Rattle.codes.specs.Answers.{refusalAnswer, wordAnswer, verdictCode, answerNumbers, byuidCode, portaclCode, gateParts, gateAddress, addressNumbers};
-ghost use Rattle.codes.specs.Code.{byuidNumbers, portaclNumbers, verdictNumbers, checkNumbers, partsNumbers, writtenNumbers, readNumbers};
+ghost use Rattle.codes.specs.Answers.{verdictWord, byuidWord, portaclWord, refusalAnswer, wordAnswer, answerNumbers, foundParts, withCount, addressWith, addressNumbers};
+ghost use Rattle.codes.specs.Code.{byuidNumbers, portaclNumbers, verdictNumbers, checkNumbers, partsNumbers, writtenNumbers, commandWritten, readNumbers};
+
+// The kind of an address that was not read: no address has it.
+pub const NO_ADDRESS: u32 = 255;
 
 fn refused(r: Refusal) -> GateAnswer
     ensures { λ a. ⌜ a ≡ refusalAnswer r ⌝ }
@@ -48,7 +52,7 @@ fn word(w: u32) -> GateAnswer
 }
 
 fn byuid_code(d: byuid::Decision) -> u32
-    ensures { λ r. ⌜ r ≡ byuidCode d ⌝ }
+    ensures { λ r. ⌜ r ≡ byuidWord d .number ⌝ }
 {
     match d {
         byuid::Decision::Granted => 1,
@@ -58,7 +62,7 @@ fn byuid_code(d: byuid::Decision) -> u32
 }
 
 fn portacl_code(d: portacl::Decision) -> u32
-    ensures { λ r. ⌜ r ≡ portaclCode d ⌝ }
+    ensures { λ r. ⌜ r ≡ portaclWord d .number ⌝ }
 {
     match d {
         portacl::Decision::Granted => 1,
@@ -89,7 +93,7 @@ pub fn portacl_numbers(r: portacl::Ruling) -> GateAnswer
 }
 
 fn verdict_code(v: rules::Verdict) -> u32
-    ensures { λ r. ⌜ r ≡ verdictCode v ⌝ }
+    ensures { λ r. ⌜ r ≡ verdictWord v .number ⌝ }
 {
     match v {
         rules::Verdict::Granted => 1,
@@ -180,7 +184,7 @@ fn not_unpacked(r: Refusal) -> GateParts
 }
 
 fn found_parts(p: Parts) -> GateParts
-    ensures { λ a. ⌜ a ≡ gateParts 0 0 0 p ⌝ }
+    ensures { λ a. ⌜ a ≡ foundParts p ⌝ }
 {
     let allow = p.allow;
     let deny = p.deny;
@@ -238,6 +242,39 @@ pub fn written_numbers(w: Written) -> GateWritten
     }
 }
 
+// A decision, and how many bytes were written for it.
+fn with_count(a: GateAnswer, n: usize) -> GateCommand
+    ensures { λ r. ⌜ r ≡ withCount a n ⌝ }
+{
+    GateCommand {
+        number: a.number,
+        section: a.section,
+        line: a.line,
+        word: a.word,
+        file: a.file,
+        place: a.place,
+        len: a.len,
+        count: n as u64,
+    }
+}
+
+// A refusal in place of a verdict and its command.
+pub fn no_command(r: Refusal) -> GateCommand
+    ensures { λ a. ⌜ a ≡ withCount (refusalAnswer r) 0 ⌝ }
+{
+    with_count(refused(r), 0)
+}
+
+// A verdict as numbers, where its command was written; else the refusal to write it.
+pub fn command_numbers(a: rules::Answer, w: Written) -> GateCommand
+    ensures { λ r. ⌜ r ≡ commandWritten a w ⌝ }
+{
+    match w {
+        Written::Refused(refusal) => no_command(refusal),
+        Written::Count(n) => with_count(verdict_word(a), n),
+    }
+}
+
 fn not_read(r: Refusal) -> GateAddress
     ensures { λ a. ⌜ a ≡ readNumbers (R.Refused r) ⌝ }
 {
@@ -246,14 +283,14 @@ fn not_read(r: Refusal) -> GateAddress
         number: section::fault_number(fault) as u32,
         section: r.section as u32,
         line: r.line as u64,
-        kind: 0,
+        kind: NO_ADDRESS,
         high: 0,
         low: 0,
     }
 }
 
 fn address_kind(kind: u32, high: u64, low: u64) -> GateAddress
-    ensures { λ r. ⌜ r ≡ gateAddress 0 0 0 kind high low ⌝ }
+    ensures { λ r. ⌜ r ≡ addressWith kind high low ⌝ }
 {
     GateAddress {
         number: 0,

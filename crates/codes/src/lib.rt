@@ -16,6 +16,19 @@ pub struct GateAnswer {
     pub len: u64,
 }
 
+// A verdict as numbers, and how many bytes of its command were written.
+#[repr(C)]
+pub struct GateCommand {
+    pub number: u32,
+    pub section: u32,
+    pub line: u64,
+    pub word: u32,
+    pub file: u32,
+    pub place: u64,
+    pub len: u64,
+    pub count: u64,
+}
+
 // Whether a sheet is accepted.
 #[repr(C)]
 pub struct GateCheck {

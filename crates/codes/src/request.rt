@@ -1,14 +1,32 @@
 // What the numbers of a request stand for; a number outside its kinds stands for what is refused by 13.
 use address::Addr;
 use elements::User;
+use elements::element::well_formed;
+use elements::request::Request;
 use patterns::Host;
 use patterns::Name;
 use portacl::Protocol;
+use section::Part;
 ghost use mathlib.Core.Path.{_≡_};
-ghost use mathlib.Core.List.{[]};
-ghost use Rattle.text.specs.Basics.{if_then_else_, isSome};
-ghost use Rattle.codes.specs.Requests.{nameState, userState, addressOf, protocolOf, hostNumbers, nameBy, userBy, addrBy, protocolBy, hostFits, hostBy, numbersFit, portBy, addressBy};
-ghost use Rattle.codes.specs.Code.{statesOf, targetOf};
+ghost use mathlib.Core.List.{_++_};
+ghost use mathlib.Core.Option.{some};
+ghost use Prim.Native.Nat.{_≤_, _+_};
+ghost use lib.ListN.{length};
+ghost use Rattle.text.specs.Basics.{if_then_else_, given, isSome};
+ghost use Rattle.text.specs.Scan.{after};
+ghost use Rattle.section.specs.Refusal.{answered, fitting};
+ghost use Rattle.elements.specs.Request.{wellFormed};
+ghost use Rattle.elements.specs.Places.{requestAt};
+ghost use Rattle.codes.specs.Requests.{nameState, userState, addressOf, protocolOf, hostNumbers, requestNumbers, request, knownName, knownUser};
+ghost use Rattle.codes.specs.Code.{nameBy, userBy, addrBy, hostFits, hostTaken, numbersFit, statesOf, withNames, placed, unfit, protocolBy, portBy, addressBy, targetOf};
+
+// A host as C hands it over: the state of its name, the kind of its address, and the address.
+pub struct HostNumbers {
+    pub state: u32,
+    pub kind: u32,
+    pub high: u64,
+    pub low: u64,
+}
 
 // The states of a request; fit: every number is of its kinds.
 pub struct States {
@@ -24,6 +42,9 @@ pub struct Target {
     pub protocol: Protocol,
     pub port: u16,
 }
+
+// The most bytes that the names of a request have together.
+pub const NAMES: usize = 638;
 
 fn is_name_state(n: u32) -> bool
     ensures { λ r. ⌜ r ≡ isSome (nameState n) ⌝ }
@@ -87,79 +108,197 @@ pub fn address(kind: u32, high: u64, low: u64) -> Addr
     Addr::Unknown
 }
 
-fn host_fits(state: u32, kind: u32, high: u64, low: u64) -> bool
-    ensures { λ r. ⌜ r ≡ hostFits (hostNumbers state kind high low) ⌝ }
+fn host_fits(h: HostNumbers) -> bool
+    ensures { λ r. ⌜ r ≡ hostFits h ⌝ }
 {
-    is_name_state(state) & is_address(kind, high, low)
+    is_name_state(h.state) & is_address(h.kind, h.high, h.low)
 }
 
-fn host(state: u32, kind: u32, high: u64, low: u64) -> Host
-    ensures { λ r. ⌜ r ≡ hostBy (hostNumbers state kind high low) ⌝ }
+fn host(h: HostNumbers) -> Host
+    ensures { λ r. ⌜ r ≡ hostTaken h ⌝ }
 {
     Host {
-        name: name_state(state),
-        addr: address(kind, high, low),
+        name: name_state(h.state),
+        addr: address(h.kind, h.high, h.low),
     }
 }
 
-fn numbers_fit(
-    client_state: u32,
-    client_kind: u32,
-    client_high: u64,
-    client_low: u64,
-    server_state: u32,
-    server_kind: u32,
-    server_high: u64,
-    server_low: u64,
-    user: u32,
-) -> bool
-    ensures { λ r. ⌜ r ≡ numbersFit (hostNumbers «client_state» «client_kind» «client_high» «client_low») (hostNumbers «server_state» «server_kind» «server_high» «server_low») user ⌝ }
+fn numbers_fit(client: HostNumbers, server: HostNumbers, user: u32) -> bool
+    ensures { λ r. ⌜ r ≡ numbersFit client server user ⌝ }
 {
-    host_fits(client_state, client_kind, client_high, client_low)
-        & host_fits(server_state, server_kind, server_high, server_low)
-        & is_user_state(user)
+    host_fits(client) & host_fits(server) & is_user_state(user)
 }
 
 // The states of a request.
-pub fn read_states(
-    client_state: u32,
-    client_kind: u32,
-    client_high: u64,
-    client_low: u64,
-    server_state: u32,
-    server_kind: u32,
-    server_high: u64,
-    server_low: u64,
-    user: u32,
-) -> States
-    ensures { λ r. ⌜ r ≡ statesOf (hostNumbers «client_state» «client_kind» «client_high» «client_low») (hostNumbers «server_state» «server_kind» «server_high» «server_low») user ⌝ }
+fn read_states(client: HostNumbers, server: HostNumbers, user: u32) -> States
+    ensures { λ r. ⌜ r ≡ statesOf client server user ⌝ }
 {
     States {
-        fit: numbers_fit(
-            client_state,
-            client_kind,
-            client_high,
-            client_low,
-            server_state,
-            server_kind,
-            server_high,
-            server_low,
-            user,
-        ),
-        client: host(client_state, client_kind, client_high, client_low),
-        server: host(server_state, server_kind, server_high, server_low),
+        fit: numbers_fit(client, server, user),
+        client: host(client),
+        server: host(server),
         user: user_state(user),
     }
 }
 
-// The daemon of a request whose numbers fit; of another none.
-pub fn daemon_if(fit: bool, daemon: &[u8]) -> &[u8]
-    ensures { λ r. ⌜ now r ≡ (if fit then now (daemon .entry) else []) ⌝ }
+// The bytes of a host's name; none where it is not known.
+fn known_name(host: Host, name: &[u8]) -> &[u8]
+    ensures { λ r. ⌜ now r ≡ knownName (host .name) (now (name .entry)) ⌝ }
 {
-    if fit {
-        return daemon;
+    let state = host.name;
+    match state {
+        Name::Unknown => &name[..0],
+        Name::Paranoid => &name[..0],
+        Name::Known => name,
     }
-    &daemon[..0]
+}
+
+// The bytes of a user's name; none where it is not known.
+fn known_user(user: User, name: &[u8]) -> &[u8]
+    ensures { λ r. ⌜ now r ≡ knownUser user (now (name .entry)) ⌝ }
+{
+    match user {
+        User::NotFetched => &name[..0],
+        User::Unknown => &name[..0],
+        User::Known => name,
+    }
+}
+
+// Copies four names to the front of a block, one after the other.
+fn put_names(names: &mut [u8], daemon: &[u8], client: &[u8], server: &[u8], user: &[u8])
+    requires { ⌜ length (now daemon) + length (now client) + length (now server) + length (now user) ≤ length (now names) ⌝ }
+    ensures { λ _. ⌜ now (names .exit)
+        ≡ after (((now (daemon .entry) ++ now (client .entry)) ++ now (server .entry)) ++ now (user .entry)) (now (names .entry)) ⌝ }
+{
+    let a = text::put(names, 0, daemon);
+    let b = text::put(names, a, client);
+    let c = text::put(names, b, server);
+    text::put(names, c, user);
+}
+
+// The request over four names of these lengths that stand at the front of a block.
+fn places(
+    daemon: usize,
+    client: Host,
+    client_name: usize,
+    server: Host,
+    server_name: usize,
+    user: User,
+    user_name: usize,
+) -> Request
+    requires { ⌜ daemon + «client_name» + «server_name» + «user_name» ≤ 638 ⌝ }
+    ensures { λ r. ⌜ r ≡ placed daemon client «client_name» server «server_name» user «user_name» ⌝ }
+{
+    Request {
+        daemon: Part {
+            place: 0,
+            len: daemon,
+        },
+        client,
+        client_name: Part {
+            place: daemon,
+            len: client_name,
+        },
+        server,
+        server_name: Part {
+            place: daemon + client_name,
+            len: server_name,
+        },
+        user,
+        user_name: Part {
+            place: daemon + client_name + server_name,
+            len: user_name,
+        },
+    }
+}
+
+// A request that is refused by 13: it has no daemon.
+fn unfit_request() -> Request
+    ensures { λ r. ⌜ r ≡ unfit ⌝ }
+{
+    let nobody = Host {
+        name: Name::Unknown,
+        addr: Addr::Unknown,
+    };
+    places(0, nobody, 0, nobody, 0, User::Unknown, 0)
+}
+
+// Copies the names that are known into the block, and answers the request over it; one that is refused by 13 is not copied.
+fn gather(
+    names: &mut [u8],
+    states: States,
+    daemon: &[u8],
+    client_name: &[u8],
+    server_name: &[u8],
+    user_name: &[u8],
+) -> Request
+    requires { ⌜ 638 ≤ length (now names) ⌝ }
+    ensures { λ r.
+        ⌜ fitting wellFormed (some (requestAt (now (names .exit)) r)) answered
+        ≡ fitting wellFormed
+        (given (states .fit)
+        (withNames states (now (daemon .entry)) (now («client_name» .entry)) (now («server_name» .entry)) (now («user_name» .entry)))) answered ⌝ }
+{
+    let client = states.client;
+    let server = states.server;
+    let user = states.user;
+    let c = known_name(client, client_name);
+    let s = known_name(server, server_name);
+    let u = known_user(user, user_name);
+    if states.fit & well_formed(daemon, client, c, server, s, user, u) {
+        put_names(names, daemon, c, s, u);
+        return places(
+            daemon.len(),
+            client,
+            c.len(),
+            server,
+            s.len(),
+            user,
+            u.len(),
+        );
+    }
+    unfit_request()
+}
+
+// The request that C hands over, its names copied into a block.
+pub fn read(
+    names: &mut [u8],
+    daemon: &[u8],
+    client_state: u32,
+    client_kind: u32,
+    client_high: u64,
+    client_low: u64,
+    client_name: &[u8],
+    server_state: u32,
+    server_kind: u32,
+    server_high: u64,
+    server_low: u64,
+    server_name: &[u8],
+    user: u32,
+    user_name: &[u8],
+) -> Request
+    requires { ⌜ 638 ≤ length (now names) ⌝ }
+    ensures { λ r.
+        ⌜ fitting wellFormed (some (requestAt (now (names .exit)) r)) answered
+        ≡ fitting wellFormed
+        (request
+        (requestNumbers (now (daemon .entry)) (hostNumbers «client_state» «client_kind» «client_high» «client_low») (now («client_name» .entry))
+        (hostNumbers «server_state» «server_kind» «server_high» «server_low») (now («server_name» .entry)) user (now («user_name» .entry)))) answered ⌝ }
+{
+    let client = HostNumbers {
+        state: client_state,
+        kind: client_kind,
+        high: client_high,
+        low: client_low,
+    };
+    let server = HostNumbers {
+        state: server_state,
+        kind: server_kind,
+        high: server_high,
+        low: server_low,
+    };
+    let states = read_states(client, server, user);
+    gather(names, states, daemon, client_name, server_name, user_name)
 }
 
 // The port of a bind; 0 where it is over 16 bits.

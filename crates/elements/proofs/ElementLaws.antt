@@ -28,10 +28,9 @@ use Rattle.elements.specs.declared.User.{User}
 use Rattle.elements.specs.declared.User.the-variants as U
 use Rattle.elements.specs.declared.Found.{Found}
 use Rattle.elements.specs.declared.Found.the-variants.{No, Ask}
-use Rattle.elements.specs.declared.element.ElementFault.the-variants as E
 use Rattle.elements.specs.Request.{Request, requestOf, userCase, wellFormed}
-use Rattle.elements.specs.Element.{Element, halves, reservedStart, isPlainName, daemonName, userHalf, foundIf, daemonParts, clientParts, daemonElement, clientElement, lookAt}
-use Rattle.elements.specs.Code.{elementFault, userFits, atSign, nameFits, nameEquals, userTest, userFound, askIf, nobody, daemonRequest, clientRequest}
+use Rattle.elements.specs.Element.{halves, reservedStart, isPlainName, daemonName, userHalf, foundIf, daemonParts, clientParts, daemonElement, clientElement, lookAt}
+use Rattle.elements.specs.Code.{userFits, atSign, nameFits, nameEquals, userTest, userFound, askIf, nobody, daemonRequest, clientRequest}
 
 -- ## Halves
 
@@ -127,7 +126,8 @@ pub wildcardOf-cases : (t : List ℕ) (P : Wildcard → Type 0)
     → (isWord "ALL" t ≡ false → isWord "KNOWN" t ≡ false → isWord "UNKNOWN" t ≡ false → P W.Nothing)
     → P (wildcardOf t)
 unfolding wildcardOf
-wildcardOf-cases t P all local known unknown paranoid nothing = by (isWord "ALL" t) (isWord "LOCAL" t) (isWord "KNOWN" t) (isWord "UNKNOWN" t) (isWord "PARANOID" t) refl refl refl refl
+wildcardOf-cases t P all local known unknown paranoid nothing = by (isWord "ALL" t) (isWord "LOCAL" t) (isWord "KNOWN" t) (isWord "UNKNOWN" t)
+    (isWord "PARANOID" t) refl refl refl refl
   where
     by : (a l k u p : Bool) → isWord "ALL" t ≡ a → isWord "LOCAL" t ≡ l → isWord "KNOWN" t ≡ k → isWord "UNKNOWN" t ≡ u
         → P (if a then W.All else if l then W.Local else if k then W.Known else if u then W.Unknown else if p then W.Paranoid else W.Nothing)
@@ -161,7 +161,8 @@ isPlainName-at t = rw (wildcard-of t)
 
 daemonName-at : (t : List ℕ) → daemonName t ≡ daemonAt (wildcardOf t) t
 unfolding daemonName
-daemonName-at t = rw (isPlainName-at t) (wildcardOf-cases t (λ w. (given (isWord "ALL" t) (λ d. true) orElse given (nameFits t && not (isSome (wildcardPattern w))) (equalFold t)) ≡ daemonAt w t)
+daemonName-at t = rw (isPlainName-at t)
+    (wildcardOf-cases t (λ w. (given (isWord "ALL" t) (λ d. true) orElse given (nameFits t && not (isSome (wildcardPattern w))) (equalFold t)) ≡ daemonAt w t)
     (λ a. rw a)
     (λ a l. rw (a, none-fits))
     (λ a k. rw (a, none-fits))
@@ -204,12 +205,6 @@ module _ (t : List ℕ) (w v : Wildcard) (is-w : w ≡ wildcardOf t) (is-v : w �
   pub userHalf-is : userHalf t ≡ userAt v t
   userHalf-is = userHalf-at t ∙ rw (← is-w, is-v)
 
-  pub daemonName-sound : (r : Bool) → r ≡ isSome (daemonAt v t) → r ≡ isSome (daemonName t)
-  daemonName-sound r q = rw daemonName-is q
-
-  pub daemonName-matches : (d : List ℕ) (r : Bool) → r ≡ holds (λ f. f d) (daemonAt v t) → r ≡ holds (λ f. f d) (daemonName t)
-  daemonName-matches d r q = rw daemonName-is q
-
   pub userHalf-sound : (r : Bool) → r ≡ isSome (userAt v t) → r ≡ isSome (userHalf t)
   userHalf-sound r q = rw userHalf-is q
 
@@ -229,10 +224,12 @@ module _ (t : List ℕ) where
   daemonAt-equals d = holds-given (λ (f : List ℕ → Bool). f d) (nameFits t) (equalFold t)
 
   pub userAt-equals : (name : List ℕ) → holds (λ f. f (clientRequest nobody U.Known name)) (userAt W.Nothing t) ≡ nameEquals t name
-  userAt-equals name = holds-given (λ (f : Request → Bool). f (clientRequest nobody U.Known name)) (nameFits t) (λ r. userCase r false false (equalFold t (r .userName)))
+  userAt-equals name = holds-given (λ (f : Request → Bool). f (clientRequest nobody U.Known name)) (nameFits t)
+      (λ r. userCase r false false (equalFold t (r .userName)))
 
   pub userAt-unknown : holds (λ f. f (clientRequest nobody U.Unknown [])) (userAt W.Nothing t) ≡ false
-  userAt-unknown = holds-given (λ (f : Request → Bool). f (clientRequest nobody U.Unknown [])) (nameFits t) (λ r. userCase r false false (equalFold t (r .userName)))
+  userAt-unknown = holds-given (λ (f : Request → Bool). f (clientRequest nobody U.Unknown [])) (nameFits t)
+      (λ r. userCase r false false (equalFold t (r .userName)))
 
 -- ## What a user half finds
 
@@ -256,7 +253,8 @@ user-same W.Unknown t r = refl
 user-same W.Paranoid t r = refl
 
 -- the name of an unknown user is not looked at
-unknown-same : (v : Wildcard) (t name : List ℕ) → finds (userAt v t) (clientRequest nobody U.Unknown name) ≡ finds (userAt v t) (clientRequest nobody U.Unknown [])
+unknown-same : (v : Wildcard) (t name : List ℕ) → finds (userAt v t) (clientRequest nobody U.Unknown name)
+    ≡ finds (userAt v t) (clientRequest nobody U.Unknown [])
 unknown-same W.Nothing t name = by (nameFits t)
   where
     by : (b : Bool) → finds (given b (λ r. userCase r false false (equalFold t (r .userName)))) (clientRequest nobody U.Unknown name)
@@ -315,7 +313,7 @@ two-sound (some a) none f = refl
 two-sound (some a) (some b) f = refl
 
 -- what stands after the `@`, as the code has it
-abbrev after : List ℕ → ℕ → List ℕ
+abbrev pub after : List ℕ → ℕ → List ℕ
 after e at = take (length e - (at + 1)) (drop (at + 1) e)
 
 module _ (e : List ℕ) (at : ℕ) (is-at : at ≡ atSign e) where
@@ -332,48 +330,19 @@ module _ (e : List ℕ) (at : ℕ) (is-at : at ≡ atSign e) where
     parted : halves e ≡ some (take at e, after e at)
     parted = halves-some e at is-at h ∙ ap (λ (s : List ℕ). some (take at e, s)) (sym (take-rest e (at + 1)))
 
-    daemonElement-both : isSome (daemonElement e) ≡ (isSome (daemonName (take at e)) && isSome (hostPattern (after e at)))
+    pub daemonElement-both : isSome (daemonElement e) ≡ (isSome (daemonName (take at e)) && isSome (hostPattern (after e at)))
     unfolding daemonElement daemonParts
     daemonElement-both = rw parted (two-sound (daemonName (take at e)) (hostPattern (after e at)) _)
 
-    clientElement-both : isSome (clientElement e) ≡ (isSome (userHalf (take at e)) && isSome (hostPattern (after e at)))
+    pub clientElement-both : isSome (clientElement e) ≡ (isSome (userHalf (take at e)) && isSome (hostPattern (after e at)))
     unfolding clientElement clientParts
     clientElement-both = rw parted (two-sound (userHalf (take at e)) (hostPattern (after e at)) _)
-
-    module _ (is-x : x ≡ isSome (daemonName (take at e))) where
-      pub daemonElement-halves : x ≡ true → (r : Bool) → r ≡ isSome (hostPattern (after e at)) → r ≡ isSome (daemonElement e)
-      daemonElement-halves y r q = rw (daemonElement-both, ← is-x, y) q
-
-      pub daemonElement-nameless : x ≡ false → false ≡ isSome (daemonElement e)
-      daemonElement-nameless y = rw (daemonElement-both, ← is-x, y)
-
-    module _ (is-x : x ≡ isSome (userHalf (take at e))) where
-      pub clientElement-halves : x ≡ true → (r : Bool) → r ≡ isSome (hostPattern (after e at)) → r ≡ isSome (clientElement e)
-      clientElement-halves y r q = rw (clientElement-both, ← is-x, y) q
-
-      pub clientElement-userless : x ≡ false → false ≡ isSome (clientElement e)
-      clientElement-userless y = rw (clientElement-both, ← is-x, y)
-
--- ## What is wrong with an element
-
-module _ (kind : List ℕ → Element) (e : List ℕ) (x : Bool) (is-x : x ≡ reservedStart e) where
-  pub elementFault-reserved : x ≡ true → E.Reserved ≡ elementFault kind e
-  unfolding elementFault
-  elementFault-reserved y = rw (← is-x, y)
-
-  module _ (nx : x ≡ false) (s : Bool) (is-s : s ≡ isSome (kind e)) where
-    pub elementFault-sound : s ≡ true → E.Sound ≡ elementFault kind e
-    unfolding elementFault
-    elementFault-sound y = rw (← is-x, nx, ← is-s, y)
-
-    pub elementFault-unknown : s ≡ false → E.Unknown ≡ elementFault kind e
-    unfolding elementFault
-    elementFault-unknown y = rw (← is-x, nx, ← is-s, y)
 
 -- ## What an element finds
 
 module _ (e : List ℕ) (at : ℕ) (is-at : at ≡ atSign e) (d : List ℕ) (s : Endpoint) where
-  pub daemon-found-whole : at ≡ length e → (x : Bool) → x ≡ holds (λ f. f d) (daemonName e) → (r : Found) → r ≡ foundIf x → r ≡ lookAt (daemonRequest d s) (daemonElement e)
+  pub daemon-found-whole : at ≡ length e → (x : Bool) → x ≡ holds (λ f. f d) (daemonName e) → (r : Found) → r ≡ foundIf x → r
+      ≡ lookAt (daemonRequest d s) (daemonElement e)
   unfolding daemonElement daemonParts
   daemon-found-whole h x q r k = rw (halves-none e at is-at h) (k ∙ ap foundIf q ∙ by (daemonName e))
     where
@@ -382,24 +351,20 @@ module _ (e : List ℕ) (at : ℕ) (is-at : at ≡ atSign e) (d : List ℕ) (s :
       by (some f) = refl
 
   module _ (h : at ≡ length e → ⊥) (x : Bool) (is-x : x ≡ holds (λ f. f d) (daemonName (take at e))) where
-    daemon-found-both : lookAt (daemonRequest d s) (daemonElement e) ≡ foundIf (x && hostMatches (after e at) s)
+    pub daemon-found-both : lookAt (daemonRequest d s) (daemonElement e) ≡ foundIf (x && hostMatches (after e at) s)
     unfolding daemonElement daemonParts hostMatches
     daemon-found-both = rw (parted e at is-at h x, is-x) (by (daemonName (take at e)) (hostPattern (after e at)))
       where
-        by : (o : Option (List ℕ → Bool)) (p : Pattern) → lookAt (daemonRequest d s) (o >>= λ f. p >>= λ g. some (λ r. foundIf (f (r .daemon) && g (r .server))))
+        by : (o : Option (List ℕ → Bool)) (p : Pattern)
+            → lookAt (daemonRequest d s) (o >>= λ f. p >>= λ g. some (λ r. foundIf (f (r .daemon) && g (r .server))))
             ≡ foundIf (holds (λ f. f d) o && matchesPattern p s)
         by none p = refl
         by (some f) none = ap foundIf (sym (Bool.and-false (f d)))
         by (some f) (some g) = refl
 
-    pub daemon-found-halves : x ≡ true → (y : Bool) → y ≡ hostMatches (after e at) s → (r : Found) → r ≡ foundIf y → r ≡ lookAt (daemonRequest d s) (daemonElement e)
-    daemon-found-halves t y q r k = rw (daemon-found-both, t) (k ∙ ap foundIf q)
-
-    pub daemon-found-no : x ≡ false → No ≡ lookAt (daemonRequest d s) (daemonElement e)
-    daemon-found-no t = rw (daemon-found-both, t)
-
 module _ (e : List ℕ) (at : ℕ) (is-at : at ≡ atSign e) (c : Endpoint) (u : User) (name : List ℕ) where
-  pub client-found-whole : at ≡ length e → (x : Bool) → x ≡ hostMatches e c → (r : Found) → r ≡ foundIf x → r ≡ lookAt (clientRequest c u name) (clientElement e)
+  pub client-found-whole : at ≡ length e → (x : Bool) → x ≡ hostMatches e c → (r : Found) → r ≡ foundIf x → r
+      ≡ lookAt (clientRequest c u name) (clientElement e)
   unfolding clientElement clientParts hostMatches
   client-found-whole h x q r k = rw (halves-none e at is-at h) (k ∙ ap foundIf q ∙ by (hostPattern e))
     where
@@ -408,10 +373,11 @@ module _ (e : List ℕ) (at : ℕ) (is-at : at ≡ atSign e) (c : Endpoint) (u :
       by (some g) = refl
 
   module _ (h : at ≡ length e → ⊥) (x : Bool) (is-x : x ≡ hostMatches (after e at) c) where
-    client-found-both : lookAt (clientRequest c u name) (clientElement e) ≡ (if x then userFound (take at e) u name else No)
+    pub client-found-both : lookAt (clientRequest c u name) (clientElement e) ≡ (if x then userFound (take at e) u name else No)
     unfolding clientElement clientParts hostMatches
     client-found-both =
-        rw (parted e at is-at h x, is-x, userFound-is (take at e) u name, ← (finds-same (take at e) (clientRequest c u name))) (by (userHalf (take at e)) (hostPattern (after e at)))
+        rw (parted e at is-at h x, is-x, userFound-is (take at e) u name, ← (finds-same (take at e) (clientRequest c u name)))
+        (by (userHalf (take at e)) (hostPattern (after e at)))
       where
         by : (o : Option (Request → Bool)) (p : Pattern)
             → lookAt (clientRequest c u name) (o >>= λ f. p >>= λ g. some (λ r. if g (r .client) then userCase r Ask (foundIf (f r)) (foundIf (f r)) else No))
@@ -425,12 +391,6 @@ module _ (e : List ℕ) (at : ℕ) (is-at : at ≡ atSign e) (c : Endpoint) (u :
         by (some f) none = refl
         by (some f) (some g) = refl
 
-    pub client-found-halves : x ≡ true → (r : Found) → r ≡ userFound (take at e) u name → r ≡ lookAt (clientRequest c u name) (clientElement e)
-    client-found-halves t r q = rw (client-found-both, t) q
-
-    pub client-found-no : x ≡ false → No ≡ lookAt (clientRequest c u name) (clientElement e)
-    client-found-no t = rw (client-found-both, t)
-
 -- ## What elements look at
 
 -- a daemon element looks at the daemon and the server alone
@@ -438,7 +398,8 @@ pub daemonElement-request : (q : Request) (e : List ℕ) → lookAt q (daemonEle
 unfolding daemonElement daemonParts
 daemonElement-request q e = by (halves e)
   where
-    whole : (o : Option (List ℕ → Bool)) → lookAt q (o >>= λ f. some (λ r. foundIf (f (r .daemon)))) ≡ lookAt (daemonRequest (q .daemon) (q .server)) (o >>= λ f. some (λ r. foundIf (f (r .daemon))))
+    whole : (o : Option (List ℕ → Bool)) → lookAt q (o >>= λ f. some (λ r. foundIf (f (r .daemon))))
+        ≡ lookAt (daemonRequest (q .daemon) (q .server)) (o >>= λ f. some (λ r. foundIf (f (r .daemon))))
     whole none = refl
     whole (some f) = refl
 
@@ -453,7 +414,8 @@ daemonElement-request q e = by (halves e)
     by (some p) = both (daemonName (p .0)) (hostPattern (p .1))
 
 -- a client element looks at the client and the user alone
-pub clientElement-request : (q : Request) (e : List ℕ) → lookAt q (clientElement e) ≡ lookAt (clientRequest (q .client) (q .user) (q .userName)) (clientElement e)
+pub clientElement-request : (q : Request) (e : List ℕ) → lookAt q (clientElement e)
+    ≡ lookAt (clientRequest (q .client) (q .user) (q .userName)) (clientElement e)
 unfolding clientElement clientParts
 clientElement-request q e = by (halves e)
   where

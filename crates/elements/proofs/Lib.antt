@@ -1,2 +1,3 @@
 pub mod ElementLaws
+pub mod SeenLaws
 pub mod Examples

@@ -1,3 +1,4 @@
 pub mod Request
 pub mod Element
 pub mod Code
+pub mod Places

@@ -1,31 +1,52 @@
-// The elements of daemon and client lists: whether a text is one, and what it finds of a request.
+// The elements of daemon and client lists: whether a text is one, and what it finds of a request, both in one reading.
+//   daemon_seen(e, mask, look, ..), client_seen(e, mask, look, ..) == what is wrong with e and, if it is looked at, what it finds
+//   daemon_found(e, mask, ..), client_found(e, mask, ..) == what it finds
 use super::Found;
 use super::User;
 use patterns::Host;
+use patterns::HostSeen;
 use patterns::Name;
 use patterns::pattern::Wildcard;
-use patterns::pattern::host_matches;
-use patterns::pattern::host_sound;
+use patterns::pattern::host_read;
+use patterns::pattern::host_seen;
 use patterns::pattern::is_name;
+use patterns::pattern::is_word_size;
+use patterns::pattern::named_seen;
 use patterns::pattern::read_wildcard;
 use text::equal_fold;
 ghost use mathlib.Core.Path.{_≡_};
-ghost use mathlib.Core.Bool.{true};
+ghost use mathlib.Core.Bool.{true, false, _&&_};
 ghost use mathlib.Core.List.{[]};
-ghost use Prim.Native.Nat.{_≤_};
+ghost use Prim.Native.Nat.{_≤_, _<_};
 ghost use lib.ListN.{length};
-ghost use Rattle.text.specs.Basics.{holds, isSome};
+ghost use Rattle.text.specs.Basics.{isSome, all};
 ghost use Rattle.text.specs.Text.{firstAmong, inRange};
 ghost use Rattle.patterns.specs.Host.{endpoint, nameCase};
+ghost use Rattle.patterns.specs.Pattern.{isNameByte};
+ghost use Rattle.patterns.specs.Code.{hostSeen};
+ghost use Rattle.classes.specs.Class.{Describes};
 ghost use Rattle.elements.specs.Request.{requestOf, wellFormed};
 ghost use Rattle.elements.specs.Element.{reservedStart, foundIf, daemonName, userHalf, daemonElement, clientElement, lookAt};
-ghost use Rattle.elements.specs.Code.{elementFault, daemonRequest, clientRequest, atSign, nameFits, nameEquals, askIf, userTest, userFound, userFits};
+ghost use Rattle.elements.specs.Code.{faultOf, kindSeen, elementSeen, daemonSeen, daemonRequest, clientRequest};
+ghost use Rattle.elements.specs.Code.{atSign, nameFits, nameEquals, askIf, userTest, userFound, userFits};
 
 // What is wrong with an element: it begins with a reserved mark, or is of no kind.
 pub enum ElementFault {
     Sound,
     Reserved,
     Unknown,
+}
+
+// What is wrong with an element, and what it finds, if it is looked at.
+pub struct ElementSeen {
+    pub fault: ElementFault,
+    pub found: Found,
+}
+
+// Whether a text is of a kind of element, and what it finds, if it is looked at.
+pub struct KindSeen {
+    pub sound: bool,
+    pub found: Found,
 }
 
 // The place of the `@` that parts e, the length where none does.
@@ -36,7 +57,19 @@ fn at_sign(e: &[u8]) -> usize
     if e.len() == 0 {
         return 0;
     }
-    text::index_of(&e[1..], 64) + 1
+    text::index_of(&e[1..], b'@') + 1
+}
+
+// The same, by the classes of the bytes of e: most elements have no `@`.
+fn sign_place(e: &[u8], mask: u8) -> usize
+    requires { ⌜ Describes mask (now e) ⌝ }
+    ensures place { λ r. ⌜ r ≡ atSign (now (e .entry)) ⌝ }
+    ensures within { λ r. do ⌜ r ≤ (← ⟦e.len()⟧ .entry) ⌝ }
+{
+    if mask & 16 == 0 {
+        return e.len();
+    }
+    at_sign(e)
 }
 
 // Whether s begins with a reserved mark.
@@ -47,7 +80,7 @@ fn starts_reserved(s: &[u8]) -> bool
         return false;
     }
     let b = s[0];
-    (b == 64) | (b == 47)
+    (b == b'@') | (b == b'/')
 }
 
 // Whether e, or the half after the `@` that parts it, begins with a reserved mark.
@@ -90,33 +123,50 @@ fn name_equals(t: &[u8], n: &[u8]) -> bool
     }
 }
 
-// Whether t is a daemon name, or ALL.
-fn daemon_name_sound(t: &[u8]) -> bool
-    ensures { λ r. ⌜ r ≡ isSome (daemonName (now (t .entry))) ⌝ }
+// Whether t, no wildcard, is such a name and, if it is looked at, equal to n; names: whether every byte of it may stand in a name.
+fn name_seen(t: &[u8], names: bool, look: bool, n: &[u8]) -> HostSeen
+    requires { ⌜ names ≡ all isNameByte (now t) ⌝ }
+    ensures { λ r. ⌜ r ≡ hostSeen (nameFits (now (t .entry))) (look && nameEquals (now (t .entry)) (now (n .entry))) ⌝ }
 {
-    let w = read_wildcard(t);
-    match w {
-        Wildcard::Nothing => name_fits(t),
-        Wildcard::All => true,
-        Wildcard::Local => false,
-        Wildcard::Known => false,
-        Wildcard::Unknown => false,
-        Wildcard::Paranoid => false,
+    let sound = names & ((1 <= t.len()) & (t.len() <= 64));
+    if look & sound {
+        return HostSeen {
+            sound,
+            matches: equal_fold(t, n),
+        };
+    }
+    HostSeen {
+        sound,
+        matches: false,
     }
 }
 
-// Whether t is a daemon name, or ALL, that matches.
-fn daemon_name_matches(t: &[u8], daemon: &[u8]) -> bool
-    ensures { λ r. ⌜ r ≡ holds (λ f. f (now (daemon .entry))) (daemonName (now (t .entry))) ⌝ }
+// What is seen of any other wildcard as a daemon name.
+fn no_daemon() -> HostSeen
+    ensures { λ r. ⌜ r ≡ hostSeen false false ⌝ }
+{
+    HostSeen {
+        sound: false,
+        matches: false,
+    }
+}
+
+// Whether t is a daemon name, or ALL, and, if it is looked at, matches.
+fn daemon_name_seen(t: &[u8], names: bool, look: bool, daemon: &[u8]) -> HostSeen
+    requires { ⌜ names ≡ all isNameByte (now t) ⌝ }
+    ensures { λ r. ⌜ r ≡ daemonSeen look (daemonName (now (t .entry))) (now (daemon .entry)) ⌝ }
 {
     let w = read_wildcard(t);
     match w {
-        Wildcard::Nothing => name_equals(t, daemon),
-        Wildcard::All => true,
-        Wildcard::Local => false,
-        Wildcard::Known => false,
-        Wildcard::Unknown => false,
-        Wildcard::Paranoid => false,
+        Wildcard::Nothing => name_seen(t, names, look, daemon),
+        Wildcard::All => HostSeen {
+            sound: true,
+            matches: look,
+        },
+        Wildcard::Local => no_daemon(),
+        Wildcard::Known => no_daemon(),
+        Wildcard::Unknown => no_daemon(),
+        Wildcard::Paranoid => no_daemon(),
     }
 }
 
@@ -190,106 +240,249 @@ fn user_found(t: &[u8], user: User, name: &[u8]) -> Found
     }
 }
 
-// Whether e, parted at at, is a daemon element.
-fn daemon_sound(e: &[u8], at: usize) -> bool
-    requires { ⌜ at ≡ atSign (now e) ⌝ }
-    requires { ⌜ at ≤ length (now e) ⌝ }
-    ensures { λ r. ⌜ r ≡ isSome (daemonElement (now (e .entry))) ⌝ }
+// Whether the halves of e, parted at at, make a daemon element and, if it is looked at, what that finds.
+fn daemon_halves(
+    e: &[u8],
+    at: usize,
+    look: bool,
+    daemon: &[u8],
+    server: Host,
+    server_name: &[u8],
+) -> KindSeen
+    requires { ⌜ (at ≡ atSign (now e)) × (at < length (now e)) ⌝ }
+    ensures { λ r. ⌜ r ≡ kindSeen look (daemonRequest (now (daemon .entry)) (endpoint server (now («server_name» .entry)))) (daemonElement (now (e .entry))) ⌝ }
+{
+    let after = at + 1;
+    let t = &e[..at];
+    let name = daemon_name_seen(t, is_name(t), look, daemon);
+    let host = host_read(&e[after..], name.matches, server, server_name);
+    KindSeen {
+        sound: name.sound & host.sound,
+        found: found_if(host.matches),
+    }
+}
+
+// Whether e, parted at at, is a daemon element and, if it is looked at, what it finds; names: whether every byte of it may stand in a name.
+fn daemon_kind(
+    e: &[u8],
+    at: usize,
+    names: bool,
+    look: bool,
+    daemon: &[u8],
+    server: Host,
+    server_name: &[u8],
+) -> KindSeen
+    requires { ⌜ (at ≡ atSign (now e)) × (at ≤ length (now e)) ⌝ }
+    requires { ⌜ names ≡ all isNameByte (now e) ⌝ }
+    ensures { λ r. ⌜ r ≡ kindSeen look (daemonRequest (now (daemon .entry)) (endpoint server (now («server_name» .entry)))) (daemonElement (now (e .entry))) ⌝ }
 {
     if at == e.len() {
-        return daemon_name_sound(e);
+        let name = daemon_name_seen(e, names, look, daemon);
+        return KindSeen {
+            sound: name.sound,
+            found: found_if(name.matches),
+        };
     }
+    daemon_halves(e, at, look, daemon, server, server_name)
+}
+
+// Whether the halves of e, parted at at, make a client element and, if it is looked at, what that finds.
+fn client_halves(
+    e: &[u8],
+    at: usize,
+    look: bool,
+    client: Host,
+    client_name: &[u8],
+    user: User,
+    user_name: &[u8],
+) -> KindSeen
+    requires { ⌜ (at ≡ atSign (now e)) × (at < length (now e)) ⌝ }
+    ensures { λ r.
+        ⌜ r ≡ kindSeen look (clientRequest (endpoint client (now («client_name» .entry))) user (now («user_name» .entry)))
+        (clientElement (now (e .entry))) ⌝ }
+{
     let after = at + 1;
-    if daemon_name_sound(&e[..at]) {
-        host_sound(&e[after..])
-    } else {
-        false
+    let host = host_read(&e[after..], look, client, client_name);
+    let t = &e[..at];
+    let sound = user_sound(t) & host.sound;
+    if host.matches {
+        return KindSeen {
+            sound,
+            found: user_found(t, user, user_name),
+        };
+    }
+    KindSeen {
+        sound,
+        found: Found::No,
     }
 }
 
-// Whether e, parted at at, is a client element.
-fn client_sound(e: &[u8], at: usize) -> bool
-    requires { ⌜ at ≡ atSign (now e) ⌝ }
-    requires { ⌜ at ≤ length (now e) ⌝ }
-    ensures { λ r. ⌜ r ≡ isSome (clientElement (now (e .entry))) ⌝ }
+// Whether e, parted at at, is a client element and, if it is looked at, what it finds; mask: the classes of its bytes.
+fn client_kind(
+    e: &[u8],
+    at: usize,
+    mask: u8,
+    look: bool,
+    client: Host,
+    client_name: &[u8],
+    user: User,
+    user_name: &[u8],
+) -> KindSeen
+    requires { ⌜ (at ≡ atSign (now e)) × (at ≤ length (now e)) ⌝ }
+    requires { ⌜ Describes mask (now e) ⌝ }
+    ensures { λ r.
+        ⌜ r ≡ kindSeen look (clientRequest (endpoint client (now («client_name» .entry))) user (now («user_name» .entry)))
+        (clientElement (now (e .entry))) ⌝ }
 {
     if at == e.len() {
-        return host_sound(e);
+        let host = host_seen(e, mask < 8, mask & 241 == 0, look, client, client_name);
+        return KindSeen {
+            sound: host.sound,
+            found: found_if(host.matches),
+        };
     }
-    let after = at + 1;
-    if user_sound(&e[..at]) {
-        host_sound(&e[after..])
-    } else {
-        false
-    }
+    client_halves(e, at, look, client, client_name, user, user_name)
 }
 
-// What is wrong with the daemon element e.
-pub fn daemon_fault(e: &[u8]) -> ElementFault
-    ensures { λ r. ⌜ r ≡ elementFault daemonElement (now (e .entry)) ⌝ }
-{
-    let at = at_sign(e);
-    if is_reserved(e, at) {
-        return ElementFault::Reserved;
-    }
-    if daemon_sound(e, at) {
-        ElementFault::Sound
-    } else {
-        ElementFault::Unknown
-    }
-}
-
-// What is wrong with the client element e.
-pub fn client_fault(e: &[u8]) -> ElementFault
-    ensures { λ r. ⌜ r ≡ elementFault clientElement (now (e .entry)) ⌝ }
-{
-    let at = at_sign(e);
-    if is_reserved(e, at) {
-        return ElementFault::Reserved;
-    }
-    if client_sound(e, at) {
-        ElementFault::Sound
-    } else {
-        ElementFault::Unknown
-    }
-}
-
-// What the daemon element e finds of a request: the daemon's name, and the server's host.
-pub fn daemon_found(e: &[u8], daemon: &[u8], server: Host, server_name: &[u8]) -> Found
+// What the daemon element e finds of a request; mask: the classes of its bytes.
+pub fn daemon_found(e: &[u8], mask: u8, daemon: &[u8], server: Host, server_name: &[u8]) -> Found
+    requires { ⌜ Describes mask (now e) ⌝ }
     ensures { λ r. ⌜ r ≡ lookAt (daemonRequest (now (daemon .entry)) (endpoint server (now («server_name» .entry)))) (daemonElement (now (e .entry))) ⌝ }
 {
-    let at = at_sign(e);
-    if at == e.len() {
-        return found_if(daemon_name_matches(e, daemon));
-    }
-    let after = at + 1;
-    if daemon_name_matches(&e[..at], daemon) {
-        found_if(host_matches(&e[after..], server, server_name))
-    } else {
-        Found::No
-    }
+    let at = sign_place(e, mask);
+    let kind = daemon_kind(e, at, mask < 8, true, daemon, server, server_name);
+    kind.found
 }
 
-// What the client element e finds of a request: the client's host, and the user before `@`.
+// What the client element e finds of a request; mask: the classes of its bytes.
 pub fn client_found(
     e: &[u8],
+    mask: u8,
     client: Host,
     client_name: &[u8],
     user: User,
     user_name: &[u8],
 ) -> Found
-    ensures { λ r. ⌜ r ≡ lookAt (clientRequest (endpoint client (now («client_name» .entry))) user (now («user_name» .entry))) (clientElement (now (e .entry))) ⌝ }
+    requires { ⌜ Describes mask (now e) ⌝ }
+    ensures { λ r.
+        ⌜ r ≡ lookAt (clientRequest (endpoint client (now («client_name» .entry))) user (now («user_name» .entry)))
+        (clientElement (now (e .entry))) ⌝ }
 {
-    let at = at_sign(e);
-    if at == e.len() {
-        return found_if(host_matches(e, client, client_name));
+    let at = sign_place(e, mask);
+    let kind = client_kind(e, at, mask, true, client, client_name, user, user_name);
+    kind.found
+}
+
+// What is wrong with an element: 9 is answered before 10.
+fn fault_of(reserved: bool, sound: bool) -> ElementFault
+    ensures { λ r. ⌜ r ≡ faultOf reserved sound ⌝ }
+{
+    if reserved {
+        return ElementFault::Reserved;
     }
-    let after = at + 1;
-    if host_matches(&e[after..], client, client_name) {
-        user_found(&e[..at], user, user_name)
+    if sound {
+        ElementFault::Sound
     } else {
-        Found::No
+        ElementFault::Unknown
     }
+}
+
+// What is wrong with any daemon element e and, if it is looked at, what it finds.
+fn daemon_any(
+    e: &[u8],
+    mask: u8,
+    look: bool,
+    daemon: &[u8],
+    server: Host,
+    server_name: &[u8],
+) -> ElementSeen
+    requires { ⌜ Describes mask (now e) ⌝ }
+    ensures { λ r.
+        ⌜ r ≡ elementSeen look (daemonRequest (now (daemon .entry)) (endpoint server (now («server_name» .entry)))) daemonElement
+        (now (e .entry)) ⌝ }
+{
+    let at = sign_place(e, mask);
+    let kind = daemon_kind(e, at, mask < 8, look, daemon, server, server_name);
+    let found = kind.found;
+    ElementSeen {
+        fault: fault_of(is_reserved(e, at), kind.sound),
+        found,
+    }
+}
+
+// What is wrong with the daemon element e and, if it is looked at, what it finds of a request: the daemon's name, and the server's host.
+// Most are names, which their bytes and their length tell.
+pub fn daemon_seen(
+    e: &[u8],
+    mask: u8,
+    look: bool,
+    daemon: &[u8],
+    server: Host,
+    server_name: &[u8],
+) -> ElementSeen
+    requires { ⌜ Describes mask (now e) ⌝ }
+    ensures { λ r.
+        ⌜ r ≡ elementSeen look (daemonRequest (now (daemon .entry)) (endpoint server (now («server_name» .entry)))) daemonElement
+        (now (e .entry)) ⌝ }
+{
+    if !is_word_size(e.len()) & (mask < 8) {
+        let name = name_seen(e, true, look, daemon);
+        return ElementSeen {
+            fault: fault_of(false, name.sound),
+            found: found_if(name.matches),
+        };
+    }
+    daemon_any(e, mask, look, daemon, server, server_name)
+}
+
+// What is wrong with any client element e and, if it is looked at, what it finds.
+fn client_any(
+    e: &[u8],
+    mask: u8,
+    look: bool,
+    client: Host,
+    client_name: &[u8],
+    user: User,
+    user_name: &[u8],
+) -> ElementSeen
+    requires { ⌜ Describes mask (now e) ⌝ }
+    ensures { λ r.
+        ⌜ r ≡ elementSeen look (clientRequest (endpoint client (now («client_name» .entry))) user (now («user_name» .entry))) clientElement
+        (now (e .entry)) ⌝ }
+{
+    let at = sign_place(e, mask);
+    let kind = client_kind(e, at, mask, look, client, client_name, user, user_name);
+    let found = kind.found;
+    ElementSeen {
+        fault: fault_of(is_reserved(e, at), kind.sound),
+        found,
+    }
+}
+
+// What is wrong with the client element e and, if it is looked at, what it finds of a request: the client's host, and the user before `@`.
+// Most are domains and names, which their bytes and their length tell.
+pub fn client_seen(
+    e: &[u8],
+    mask: u8,
+    look: bool,
+    client: Host,
+    client_name: &[u8],
+    user: User,
+    user_name: &[u8],
+) -> ElementSeen
+    requires { ⌜ Describes mask (now e) ⌝ }
+    ensures { λ r.
+        ⌜ r ≡ elementSeen look (clientRequest (endpoint client (now («client_name» .entry))) user (now («user_name» .entry))) clientElement
+        (now (e .entry)) ⌝ }
+{
+    if !is_word_size(e.len()) & ((mask < 8) & (mask & 241 != 0)) {
+        let host = named_seen(e, look, client, client_name);
+        return ElementSeen {
+            fault: fault_of(false, host.sound),
+            found: found_if(host.matches),
+        };
+    }
+    client_any(e, mask, look, client, client_name, user, user_name)
 }
 
 // Whether s has 1 to max bytes.
@@ -332,7 +525,10 @@ pub fn well_formed(
     user: User,
     user_name: &[u8],
 ) -> bool
-    ensures { λ r. ⌜ r ≡ wellFormed (requestOf (now (daemon .entry)) (endpoint client (now («client_name» .entry))) (endpoint server (now («server_name» .entry))) user (now («user_name» .entry))) ⌝ }
+    ensures { λ r.
+        ⌜ r ≡ wellFormed
+        (requestOf (now (daemon .entry)) (endpoint client (now («client_name» .entry)))
+        (endpoint server (now («server_name» .entry))) user (now («user_name» .entry))) ⌝ }
 {
     size_fits(daemon, 64)
         & host_fits(client, client_name)

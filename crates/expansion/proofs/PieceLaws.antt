@@ -48,7 +48,8 @@ module _ (x : Texts) where
     pub literal-here : (getD t i 0 ≡ 37 → ⊥) → expansionBy x (drop i t) ≡ (getD t i 0 ∷ []) ++ expansionBy x (drop (i + 1) t)
     literal-here n = rw (add-one, drop-cons t i 0) (expansionBy-literal (getD t i 0) (drop (suc i) t) (ne-eqb (getD t i 0) 37 n))
 
-    pub directive-here : getD t i 0 ≡ 37 → (y : ℕ) → y ≡ getD t (i + 1) 0 → expansionBy x (drop i t) ≡ map safeByte (insertedBy x y) ++ expansionBy x (drop (i + 2) t)
+    pub directive-here : getD t i 0 ≡ 37 → (y : ℕ) → y ≡ getD t (i + 1) 0 → expansionBy x (drop i t)
+        ≡ map safeByte (insertedBy x y) ++ expansionBy x (drop (i + 2) t)
     directive-here p y e =
         let one : suc i ≡ i + 1 = omega arith in
         let none : i + 1 + 0 ≡ i + 1 = omega arith in
@@ -83,7 +84,8 @@ module _ (x : Texts) (t : List ℕ) where
         → (k : ℕ) → k ≡ length (map safeByte (insertedBy x y)) → k ≤ 320 → Measured x t (n + k) (i + 2)
     measured-directive l p y e k is-k small =
         record {
-          whole = omega (arith, h .whole, is-k, ap length (directive-here x t i l p y e), length-append (map safeByte (insertedBy x y)) (expansionBy x (drop (i + 2) t)));
+          whole = omega
+              (arith, h .whole, is-k, ap length (directive-here x t i l p y e), length-append (map safeByte (insertedBy x y)) (expansionBy x (drop (i + 2) t)));
           small = omega (arith, h .small);
           within = omega arith;
         }
@@ -122,10 +124,12 @@ module _ (x : Texts) (t d : List ℕ) where
 
         next-step : j ≤ length t + 1 → (p : List ℕ) (k : ℕ) → Wrote o p s n k → length p ≡ length o → Expanded x t d p k j
         next-step b p k w e =
-            let whole-next : expansionBy x t ≡ (h .done ++ s) ++ expansionBy x (drop j t) = h .whole ∙ rw next (sym (append-assoc (h .done) s (expansionBy x (drop j t)))) in
+            let whole-next : expansionBy x t ≡ (h .done ++ s) ++ expansionBy x (drop j t) = h .whole
+            ∙ rw next (sym (append-assoc (h .done) s (expansionBy x (drop j t)))) in
             record {
               done = h .done ++ s;
-              wrote = rest-all d (h .done ++ s) (h .done) s 0 refl (front-room d (expansionBy x t) (h .done ++ s) (expansionBy x (drop j t)) 0 whole-next (omega arith)) o n (h .wrote) p k w;
+              wrote = rest-all d (h .done ++ s)
+                  (h .done) s 0 refl (front-room d (expansionBy x t) (h .done ++ s) (expansionBy x (drop j t)) 0 whole-next (omega arith)) o n (h .wrote) p k w;
               whole = whole-next;
               long = e ∙ h .long;
               within = b;

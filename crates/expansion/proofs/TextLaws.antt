@@ -9,7 +9,7 @@ use mathlib.Core.Logic.{inl, inr}
 use mathlib.Core.Path.{_≡_, refl, sym, _∙_}
 use borrow.Author.Tests.{eqb-true, ne-eqb, leb-true}
 use lib.Dec.{eqb, leb}
-use lib.ListN.{length, getD, set, length-append, length-map, length-set, List·getD-map}
+use lib.ListN.{length, take, drop, getD, set, length-append, length-map, length-set, List·getD-map}
 use lib.Seq.{paste-suc}
 use types.Run.{OneOf}
 use Rattle.text.specs.Basics.{if_then_else_, first, any}
@@ -19,14 +19,35 @@ use Rattle.text.proofs.Numeral.{length-numeral}
 use Rattle.text.proofs.PasteLaws.{Pasted, pasted-all}
 use Rattle.address_format.proofs.WriteLaws.{length-addrText}
 use Rattle.address_format.proofs.WriteText.{Wrote, front-room, rest-room, rest-all, byte-room, byte-all}
+use Rattle.section.specs.declared.Part.{Part}
+use Rattle.patterns.specs.declared.Host.{Host}
 use Rattle.patterns.specs.declared.Name.{Name}
 use Rattle.patterns.specs.declared.Name.the-variants as N
 use Rattle.elements.specs.declared.User.{User}
 use Rattle.elements.specs.declared.User.the-variants as U
 use Rattle.patterns.specs.Host.{Endpoint, endpoint, nameCase}
 use Rattle.elements.specs.Request.{Request, userCase, wellFormed}
+use Rattle.section.specs.Section.{bytesAt}
 use Rattle.expansion.specs.Expand.{nameText, hostText, inserted, safeByte}
-use Rattle.expansion.specs.Code.{Texts, textsOf, userState, hasAt, beforeAt, afterAt, insertedBy, Short}
+use Rattle.expansion.specs.Code.{Texts, textsOf, nameWith, hostWith, userState, hasAt, beforeAt, afterAt, insertedBy, Short}
+
+-- ## Texts by the state of a name or a user, as an arm of a match hands them over
+
+module _ (host : Host) (t : List ℕ) (s : List ℕ) (q : Part) (is-t : t ≡ take (q .len) (drop (q .place) s)) where
+  pub name-known : (u p : List ℕ) → host .name ≡ N.Known → t ≡ nameWith u p (endpoint host (bytesAt s q))
+  name-known u p e = rw e is-t
+
+  pub host-name : (a : List ℕ) → host .name ≡ N.Known → t ≡ hostWith (endpoint host (bytesAt s q)) a
+  host-name a e = rw e is-t
+
+  pub host-unknown : (n : List ℕ) → host .name ≡ N.Unknown → t ≡ hostWith (endpoint host n) (bytesAt s q)
+  host-unknown n e = rw e is-t
+
+  pub host-paranoid : (n : List ℕ) → host .name ≡ N.Paranoid → t ≡ hostWith (endpoint host n) (bytesAt s q)
+  host-paranoid n e = rw e is-t
+
+pub user-named : (user : User) (t : List ℕ) (s : List ℕ) (q : Part) → t ≡ take (q .len) (drop (q .place) s) → (u : List ℕ) → user ≡ U.Known → t ≡ userState user u (bytesAt s q)
+user-named user t s q is-t u e = rw e is-t
 
 -- ## Bytes that are no directive
 
@@ -36,7 +57,8 @@ NoneOf [] y = Unit
 NoneOf (ks ∷ kss) y = NoneOf kss y × (OneOf ks y → ⊥)
 
 pub afterAt-other : (x : Texts) (y : ℕ)
-    → NoneOf ((37 ∷ []) ∷ (112 ∷ []) ∷ (115 ∷ []) ∷ (100 ∷ []) ∷ (117 ∷ []) ∷ (72 ∷ []) ∷ (99 ∷ 104 ∷ []) ∷ (78 ∷ []) ∷ (110 ∷ []) ∷ (65 ∷ []) ∷ (97 ∷ []) ∷ []) y
+    → NoneOf ((37 ∷ []) ∷ (112 ∷ []) ∷ (115 ∷ []) ∷ (100 ∷ []) ∷ (117 ∷ []) ∷ (72 ∷ []) ∷ (99 ∷ 104 ∷ []) ∷ (78 ∷ []) ∷ (110 ∷ []) ∷ (65 ∷ []) ∷ (97 ∷ [])
+    ∷ []) y
     → [] ≡ afterAt x y
 unfolding afterAt
 afterAt-other x y n =
@@ -81,7 +103,8 @@ at-daemon : (known : Bool) (daemon host : List ℕ)
 at-daemon true daemon host = refl
 at-daemon false daemon host = sym (append-nil daemon)
 
-user-alone : (u : User) (name : List ℕ) → userState u (bytes "unknown") name ≡ elim u [ U.NotFetched ↦ bytes "unknown" | U.Unknown ↦ bytes "unknown" | U.Known ↦ name ]
+user-alone : (u : User) (name : List ℕ) → userState u (bytes "unknown") name
+    ≡ elim u [ U.NotFetched ↦ bytes "unknown" | U.Unknown ↦ bytes "unknown" | U.Known ↦ name ]
 user-alone U.NotFetched name = refl
 user-alone U.Unknown name = refl
 user-alone U.Known name = refl
@@ -169,7 +192,8 @@ user-short U.Known name e = inRange-high 64 (length name) e
 pub wellFormed-short : (r : Request) (process : ℕ) → wellFormed r ≡ true → Short (textsOf r process)
 unfolding wellFormed
 wellFormed-short r process w =
-    let a = and-true (inRange 1 64 (length (r .daemon)) && fits (r .client) && fits (r .server)) (userCase r true true (inRange 1 64 (length (r .userName)))) w in
+    let a = and-true (inRange 1 64 (length (r .daemon)) && fits (r .client) && fits (r .server))
+    (userCase r true true (inRange 1 64 (length (r .userName)))) w in
     let b = and-true (inRange 1 64 (length (r .daemon)) && fits (r .client)) (fits (r .server)) (a .0) in
     let c = and-true (inRange 1 64 (length (r .daemon))) (fits (r .client)) (b .0) in
     record {

@@ -3,6 +3,7 @@
 use Prim.Native.Nat.{ℕ}
 use mathlib.Core.Bool.{false, _||_}
 use mathlib.Core.List.{List, [], _∷_, flatMap}
+use mathlib.Core.Option.{some}
 use mathlib.Core.Path.{_≡_, refl}
 use lib.Dec.{eqb}
 use Rattle.text.specs.Basics.{first, any}
@@ -28,7 +29,8 @@ module _ (r : Request) (u u′ : User) (t t′ : List ℕ) (n : ℕ) where
       let f : (eqb y 99 ≡ false) × (false ≡ false) = or-false (eqb y 99) false (e .1) in
       rw (e .0, f .0)
 
-  pieces-same : (ps : List Piece) → any (isDirective (among "uc")) ps ≡ false → flatMap (pieceText (withUser r u t) n) ps ≡ flatMap (pieceText (withUser r u′ t′) n) ps
+  pieces-same : (ps : List Piece) → any (isDirective (among "uc")) ps ≡ false → flatMap (pieceText (withUser r u t) n) ps
+      ≡ flatMap (pieceText (withUser r u′ t′) n) ps
   unfolding any pieceText flatMap
   pieces-same [] h = refl
   pieces-same (literal x ∷ ps) h = rw (pieces-same ps h)
@@ -42,6 +44,6 @@ module _ (r : Request) (u u′ : User) (t t′ : List ℕ) (n : ℕ) where
 
   -- the whole call in the same room, refusals too, where both users fit or neither does
   pub expand-same : (c : List ℕ) (room : ℕ) → wellFormed (withUser r u t) ≡ wellFormed (withUser r u′ t′) → usesUser c ≡ false
-      → expand c (withUser r u t) n room ≡ expand c (withUser r u′ t′) n room
+      → expand c (some (withUser r u t)) n room ≡ expand c (some (withUser r u′ t′)) n room
   unfolding expand
   expand-same c room e h = rw (e, expansion-same c h)

@@ -1,20 +1,19 @@
 -- Document 01, "Expansion".
 --   expansion r p c    == what the command c writes for the request r and the process number p
 --   usesUser c         == c uses %u or %c
---   expand c r p room  == the call: every check, then the expansion, into room bytes
+--   expand c o p room  == the call: every check, then the expansion for the request in o, into room bytes
 -- Assumes nothing: these are definitions.
 use Prim.Native.Nat.{ℕ}
 use Prim.Native.Char.{Char, code}
-use mathlib.Core.Bool.{Bool, not, _||_}
+use mathlib.Core.Bool.{Bool, _||_}
 use mathlib.Core.List.{List, [], _∷_, _++_, map, flatMap}
 use mathlib.Core.Option.{Option, Option·getD}
 use lib.Dec.{eqb}
 use Rattle.text.specs.Basics.{if_then_else_, given, any, first}
 use Rattle.text.specs.Text.{bytes, among, isDigit, isLetter}
 use Rattle.text.specs.Number.{decimal}
-use Rattle.section.specs.declared.Fault.{Fault}
 use Rattle.section.specs.declared.Fault.the-variants as F
-use Rattle.section.specs.Refusal.{Outcome, _>>=_, lowest, atPlace, refusing, withinRoom}
+use Rattle.section.specs.Refusal.{Outcome, lowest, atPlace, _before_, fitting, withinRoom}
 use Rattle.address.specs.Address.{addrText}
 use Rattle.lines.specs.Line.{join, hasBadByte, isTooLong}
 use Rattle.lines.specs.Command.{Piece, literal, directive, pieces, isDirective, trimmed, hasBadPercent}
@@ -61,10 +60,7 @@ unfoldable pub usesUser : List ℕ → Bool
 usesUser command = any (isDirective (among "uc")) (pieces (trimmed command))
 
 -- "A command handed in directly is joined and trimmed too, and checked for 5, 6 and 11, section and line 0, then 13, then 14."
-unfoldable pub expand : List ℕ → Request → ℕ → ℕ → Outcome (List ℕ)
-expand c r process room = refusing (atPlace 0 0 (lowest faults)) (expansion r process c) >>= withinRoom room
-  where
-    faults : List (Fault × Bool)
-    faults =
-        (F.BadByte, hasBadByte (join c)) ∷ (F.LongLine, isTooLong (join c)) ∷ (F.BadPercent, hasBadPercent c)
-        ∷ (F.BadRequest, not (wellFormed r)) ∷ []
+unfoldable pub expand : List ℕ → Option Request → ℕ → ℕ → Outcome (List ℕ)
+expand c o process room =
+    atPlace 0 0 (lowest ((F.BadByte, hasBadByte (join c)) ∷ (F.LongLine, isTooLong (join c)) ∷ (F.BadPercent, hasBadPercent c) ∷ []))
+    before fitting wellFormed o (λ r. withinRoom room (expansion r process c))

@@ -1,52 +1,74 @@
-// What a `%` with the byte after it inserts. Every text that can be inserted is lent as a slice: that of the client's and of the server's
-// address, name and host, the user, the daemon, the process number and the percent sign.
+// What a `%` with the byte after it inserts, for a request over the block names and the texts of its numbers in a second block.
 //   inserted_length(y, ..)   == how many bytes y inserts
 //   put_inserted(out, at, y, ..) == writes them, the unsafe ones as underscores
 use crate::safe_byte;
 use address::Addr;
 use elements::User;
+use elements::request::Request;
 use patterns::Host;
 use patterns::Name;
+use section::Part;
+use section::part_of;
 ghost use mathlib.Core.Path.{_≡_};
-ghost use mathlib.Core.Bool.{true, false, _&&_, _||_};
-ghost use mathlib.Core.List.{_++_, map};
+ghost use mathlib.Core.Bool.{true, false, _||_};
+ghost use mathlib.Core.List.{[], _++_, map};
 ghost use Prim.Native.Nat.{_+_, _≤_};
-ghost use lib.Dec.{eqb};
 ghost use lib.ListN.{length};
-ghost use Rattle.text.specs.Basics.{if_then_else_};
 ghost use Rattle.text.specs.Text.{bytes};
 ghost use Rattle.text.specs.Scan.{putAt};
-ghost use Rattle.address.specs.Address.{addrCase};
-ghost use Rattle.patterns.specs.Host.{endpoint, nameCase, nameKnown, addrKnown};
+ghost use Rattle.patterns.specs.Host.{endpoint, nameKnown, addrKnown};
 ghost use Rattle.expansion.specs.Expand.{safeByte};
-ghost use Rattle.expansion.specs.Code.{texts, Short, userState, afterAt, insertedBy};
+ghost use Rattle.section.specs.Section.{part, bytesAt};
+ghost use Rattle.expansion.specs.Code.{textsAt, Short, nameWith, hostWith, userState, hasAt, beforeAt, serviceText, afterAt, insertedBy};
+
+// A request, and where the texts of its addresses and of the process number stand.
+pub struct Given {
+    pub request: Request,
+    pub client: Part,
+    pub server: Part,
+    pub process: Part,
+}
+
+// The words at the front of the block of texts.
+pub const UNKNOWN: Part = Part { place: 0, len: 7 };
+
+pub const PARANOID: Part = Part { place: 7, len: 8 };
+
+pub const PERCENT: Part = Part { place: 15, len: 1 };
 
 // The name, or the word for its state.
-pub fn name_text<'a>(host: Host, name: &'a [u8], unknown: &'a [u8], paranoid: &'a [u8]) -> &'a [u8]
-    ensures { λ r. ⌜ now r ≡ nameCase (endpoint host (now (name .entry))) (now (unknown .entry)) (now (paranoid .entry)) (now (name .entry)) ⌝ }
+fn name_text<'a>(names: &'a [u8], texts: &'a [u8], host: Host, name: Part) -> &'a [u8]
+    ensures { λ r. ⌜ now r
+        ≡ nameWith (bytesAt (now (texts .entry)) (part 0 7)) (bytesAt (now (texts .entry)) (part 7 8)) (endpoint host (bytesAt (now (names .entry)) name)) ⌝ }
 {
     let state = host.name;
     match state {
-        Name::Unknown => unknown,
-        Name::Paranoid => paranoid,
-        Name::Known => name,
+        Name::Unknown => part_of(texts, UNKNOWN),
+        Name::Paranoid => part_of(texts, PARANOID),
+        Name::Known => part_of(names, name),
     }
 }
 
 // The known name, else the text of the address.
-pub fn host_text<'a>(host: Host, name: &'a [u8], address: &'a [u8]) -> &'a [u8]
-    ensures { λ r. ⌜ now r ≡ (if nameKnown (endpoint host (now (name .entry))) then now (name .entry) else now (address .entry)) ⌝ }
+fn host_text<'a>(
+    names: &'a [u8],
+    texts: &'a [u8],
+    host: Host,
+    name: Part,
+    address: Part,
+) -> &'a [u8]
+    ensures { λ r. ⌜ now r ≡ hostWith (endpoint host (bytesAt (now (names .entry)) name)) (bytesAt (now (texts .entry)) address) ⌝ }
 {
     let state = host.name;
     match state {
-        Name::Unknown => address,
-        Name::Paranoid => address,
-        Name::Known => name,
+        Name::Unknown => part_of(texts, address),
+        Name::Paranoid => part_of(texts, address),
+        Name::Known => part_of(names, name),
     }
 }
 
 fn address_known(host: Host) -> bool
-    ensures { λ r. ⌜ r ≡ addrCase (host .addr) false (λ n. true) (λ n. true) ⌝ }
+    ensures { λ r. ⌜ r ≡ addrKnown (endpoint host []) ⌝ }
 {
     let addr = host.addr;
     match addr {
@@ -57,8 +79,8 @@ fn address_known(host: Host) -> bool
 }
 
 // Whether a host's name or address is known.
-pub fn host_known(host: Host, name: &[u8]) -> bool
-    ensures { λ r. ⌜ r ≡ (nameKnown (endpoint host (now (name .entry))) || addrKnown (endpoint host (now (name .entry)))) ⌝ }
+fn host_known(host: Host) -> bool
+    ensures { λ r. ⌜ r ≡ (nameKnown (endpoint host []) || addrKnown (endpoint host [])) ⌝ }
 {
     let state = host.name;
     match state {
@@ -69,17 +91,17 @@ pub fn host_known(host: Host, name: &[u8]) -> bool
 }
 
 // The known user, else the word for that.
-pub fn user_text<'a>(user: User, name: &'a [u8], unknown: &'a [u8]) -> &'a [u8]
-    ensures { λ r. ⌜ now r ≡ userState user (now (unknown .entry)) (now (name .entry)) ⌝ }
+fn user_text<'a>(names: &'a [u8], texts: &'a [u8], user: User, name: Part) -> &'a [u8]
+    ensures { λ r. ⌜ now r ≡ userState user (bytesAt (now (texts .entry)) (part 0 7)) (bytesAt (now (names .entry)) name) ⌝ }
 {
     match user {
-        User::NotFetched => unknown,
-        User::Unknown => unknown,
-        User::Known => name,
+        User::NotFetched => part_of(texts, UNKNOWN),
+        User::Unknown => part_of(texts, UNKNOWN),
+        User::Known => part_of(names, name),
     }
 }
 
-pub fn user_known(user: User) -> bool
+fn user_known(user: User) -> bool
     ensures { λ r. ⌜ r ≡ userState user false true ⌝ }
 {
     match user {
@@ -90,67 +112,60 @@ pub fn user_known(user: User) -> bool
 }
 
 // Whether y inserts a name and an `@` before its text.
-fn has_at(y: u8, user_known: bool, server_known: bool) -> bool
-    ensures { λ r. ⌜ r ≡ (eqb y 99 && «user_known» || eqb y 115 && «server_known») ⌝ }
+fn has_at<'a>(y: u8, names: &'a [u8], texts: &'a [u8], g: Given) -> bool
+    ensures { λ r. ⌜ r ≡ hasAt (textsAt (now (names .entry)) (now (texts .entry)) g) y ⌝ }
 {
-    ((y == 99) & user_known) | ((y == 115) & server_known)
+    let q = g.request;
+    let user = q.user;
+    let server = q.server;
+    ((y == b'c') & user_known(user)) | ((y == b's') & host_known(server))
 }
 
 // That name.
-fn name_before<'a>(y: u8, user: &'a [u8], daemon: &'a [u8]) -> &'a [u8]
-    ensures { λ r. ⌜ now r ≡ (if eqb y 99 then now (user .entry) else now (daemon .entry)) ⌝ }
+fn name_before<'a>(y: u8, names: &'a [u8], texts: &'a [u8], g: Given) -> &'a [u8]
+    ensures { λ r. ⌜ now r ≡ beforeAt (textsAt (now (names .entry)) (now (texts .entry)) g) y ⌝ }
 {
-    if y == 99 {
-        return user;
+    let q = g.request;
+    let user = q.user;
+    if y == b'c' {
+        return user_text(names, texts, user, q.user_name);
     }
-    daemon
+    part_of(names, q.daemon)
 }
 
 // The text that %s inserts after the `@`, or alone.
-fn service_text<'a>(server_known: bool, server_host: &'a [u8], daemon: &'a [u8]) -> &'a [u8]
-    ensures { λ r. ⌜ now r ≡ (if «server_known» then now («server_host» .entry) else now (daemon .entry)) ⌝ }
+fn service_text<'a>(names: &'a [u8], texts: &'a [u8], g: Given) -> &'a [u8]
+    ensures { λ r. ⌜ now r ≡ serviceText (textsAt (now (names .entry)) (now (texts .entry)) g) ⌝ }
 {
-    if server_known {
-        return server_host;
+    let q = g.request;
+    let server = q.server;
+    if host_known(server) {
+        return host_text(names, texts, server, q.server_name, g.server);
     }
-    daemon
+    part_of(names, q.daemon)
 }
 
 // The text that y inserts after an `@`, or alone.
-fn directive_text<'a>(
-    y: u8,
-    client_address: &'a [u8],
-    client_name: &'a [u8],
-    client_host: &'a [u8],
-    server_address: &'a [u8],
-    server_name: &'a [u8],
-    server_host: &'a [u8],
-    user_known: bool,
-    user: &'a [u8],
-    server_known: bool,
-    daemon: &'a [u8],
-    process: &'a [u8],
-    percent: &'a [u8],
-) -> &'a [u8]
-    ensures { λ r.
-        ⌜ now r
-        ≡ afterAt
-        (texts (now («client_address» .entry)) (now («client_name» .entry)) (now («client_host» .entry)) (now («server_address» .entry)) (now («server_name» .entry)) (now («server_host» .entry)) «user_known» (now (user .entry)) «server_known» (now (daemon .entry)) (now (process .entry)) (now (percent .entry)))
-        y ⌝ }
+fn directive_text<'a>(y: u8, names: &'a [u8], texts: &'a [u8], g: Given) -> &'a [u8]
+    ensures { λ r. ⌜ now r ≡ afterAt (textsAt (now (names .entry)) (now (texts .entry)) g) y ⌝ }
 {
+    let q = g.request;
+    let client = q.client;
+    let server = q.server;
+    let user = q.user;
     match y {
-        97 => client_address,
-        65 => server_address,
-        110 => client_name,
-        78 => server_name,
-        104 | 99 => client_host,
-        72 => server_host,
-        117 => user,
-        100 => daemon,
-        115 => service_text(server_known, server_host, daemon),
-        112 => process,
-        37 => percent,
-        _ => &percent[..0],
+        b'a' => part_of(texts, g.client),
+        b'A' => part_of(texts, g.server),
+        b'n' => name_text(names, texts, client, q.client_name),
+        b'N' => name_text(names, texts, server, q.server_name),
+        b'h' | b'c' => host_text(names, texts, client, q.client_name, g.client),
+        b'H' => host_text(names, texts, server, q.server_name, g.server),
+        b'u' => user_text(names, texts, user, q.user_name),
+        b'd' => part_of(names, q.daemon),
+        b's' => service_text(names, texts, g),
+        b'p' => part_of(texts, g.process),
+        b'%' => part_of(texts, PERCENT),
+        _ => &names[..0],
     }
 }
 
@@ -175,51 +190,19 @@ fn put_joined(out: &mut [u8], at: usize, name: &[u8], text: &[u8]) -> usize
     ensures written { λ _. ⌜ now (out .exit) ≡ putAt (now (out .entry)) at (map safeByte (now (name .entry) ++ (bytes "@" ++ now (text .entry)))) ⌝ }
 {
     let p = put_safe(out, at, name);
-    out[p] = 64;
+    out[p] = b'@';
     put_safe(out, p + 1, text)
 }
 
 // How many bytes y inserts.
-pub fn inserted_length<'a>(
-    y: u8,
-    client_address: &'a [u8],
-    client_name: &'a [u8],
-    client_host: &'a [u8],
-    server_address: &'a [u8],
-    server_name: &'a [u8],
-    server_host: &'a [u8],
-    user_known: bool,
-    user: &'a [u8],
-    server_known: bool,
-    daemon: &'a [u8],
-    process: &'a [u8],
-    percent: &'a [u8],
-) -> usize
-    requires { ⌜ Short
-        (texts (now «client_address») (now «client_name») (now «client_host») (now «server_address») (now «server_name») (now «server_host») «user_known» (now user) «server_known» (now daemon) (now process) (now percent)) ⌝ }
-    ensures length { λ r.
-        ⌜ r ≡ length (map safeByte (insertedBy
-        (texts (now («client_address» .entry)) (now («client_name» .entry)) (now («client_host» .entry)) (now («server_address» .entry)) (now («server_name» .entry)) (now («server_host» .entry)) «user_known» (now (user .entry)) «server_known» (now (daemon .entry)) (now (process .entry)) (now (percent .entry)))
-        y)) ⌝ }
+pub fn inserted_length<'a>(y: u8, names: &'a [u8], texts: &'a [u8], g: Given) -> usize
+    requires { ⌜ Short (textsAt (now names) (now texts) g) ⌝ }
+    ensures length { λ r. ⌜ r ≡ length (map safeByte (insertedBy (textsAt (now (names .entry)) (now (texts .entry)) g) y)) ⌝ }
     ensures within { λ r. ⌜ r ≤ 320 ⌝ }
 {
-    let text = directive_text(
-        y,
-        client_address,
-        client_name,
-        client_host,
-        server_address,
-        server_name,
-        server_host,
-        user_known,
-        user,
-        server_known,
-        daemon,
-        process,
-        percent,
-    );
-    if has_at(y, user_known, server_known) {
-        let name = name_before(y, user, daemon);
+    let text = directive_text(y, names, texts, g);
+    if has_at(y, names, texts, g) {
+        let name = name_before(y, names, texts, g);
         return name.len() + 1 + text.len();
     }
     text.len()
@@ -230,48 +213,18 @@ pub fn put_inserted<'a>(
     out: &mut [u8],
     at: usize,
     y: u8,
-    client_address: &'a [u8],
-    client_name: &'a [u8],
-    client_host: &'a [u8],
-    server_address: &'a [u8],
-    server_name: &'a [u8],
-    server_host: &'a [u8],
-    user_known: bool,
-    user: &'a [u8],
-    server_known: bool,
-    daemon: &'a [u8],
-    process: &'a [u8],
-    percent: &'a [u8],
+    names: &'a [u8],
+    texts: &'a [u8],
+    g: Given,
 ) -> usize
-    requires { ⌜ at + length (map safeByte (insertedBy
-        (texts (now «client_address») (now «client_name») (now «client_host») (now «server_address») (now «server_name») (now «server_host») «user_known» (now user) «server_known» (now daemon) (now process) (now percent))
-        y)) ≤ length (now out) ⌝ }
-    ensures next { λ r.
-        ⌜ r ≡ at + length (map safeByte (insertedBy
-        (texts (now («client_address» .entry)) (now («client_name» .entry)) (now («client_host» .entry)) (now («server_address» .entry)) (now («server_name» .entry)) (now («server_host» .entry)) «user_known» (now (user .entry)) «server_known» (now (daemon .entry)) (now (process .entry)) (now (percent .entry)))
-        y)) ⌝ }
-    ensures written { λ _.
-        ⌜ now (out .exit) ≡ putAt (now (out .entry)) at (map safeByte (insertedBy
-        (texts (now («client_address» .entry)) (now («client_name» .entry)) (now («client_host» .entry)) (now («server_address» .entry)) (now («server_name» .entry)) (now («server_host» .entry)) «user_known» (now (user .entry)) «server_known» (now (daemon .entry)) (now (process .entry)) (now (percent .entry)))
-        y)) ⌝ }
+    requires { ⌜ at + length (map safeByte (insertedBy (textsAt (now names) (now texts) g) y)) ≤ length (now out) ⌝ }
+    ensures next { λ r. ⌜ r ≡ at + length (map safeByte (insertedBy (textsAt (now (names .entry)) (now (texts .entry)) g) y)) ⌝ }
+    ensures written { λ _. ⌜ now (out .exit)
+        ≡ putAt (now (out .entry)) at (map safeByte (insertedBy (textsAt (now (names .entry)) (now (texts .entry)) g) y)) ⌝ }
 {
-    let text = directive_text(
-        y,
-        client_address,
-        client_name,
-        client_host,
-        server_address,
-        server_name,
-        server_host,
-        user_known,
-        user,
-        server_known,
-        daemon,
-        process,
-        percent,
-    );
-    if has_at(y, user_known, server_known) {
-        return put_joined(out, at, name_before(y, user, daemon), text);
+    let text = directive_text(y, names, texts, g);
+    if has_at(y, names, texts, g) {
+        return put_joined(out, at, name_before(y, names, texts, g), text);
     }
     put_safe(out, at, text)
 }

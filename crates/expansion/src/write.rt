@@ -2,6 +2,7 @@
 //   expansion_length(t, ..)      == how many bytes t writes
 //   put_expansion(out, t, ..)    == writes them at the front of out
 //   write_expansion(out, t, ..)  == measures first, and writes where the room suffices
+use crate::directive::Given;
 use crate::directive::inserted_length;
 use crate::directive::put_inserted;
 use section::Fault;
@@ -11,7 +12,7 @@ ghost use Prim.Native.Nat.{_≤_};
 ghost use lib.ListN.{length, getD};
 ghost use Rattle.text.specs.Scan.{putAt};
 ghost use Rattle.section.specs.Refusal.{withinRoom, writtenOf, lentAfter};
-ghost use Rattle.expansion.specs.Code.{texts, Short, expansionBy};
+ghost use Rattle.expansion.specs.Code.{textsAt, Short, expansionBy};
 
 // The byte at k, 0 past the end, which no directive is.
 fn byte_at(s: &[u8], k: usize) -> u8
@@ -24,47 +25,15 @@ fn byte_at(s: &[u8], k: usize) -> u8
 }
 
 // How many bytes a command of at most 2,047 writes.
-fn expansion_length<'a>(
-    t: &'a [u8],
-    client_address: &'a [u8],
-    client_name: &'a [u8],
-    client_host: &'a [u8],
-    server_address: &'a [u8],
-    server_name: &'a [u8],
-    server_host: &'a [u8],
-    user_known: bool,
-    user: &'a [u8],
-    server_known: bool,
-    daemon: &'a [u8],
-    process: &'a [u8],
-    percent: &'a [u8],
-) -> usize
-    requires { ⌜ (length (now t) ≤ 2047) × Short
-        (texts (now «client_address») (now «client_name») (now «client_host») (now «server_address») (now «server_name») (now «server_host») «user_known» (now user) «server_known» (now daemon) (now process) (now percent)) ⌝ }
-    ensures { λ r.
-        ⌜ r ≡ length (expansionBy
-        (texts (now («client_address» .entry)) (now («client_name» .entry)) (now («client_host» .entry)) (now («server_address» .entry)) (now («server_name» .entry)) (now («server_host» .entry)) «user_known» (now (user .entry)) «server_known» (now (daemon .entry)) (now (process .entry)) (now (percent .entry)))
-        (now (t .entry))) ⌝ }
+fn expansion_length<'a>(t: &'a [u8], names: &'a [u8], texts: &'a [u8], g: Given) -> usize
+    requires { ⌜ (length (now t) ≤ 2047) × Short (textsAt (now names) (now texts) g) ⌝ }
+    ensures { λ r. ⌜ r ≡ length (expansionBy (textsAt (now (names .entry)) (now (texts .entry)) g) (now (t .entry))) ⌝ }
 {
     let mut n = 0;
     let mut i = 0;
     while i < t.len() {
-        if t[i] == 37 {
-            n += inserted_length(
-                byte_at(t, i + 1),
-                client_address,
-                client_name,
-                client_host,
-                server_address,
-                server_name,
-                server_host,
-                user_known,
-                user,
-                server_known,
-                daemon,
-                process,
-                percent,
-            );
+        if t[i] == b'%' {
+            n += inserted_length(byte_at(t, i + 1), names, texts, g);
             i += 2;
         } else {
             n += 1;
@@ -78,52 +47,20 @@ fn expansion_length<'a>(
 fn put_expansion<'a>(
     out: &mut [u8],
     t: &'a [u8],
-    client_address: &'a [u8],
-    client_name: &'a [u8],
-    client_host: &'a [u8],
-    server_address: &'a [u8],
-    server_name: &'a [u8],
-    server_host: &'a [u8],
-    user_known: bool,
-    user: &'a [u8],
-    server_known: bool,
-    daemon: &'a [u8],
-    process: &'a [u8],
-    percent: &'a [u8],
+    names: &'a [u8],
+    texts: &'a [u8],
+    g: Given,
 ) -> usize
-    requires { ⌜ length (expansionBy
-        (texts (now «client_address») (now «client_name») (now «client_host») (now «server_address») (now «server_name») (now «server_host») «user_known» (now user) «server_known» (now daemon) (now process) (now percent))
-        (now t)) ≤ length (now out) ⌝ }
-    ensures count { λ r.
-        ⌜ r ≡ length (expansionBy
-        (texts (now («client_address» .entry)) (now («client_name» .entry)) (now («client_host» .entry)) (now («server_address» .entry)) (now («server_name» .entry)) (now («server_host» .entry)) «user_known» (now (user .entry)) «server_known» (now (daemon .entry)) (now (process .entry)) (now (percent .entry)))
-        (now (t .entry))) ⌝ }
-    ensures written { λ _.
-        ⌜ now (out .exit) ≡ putAt (now (out .entry)) 0 (expansionBy
-        (texts (now («client_address» .entry)) (now («client_name» .entry)) (now («client_host» .entry)) (now («server_address» .entry)) (now («server_name» .entry)) (now («server_host» .entry)) «user_known» (now (user .entry)) «server_known» (now (daemon .entry)) (now (process .entry)) (now (percent .entry)))
-        (now (t .entry))) ⌝ }
+    requires { ⌜ length (expansionBy (textsAt (now names) (now texts) g) (now t)) ≤ length (now out) ⌝ }
+    ensures count { λ r. ⌜ r ≡ length (expansionBy (textsAt (now (names .entry)) (now (texts .entry)) g) (now (t .entry))) ⌝ }
+    ensures written { λ _. ⌜ now (out .exit)
+        ≡ putAt (now (out .entry)) 0 (expansionBy (textsAt (now (names .entry)) (now (texts .entry)) g) (now (t .entry))) ⌝ }
 {
     let mut n = 0;
     let mut j = 0;
     while j < t.len() {
-        if t[j] == 37 {
-            n = put_inserted(
-                out,
-                n,
-                byte_at(t, j + 1),
-                client_address,
-                client_name,
-                client_host,
-                server_address,
-                server_name,
-                server_host,
-                user_known,
-                user,
-                server_known,
-                daemon,
-                process,
-                percent,
-            );
+        if t[j] == b'%' {
+            n = put_inserted(out, n, byte_at(t, j + 1), names, texts, g);
             j += 2;
         } else {
             out[n] = t[j];
@@ -138,63 +75,21 @@ fn put_expansion<'a>(
 pub fn write_expansion<'a>(
     out: &mut [u8],
     t: &'a [u8],
-    client_address: &'a [u8],
-    client_name: &'a [u8],
-    client_host: &'a [u8],
-    server_address: &'a [u8],
-    server_name: &'a [u8],
-    server_host: &'a [u8],
-    user_known: bool,
-    user: &'a [u8],
-    server_known: bool,
-    daemon: &'a [u8],
-    process: &'a [u8],
-    percent: &'a [u8],
+    names: &'a [u8],
+    texts: &'a [u8],
+    g: Given,
 ) -> Written
-    requires { ⌜ (length (now t) ≤ 2047) × Short
-        (texts (now «client_address») (now «client_name») (now «client_host») (now «server_address») (now «server_name») (now «server_host») «user_known» (now user) «server_known» (now daemon) (now process) (now percent)) ⌝ }
-    ensures answer { λ r.
-        ⌜ r ≡ writtenOf (withinRoom (length (now (out .entry))) (expansionBy
-        (texts (now («client_address» .entry)) (now («client_name» .entry)) (now («client_host» .entry)) (now («server_address» .entry)) (now («server_name» .entry)) (now («server_host» .entry)) «user_known» (now (user .entry)) «server_known» (now (daemon .entry)) (now (process .entry)) (now (percent .entry)))
-        (now (t .entry)))) ⌝ }
-    ensures holds { λ _.
-        ⌜ now (out .exit) ≡ lentAfter (now (out .entry)) (withinRoom (length (now (out .entry))) (expansionBy
-        (texts (now («client_address» .entry)) (now («client_name» .entry)) (now («client_host» .entry)) (now («server_address» .entry)) (now («server_name» .entry)) (now («server_host» .entry)) «user_known» (now (user .entry)) «server_known» (now (daemon .entry)) (now (process .entry)) (now (percent .entry)))
-        (now (t .entry)))) ⌝ }
+    requires { ⌜ (length (now t) ≤ 2047) × Short (textsAt (now names) (now texts) g) ⌝ }
+    ensures answer { λ r. ⌜ r
+        ≡ writtenOf (withinRoom (length (now (out .entry))) (expansionBy (textsAt (now (names .entry)) (now (texts .entry)) g) (now (t .entry)))) ⌝ }
+    ensures holds { λ _. ⌜ now (out .exit)
+        ≡ lentAfter (now (out .entry))
+        (withinRoom (length (now (out .entry))) (expansionBy (textsAt (now (names .entry)) (now (texts .entry)) g) (now (t .entry)))) ⌝ }
 {
-    let n = expansion_length(
-        t,
-        client_address,
-        client_name,
-        client_host,
-        server_address,
-        server_name,
-        server_host,
-        user_known,
-        user,
-        server_known,
-        daemon,
-        process,
-        percent,
-    );
+    let n = expansion_length(t, names, texts, g);
     if out.len() < n {
         return Written::Refused(section::placeless(Fault::NoRoom));
     }
-    let count = put_expansion(
-        out,
-        t,
-        client_address,
-        client_name,
-        client_host,
-        server_address,
-        server_name,
-        server_host,
-        user_known,
-        user,
-        server_known,
-        daemon,
-        process,
-        percent,
-    );
+    let count = put_expansion(out, t, names, texts, g);
     Written::Count(count)
 }

@@ -1,86 +1,234 @@
 -- What each call answers, from what the calls in it answered.
 -- Assumes nothing.
 use Prim.Native.Nat.{ℕ}
-use mathlib.Core.Bool.{Bool, true, false}
-use mathlib.Core.List.{List, []}
-use mathlib.Core.Path.{_≡_, refl, ap, _∙_}
+use mathlib.Core.Bool.{Bool, true, false, true≢false}
+use mathlib.Core.List.{List, [], _∷_}
+use mathlib.Core.Option.{Option, none, some, Option·getD}
+use mathlib.Core.Path.{_≡_, refl, sym, ap, _∙_}
 use lib.ListN.{length, replicate}
-use Rattle.text.specs.Basics.{if_then_else_, isSome}
+use Rattle.text.specs.Basics.{if_then_else_, _orElse_, isSome}
 use Rattle.section.specs.declared.Fault.the-variants as F
 use Rattle.section.specs.declared.Refusal.{Refusal}
 use Rattle.section.specs.declared.Written.{Written}
 use Rattle.section.specs.declared.Written.the-variants as W
-use Rattle.section.specs.Refusal.{refused, placeless, writtenOf, lentAfter}
+use Rattle.section.specs.Section as S
+use Rattle.section.specs.Section.{bytesAt, overLimit}
+use Rattle.section.specs.Refusal.{Outcome, refused, answered, placeless, _>>=_, atPlace, lowest, _before_, fitting, withinRoom, writtenOf, lentAfter}
+use Rattle.section.proofs.RefusalLaws.{fitting-same}
 use Rattle.address.specs.declared.Addr.{Addr}
+use Rattle.address.specs.declared.Addr.the-variants as A
 use Rattle.address.specs.declared.read.AddressRead.{AddressRead}
 use Rattle.address.specs.Address.{asRead, readAddress, writeAddress}
-use Rattle.patterns.specs.Host.{endpoint}
-use Rattle.elements.specs.Request.{requestOf}
+use Rattle.elements.specs.declared.request.Request.{Request as Places}
+use Rattle.elements.specs.Request.{Request, wellFormed}
+use Rattle.elements.specs.Places.{requestAt}
+use Rattle.rules.specs.declared.Answer.{Answer}
 use Rattle.rules.specs.declared.Ruling.{Ruling as VerdictRuling}
+use Rattle.rules.specs.declared.Ruling.the-variants as Ver
 use Rattle.rules.specs.Search as Search
-use Rattle.rules.specs.Search.{decide}
-use Rattle.expansion.specs.Expand.{expand}
+use Rattle.rules.specs.Search.{search, decide, commandBytes}
+use Rattle.rules.specs.Check.{hostsFault}
+use Rattle.expansion.specs.Expand.{expansion, expand}
+use Rattle.lines.specs.Line.{join, hasBadByte, isTooLong}
+use Rattle.lines.specs.Command.{hasBadPercent}
+use Rattle.byuid.specs.declared.Decision.{Decision as ByuidDecision}
 use Rattle.byuid.specs.declared.Ruling.{Ruling as ByuidRuling}
 use Rattle.byuid.specs.Byuid as Byuid
-use Rattle.byuid.specs.Byuid.{decideByuid}
+use Rattle.byuid.specs.Byuid.{byuidDecision, decideByuid}
+use Rattle.portacl.specs.declared.Decision.{Decision as PortaclDecision}
 use Rattle.portacl.specs.declared.Ruling.{Ruling as PortaclRuling}
 use Rattle.portacl.specs.declared.Settings.{Settings}
 use Rattle.portacl.specs.Portacl as Portacl
-use Rattle.portacl.specs.Portacl.{decidePortacl}
-use Rattle.station.specs.Station.{decideSheet, decideByuidSheet, decidePortaclSheet}
+use Rattle.portacl.specs.Portacl.{portaclFault, portaclDecision, decidePortacl}
+use Rattle.sheet.specs.declared.Parts.{Parts}
+use Rattle.sheet.specs.Sheet.{unpack}
+use Rattle.station.specs.Station.{inSheet, decideSheet, decideByuidSheet, decidePortaclSheet}
 use Rattle.codes.specs.declared.GateAddress.{GateAddress}
 use Rattle.codes.specs.declared.GateAnswer.{GateAnswer}
+use Rattle.codes.specs.declared.GateCommand.{GateCommand}
 use Rattle.codes.specs.declared.GateWritten.{GateWritten}
-use Rattle.codes.specs.declared.request.States.{States}
 use Rattle.codes.specs.declared.request.Target.{Target}
-use Rattle.codes.specs.Requests.{HostNumbers, requestNumbers, request, addressOf, addrBy, portBy, addressBy, bindBy, writeBy}
-use Rattle.codes.specs.Answers.{verdictAnswer, byuidAnswer, portaclAnswer, writtenAnswer, addressAnswer}
-use Rattle.codes.specs.Code.{statesOf, targetOf, verdictNumbers, byuidNumbers, portaclNumbers, writtenNumbers, readNumbers}
-use Rattle.codes.proofs.RequestLaws.{request-read, bind-read}
-use Rattle.codes.proofs.AnswerLaws.{verdict-numbers, byuid-numbers, portacl-numbers, written-numbers, read-numbers}
+use Rattle.codes.specs.Requests.{RequestNumbers, request, addressOf, byuidBind, portaclBind, writeBy}
+use Rattle.codes.specs.Answers.{verdictAnswer, byuidAnswer, portaclAnswer, writtenAnswer, addressAnswer, Command, together, refusalAnswer, withCount, commandAnswer}
+use Rattle.codes.specs.Code.{addrBy, portBy, addressBy, targetOf, verdictNumbers, byuidNumbers, portaclNumbers, writtenNumbers, commandWritten, readNumbers}
+use Rattle.gate.specs.Calls.{gateCommand, gateSheetCommand}
+use Rattle.codes.proofs.RequestLaws.{byuid-read, portacl-read}
+use Rattle.codes.proofs.AnswerLaws.{verdict-numbers, byuid-numbers, portacl-numbers, written-numbers, read-numbers, together-refused, together-kept, together-written, together-holds}
 
-module _ (d clientName serverName userName d' : List ℕ) (client server : HostNumbers) (user : ℕ) (x : States)
-    (is-x : x ≡ statesOf client server user) (is-d : d' ≡ (if x .fit then d else [])) (o : VerdictRuling) (a : GateAnswer) where
-  pub verdict-by : (allow deny : List ℕ)
-      → o ≡ Search.rulingOf (decide allow deny (requestOf d' (endpoint (x .client) clientName) (endpoint (x .server) serverName) (x .user) userName))
-      → a ≡ verdictNumbers o
-      → a ≡ verdictAnswer (decide allow deny (request (requestNumbers d client clientName server serverName user userName)))
-  verdict-by allow deny e f =
-      verdict-numbers _ o a e f
-      ∙ ap (λ r. verdictAnswer (decide allow deny r)) (request-read d clientName serverName userName d' client server user x is-x is-d)
+-- ## Verdicts and expansion: the request that was read is answered as the one handed over
 
-  pub sheet-verdict-by : (sheet : List ℕ)
-      → o ≡ Search.rulingOf (decideSheet sheet (requestOf d' (endpoint (x .client) clientName) (endpoint (x .server) serverName) (x .user) userName))
-      → a ≡ verdictNumbers o
-      → a ≡ verdictAnswer (decideSheet sheet (request (requestNumbers d client clientName server serverName user userName)))
-  sheet-verdict-by sheet e f =
-      verdict-numbers _ o a e f
-      ∙ ap (λ r. verdictAnswer (decideSheet sheet r)) (request-read d clientName serverName userName d' client server user x is-x is-d)
+abbrev decidedIn : List ℕ → Option Request → Parts → Outcome Answer
+decidedIn sheet o p = decide (bytesAt sheet (p .allow)) (bytesAt sheet (p .deny)) o >>= λ a. answered (inSheet p a)
+
+module _ (names : List ℕ) (q : Places) (n : RequestNumbers)
+    (same : fitting wellFormed (some (requestAt names q)) answered ≡ fitting wellFormed (request n) answered) where
+  decide-read : (allow deny : List ℕ) → decide allow deny (some (requestAt names q)) ≡ decide allow deny (request n)
+  unfolding decide
+  decide-read allow deny =
+      ap (λ (x : Outcome Answer). (overLimit S.allow allow orElse overLimit S.deny deny orElse hostsFault S.allow allow orElse hostsFault S.deny deny) before x)
+      (fitting-same wellFormed (λ r. answered (search allow deny r)) (some (requestAt names q)) (request n) same)
+
+  pub verdict-by : (allow deny : List ℕ) (o : VerdictRuling) (a : GateAnswer) → o ≡ Search.verdictRuling (decide allow deny (some (requestAt names q)))
+      → a ≡ verdictNumbers o → a ≡ verdictAnswer (decide allow deny (request n))
+  verdict-by allow deny o a e f = verdict-numbers _ o a e f ∙ ap verdictAnswer (decide-read allow deny)
+
+  sheet-read : (sheet : List ℕ) → decideSheet sheet (some (requestAt names q)) ≡ decideSheet sheet (request n)
+  unfolding decideSheet
+  sheet-read sheet = by (unpack sheet)
+    where
+      by : (u : Outcome Parts) → (u >>= decidedIn sheet (some (requestAt names q))) ≡ (u >>= decidedIn sheet (request n))
+      by (refused r) = refl
+      by (answered p) = ap (λ (x : Outcome Answer). x >>= λ a. answered (inSheet p a)) (decide-read (bytesAt sheet (p .allow)) (bytesAt sheet (p .deny)))
+
+  pub sheet-verdict-by : (sheet : List ℕ) (o : VerdictRuling) (a : GateAnswer) → o ≡ Search.verdictRuling (decideSheet sheet (some (requestAt names q)))
+      → a ≡ verdictNumbers o → a ≡ verdictAnswer (decideSheet sheet (request n))
+  sheet-verdict-by sheet o a e f = verdict-numbers _ o a e f ∙ ap verdictAnswer (sheet-read sheet)
+
+  module _ (command out : List ℕ) (process : ℕ) where
+    expand-read : expand command (some (requestAt names q)) process (length out) ≡ expand command (request n) process (length out)
+    unfolding expand
+    expand-read =
+        ap (λ (x : Outcome (List ℕ)). atPlace 0 0
+        (lowest ((F.BadByte, hasBadByte (join command)) ∷ (F.LongLine, isTooLong (join command)) ∷ (F.BadPercent, hasBadPercent command) ∷ [])) before x)
+        (fitting-same wellFormed (λ r. withinRoom (length out) (expansion r process command)) (some (requestAt names q)) (request n) same)
+
+    pub expand-answer : (w : Written) (a : GateWritten) → w ≡ writtenOf (expand command (some (requestAt names q)) process (length out))
+        → a ≡ writtenNumbers w → a ≡ writtenAnswer (expand command (request n) process (length out))
+    expand-answer w a e f = written-numbers _ w a e f ∙ ap writtenAnswer expand-read
+
+    pub expand-holds : (out' : List ℕ) → out' ≡ lentAfter out (expand command (some (requestAt names q)) process (length out))
+        → out' ≡ lentAfter out (expand command (request n) process (length out))
+    expand-holds out' e = e ∙ ap (lentAfter out) expand-read
+
+  -- ## A verdict, and its command: d is the verdict on the request handed over, raw its command
+
+  module _ (d : Outcome Answer) (raw : Answer → List ℕ) (out : List ℕ) (process : ℕ) (x : VerdictRuling) (is-x : x ≡ Search.verdictRuling d) where
+    commanded : Outcome Command
+    commanded = together d (λ a. expand (raw a) (request n) process (length out))
+
+    refusal-answer : (g : Refusal) → x ≡ Ver.Refused g → (a : GateCommand) → a ≡ withCount (refusalAnswer g) 0 → a ≡ commandAnswer commanded
+    unfolding commanded
+    refusal-answer g e a f = f ∙ together-refused out d (λ a. expand (raw a) (request n) process (length out)) g (sym is-x ∙ e)
+
+    refusal-kept : (g : Refusal) → x ≡ Ver.Refused g → out ≡ lentAfter out (commanded >>= λ c. answered (c .text))
+    unfolding commanded
+    refusal-kept g e = together-kept out d (λ a. expand (raw a) (request n) process (length out)) g (sym is-x ∙ e)
+
+    module _ (b : Answer) (e : x ≡ Ver.Answered b) (c : List ℕ) (is-c : c ≡ raw b) where
+      expand-raw : expand c (some (requestAt names q)) process (length out) ≡ expand (raw b) (request n) process (length out)
+      expand-raw = expand-read c out process ∙ ap (λ (s : List ℕ). expand s (request n) process (length out)) is-c
+
+      written-answer : (w : Written) → w ≡ writtenOf (expand c (some (requestAt names q)) process (length out))
+          → (a : GateCommand) → a ≡ commandWritten b w → a ≡ commandAnswer commanded
+      unfolding commanded
+      written-answer w is-w a f =
+          f ∙ together-written out d (λ a. expand (raw a) (request n) process (length out)) b (sym is-x ∙ e) w (is-w ∙ ap writtenOf expand-raw)
+
+      written-holds : (o : List ℕ) → o ≡ lentAfter out (expand c (some (requestAt names q)) process (length out))
+          → o ≡ lentAfter out (commanded >>= λ c. answered (c .text))
+      unfolding commanded
+      written-holds o f = f ∙ ap (lentAfter out) expand-raw ∙ together-holds out d (λ a. expand (raw a) (request n) process (length out)) b (sym is-x ∙ e)
+
+  module _ (allow deny out : List ℕ) (process : ℕ) (x : VerdictRuling) (is-x : x ≡ Search.verdictRuling (decide allow deny (some (requestAt names q)))) where
+    by-texts : x ≡ Search.verdictRuling (decide allow deny (request n))
+    by-texts = is-x ∙ ap Search.verdictRuling (decide-read allow deny)
+
+    pub command-refused : (g : Refusal) → x ≡ Ver.Refused g → (a : GateCommand) → a ≡ withCount (refusalAnswer g) 0 → a
+        ≡ gateCommand allow deny n process out .answer
+    unfolding commanded
+    command-refused = refusal-answer (decide allow deny (request n)) (commandBytes allow deny) out process x by-texts
+
+    pub command-kept : (g : Refusal) → x ≡ Ver.Refused g → out ≡ gateCommand allow deny n process out .out
+    unfolding commanded
+    command-kept = refusal-kept (decide allow deny (request n)) (commandBytes allow deny) out process x by-texts
+
+    module _ (b : Answer) (e : x ≡ Ver.Answered b) (c : List ℕ) (is-c : c ≡ commandBytes allow deny b) where
+      pub command-answer : (w : Written) → w ≡ writtenOf (expand c (some (requestAt names q)) process (length out))
+          → (a : GateCommand) → a ≡ commandWritten b w → a ≡ gateCommand allow deny n process out .answer
+      unfolding commanded
+      command-answer = written-answer (decide allow deny (request n)) (commandBytes allow deny) out process x by-texts b e c is-c
+
+      pub command-holds : (o : List ℕ) → o ≡ lentAfter out (expand c (some (requestAt names q)) process (length out)) → o
+          ≡ gateCommand allow deny n process out .out
+      unfolding commanded
+      command-holds = written-holds (decide allow deny (request n)) (commandBytes allow deny) out process x by-texts b e c is-c
+
+  module _ (sheet out : List ℕ) (process : ℕ) (x : VerdictRuling) (is-x : x ≡ Search.verdictRuling (decideSheet sheet (some (requestAt names q)))) where
+    by-sheet : x ≡ Search.verdictRuling (decideSheet sheet (request n))
+    by-sheet = is-x ∙ ap Search.verdictRuling (sheet-read sheet)
+
+    pub sheet-command-refused : (g : Refusal) → x ≡ Ver.Refused g → (a : GateCommand) → a ≡ withCount (refusalAnswer g) 0 → a
+        ≡ gateSheetCommand sheet n process out .answer
+    unfolding commanded
+    sheet-command-refused = refusal-answer (decideSheet sheet (request n)) (λ a. bytesAt sheet (a .command)) out process x by-sheet
+
+    pub sheet-command-kept : (g : Refusal) → x ≡ Ver.Refused g → out ≡ gateSheetCommand sheet n process out .out
+    unfolding commanded
+    sheet-command-kept = refusal-kept (decideSheet sheet (request n)) (λ a. bytesAt sheet (a .command)) out process x by-sheet
+
+    module _ (b : Answer) (e : x ≡ Ver.Answered b) (c : List ℕ) (is-c : c ≡ bytesAt sheet (b .command)) where
+      pub sheet-command-answer : (w : Written) → w ≡ writtenOf (expand c (some (requestAt names q)) process (length out))
+          → (a : GateCommand) → a ≡ commandWritten b w → a ≡ gateSheetCommand sheet n process out .answer
+      unfolding commanded
+      sheet-command-answer = written-answer (decideSheet sheet (request n)) (λ a. bytesAt sheet (a .command)) out process x by-sheet b e c is-c
+
+      pub sheet-command-holds : (o : List ℕ) → o ≡ lentAfter out (expand c (some (requestAt names q)) process (length out))
+          → o ≡ gateSheetCommand sheet n process out .out
+      unfolding commanded
+      sheet-command-holds = written-holds (decideSheet sheet (request n)) (λ a. bytesAt sheet (a .command)) out process x by-sheet b e c is-c
+
+-- ## The port decisions
 
 module _ (port kind high low uid p : ℕ) (b : Addr) (is-p : p ≡ portBy port) (is-b : b ≡ addressBy port kind high low) (o : ByuidRuling) (a : GateAnswer) where
-  pub byuid-by : (text : List ℕ) → o ≡ Byuid.rulingOf (decideByuid text p b uid) → a ≡ byuidNumbers o
-      → a ≡ byuidAnswer (decideByuid text (portBy port) (addressBy port kind high low) uid)
-  byuid-by text e f = rw (← is-p, ← is-b) (byuid-numbers _ o a e f)
+  bind-read : (text : List ℕ) → decideByuid text (some (Byuid.bind p b uid)) ≡ decideByuid text (byuidBind port kind high low uid)
+  unfolding decideByuid
+  bind-read text =
+      ap (λ (x : Outcome ByuidDecision). overLimit S.byuid text before x)
+      (byuid-read port kind high low uid p b is-p is-b (λ c. answered (byuidDecision text (c .port) (c .address) (c .uid))))
 
-  pub sheet-byuid-by : (sheet : List ℕ) → o ≡ Byuid.rulingOf (decideByuidSheet sheet p b uid) → a ≡ byuidNumbers o
-      → a ≡ byuidAnswer (decideByuidSheet sheet (portBy port) (addressBy port kind high low) uid)
-  sheet-byuid-by sheet e f = rw (← is-p, ← is-b) (byuid-numbers _ o a e f)
+  pub byuid-by : (text : List ℕ) → o ≡ Byuid.byuidRuling (decideByuid text (some (Byuid.bind p b uid))) → a ≡ byuidNumbers o
+      → a ≡ byuidAnswer (decideByuid text (byuidBind port kind high low uid))
+  byuid-by text e f = byuid-numbers _ o a e f ∙ ap byuidAnswer (bind-read text)
+
+  sheet-bind-read : (sheet : List ℕ) → decideByuidSheet sheet (some (Byuid.bind p b uid)) ≡ decideByuidSheet sheet (byuidBind port kind high low uid)
+  unfolding decideByuidSheet
+  sheet-bind-read sheet = by (unpack sheet)
+    where
+      by : (u : Outcome Parts) → (u >>= λ x. decideByuid (bytesAt sheet (x .byuid)) (some (Byuid.bind p b uid)))
+          ≡ (u >>= λ x. decideByuid (bytesAt sheet (x .byuid)) (byuidBind port kind high low uid))
+      by (refused r) = refl
+      by (answered x) = bind-read (bytesAt sheet (x .byuid))
+
+  pub sheet-byuid-by : (sheet : List ℕ) → o ≡ Byuid.byuidRuling (decideByuidSheet sheet (some (Byuid.bind p b uid))) → a ≡ byuidNumbers o
+      → a ≡ byuidAnswer (decideByuidSheet sheet (byuidBind port kind high low uid))
+  sheet-byuid-by sheet e f = byuid-numbers _ o a e f ∙ ap byuidAnswer (sheet-bind-read sheet)
 
 module _ (uid protocol port : ℕ) (s : Settings) (groups groups' : List ℕ) (x : Target)
     (is-x : x ≡ targetOf protocol port) (is-groups : groups' ≡ (if x .fit then groups else replicate 17 0)) (o : PortaclRuling) (a : GateAnswer) where
-  pub portacl-by : (text : List ℕ)
-      → o ≡ Portacl.rulingOf (decidePortacl text s (record { uid = uid; groups = groups'; protocol = x .protocol; port = x .port }))
-      → a ≡ portaclNumbers o → a ≡ portaclAnswer (decidePortacl text s (bindBy uid groups protocol port))
-  portacl-by text e f =
-      portacl-numbers _ o a e f
-      ∙ ap (λ b. portaclAnswer (decidePortacl text s b)) (bind-read uid protocol port groups groups' x is-x is-groups)
+  entry-read : (text : List ℕ) → decidePortacl text s (some (Portacl.bind uid groups' (x .protocol) (x .port)))
+      ≡ decidePortacl text s (portaclBind uid groups protocol port)
+  unfolding decidePortacl
+  entry-read text =
+      ap (λ (y : Outcome PortaclDecision). (overLimit S.portacl text orElse portaclFault text) before y)
+      (portacl-read uid protocol port groups groups' x is-x is-groups (λ b. answered (portaclDecision text s b)))
 
-  pub sheet-portacl-by : (sheet : List ℕ)
-      → o ≡ Portacl.rulingOf (decidePortaclSheet sheet s (record { uid = uid; groups = groups'; protocol = x .protocol; port = x .port }))
-      → a ≡ portaclNumbers o → a ≡ portaclAnswer (decidePortaclSheet sheet s (bindBy uid groups protocol port))
-  sheet-portacl-by sheet e f =
-      portacl-numbers _ o a e f
-      ∙ ap (λ b. portaclAnswer (decidePortaclSheet sheet s b)) (bind-read uid protocol port groups groups' x is-x is-groups)
+  pub portacl-by : (text : List ℕ) → o ≡ Portacl.portaclRuling (decidePortacl text s (some (Portacl.bind uid groups' (x .protocol) (x .port))))
+      → a ≡ portaclNumbers o → a ≡ portaclAnswer (decidePortacl text s (portaclBind uid groups protocol port))
+  portacl-by text e f = portacl-numbers _ o a e f ∙ ap portaclAnswer (entry-read text)
+
+  sheet-entry-read : (sheet : List ℕ)
+      → decidePortaclSheet sheet s (some (Portacl.bind uid groups' (x .protocol) (x .port))) ≡ decidePortaclSheet sheet s (portaclBind uid groups protocol port)
+  unfolding decidePortaclSheet
+  sheet-entry-read sheet = by (unpack sheet)
+    where
+      by : (u : Outcome Parts) → (u >>= λ y. decidePortacl (bytesAt sheet (y .portacl)) s (some (Portacl.bind uid groups' (x .protocol) (x .port))))
+          ≡ (u >>= λ y. decidePortacl (bytesAt sheet (y .portacl)) s (portaclBind uid groups protocol port))
+      by (refused r) = refl
+      by (answered y) = entry-read (bytesAt sheet (y .portacl))
+
+  pub sheet-portacl-by : (sheet : List ℕ) → o ≡ Portacl.portaclRuling (decidePortaclSheet sheet s (some (Portacl.bind uid groups' (x .protocol) (x .port))))
+      → a ≡ portaclNumbers o → a ≡ portaclAnswer (decidePortaclSheet sheet s (portaclBind uid groups protocol port))
+  sheet-portacl-by sheet e f = portacl-numbers _ o a e f ∙ ap portaclAnswer (sheet-entry-read sheet)
 
 -- ## Addresses
 
@@ -90,11 +238,20 @@ read-by text x a e f = read-numbers _ x a e f
 module _ (kind high low : ℕ) (out : List ℕ) (b : Bool) (is-b : b ≡ isSome (addressOf kind high low)) where
   write-known : b ≡ true → (x : Addr) → x ≡ addrBy kind high low → writeAddress x (length out) ≡ writeBy kind high low (length out)
   unfolding writeBy
-  write-known e x f = rw (← is-b, e, f)
+  write-known e x f = by (addressOf kind high low) (sym is-b ∙ e) f
+    where
+      by : (o : Option Addr) → isSome o ≡ true → x ≡ Option·getD o A.Unknown → writeAddress x (length out)
+          ≡ fitting (λ a. true) o (λ a. writeAddress a (length out))
+      by none k g = absurd (true≢false (sym k))
+      by (some y) k g = ap (λ (z : Addr). writeAddress z (length out)) g
 
   write-unknown : b ≡ false → (r : Refusal) → r ≡ placeless F.BadRequest → refused r ≡ writeBy kind high low (length out)
   unfolding writeBy
-  write-unknown e r f = rw (← is-b, e, f)
+  write-unknown e r f = by (addressOf kind high low) (sym is-b ∙ e)
+    where
+      by : (o : Option Addr) → isSome o ≡ false → refused r ≡ fitting (λ a. true) o (λ a. writeAddress a (length out))
+      by none k = ap refused f
+      by (some y) k = absurd (true≢false k)
 
   module _ (w : Written) (a : GateWritten) (is-a : a ≡ writtenNumbers w) where
     pub write-answer : b ≡ true → (x : Addr) → x ≡ addrBy kind high low → w ≡ writtenOf (writeAddress x (length out))
@@ -111,22 +268,3 @@ module _ (kind high low : ℕ) (out : List ℕ) (b : Bool) (is-b : b ≡ isSome 
 
   pub write-kept : b ≡ false → out ≡ lentAfter out (writeBy kind high low (length out))
   write-kept e = ap (lentAfter out) (write-unknown e (placeless F.BadRequest) refl)
-
--- ## Expansion
-
-module _ (d clientName serverName userName d' : List ℕ) (client server : HostNumbers) (user : ℕ) (x : States)
-    (is-x : x ≡ statesOf client server user) (is-d : d' ≡ (if x .fit then d else [])) (command out : List ℕ) (process : ℕ) where
-  expand-read : expand command (requestOf d' (endpoint (x .client) clientName) (endpoint (x .server) serverName) (x .user) userName) process (length out)
-      ≡ expand command (request (requestNumbers d client clientName server serverName user userName)) process (length out)
-  expand-read = ap (λ r. expand command r process (length out)) (request-read d clientName serverName userName d' client server user x is-x is-d)
-
-  pub expand-answer : (w : Written) (a : GateWritten)
-      → w ≡ writtenOf (expand command (requestOf d' (endpoint (x .client) clientName) (endpoint (x .server) serverName) (x .user) userName) process (length out))
-      → a ≡ writtenNumbers w
-      → a ≡ writtenAnswer (expand command (request (requestNumbers d client clientName server serverName user userName)) process (length out))
-  expand-answer w a e f = written-numbers _ w a e f ∙ ap writtenAnswer expand-read
-
-  pub expand-holds : (out' : List ℕ)
-      → out' ≡ lentAfter out (expand command (requestOf d' (endpoint (x .client) clientName) (endpoint (x .server) serverName) (x .user) userName) process (length out))
-      → out' ≡ lentAfter out (expand command (request (requestNumbers d client clientName server serverName user userName)) process (length out))
-  expand-holds out' e = e ∙ ap (lentAfter out) expand-read

@@ -3,28 +3,24 @@
 //   gate_sheet_verdict, gate_sheet_byuid, gate_sheet_portacl == the decisions by a sheet
 //   gate_check, gate_unpack, gate_pack     == sheets checked, unpacked and packed
 //   gate_expand                            == a command expanded
+//   gate_command, gate_sheet_command       == a verdict, and its command expanded
 //   gate_read_address, gate_write_address  == addresses as text
 // A number outside its kinds is refused by 13, after every check of the texts.
 use codes::GateAddress;
 use codes::GateAnswer;
 use codes::GateCheck;
+use codes::GateCommand;
 use codes::GateParts;
 use codes::GateWritten;
 use portacl::Settings;
+use rules::Ruling;
 use section::Fault;
 use section::Written;
 ghost use mathlib.Core.Path.{_≡_};
-ghost use lib.ListN.{length};
-ghost use Rattle.section.specs.Refusal.{lentAfter};
-ghost use Rattle.address.specs.Address.{readAddress};
-ghost use Rattle.rules.specs.Search.{decide};
-ghost use Rattle.expansion.specs.Expand.{expand};
-ghost use Rattle.byuid.specs.Byuid.{decideByuid};
-ghost use Rattle.portacl.specs.Portacl.{decidePortacl};
-ghost use Rattle.sheet.specs.Sheet.{texts, unpack, pack};
-ghost use Rattle.station.specs.Station.{decideSheet, decideByuidSheet, decidePortaclSheet};
-ghost use Rattle.codes.specs.Requests.{hostNumbers, requestNumbers, request, portBy, addressBy, settingsOf, bindBy, writeBy};
-ghost use Rattle.codes.specs.Answers.{verdictAnswer, byuidAnswer, portaclAnswer, checkAnswer, partsAnswer, writtenAnswer, addressAnswer};
+ghost use Rattle.sheet.specs.Sheet.{texts};
+ghost use Rattle.codes.specs.Requests.{hostNumbers, requestNumbers, settingsOf};
+ghost use Rattle.gate.specs.Calls.{gateVerdict, gateSheetVerdict, gateByuid, gateSheetByuid, gatePortacl, gateSheetPortacl};
+ghost use Rattle.gate.specs.Calls.{gateCheck, gateUnpack, gateReadAddress, gatePack, gateExpand, gateCommand, gateSheetCommand, gateWriteAddress};
 
 // The verdict by two texts.
 #[no_mangle]
@@ -47,37 +43,28 @@ pub extern "C" fn gate_verdict(
 ) -> GateAnswer
     ensures { λ r.
         ⌜ r
-        ≡ verdictAnswer
-        (decide (now (allow .entry)) (now (deny .entry))
-        (request
+        ≡ gateVerdict (now (allow .entry)) (now (deny .entry))
         (requestNumbers (now (daemon .entry)) (hostNumbers «client_state» «client_kind» «client_high» «client_low») (now («client_name» .entry))
-        (hostNumbers «server_state» «server_kind» «server_high» «server_low») (now («server_name» .entry)) user (now («user_name» .entry))))) ⌝ }
+        (hostNumbers «server_state» «server_kind» «server_high» «server_low») (now («server_name» .entry)) user (now («user_name» .entry))) ⌝ }
 {
-    let states = codes::request::read_states(
+    let mut names = [0u8; codes::request::NAMES];
+    let request = codes::request::read(
+        &mut names,
+        daemon,
         client_state,
         client_kind,
         client_high,
         client_low,
+        client_name,
         server_state,
         server_kind,
         server_high,
         server_low,
-        user,
-    );
-    let client = states.client;
-    let server = states.server;
-    let who = states.user;
-    codes::answer::verdict_numbers(rules::decide(
-        allow,
-        deny,
-        codes::request::daemon_if(states.fit, daemon),
-        client,
-        client_name,
-        server,
         server_name,
-        who,
+        user,
         user_name,
-    ))
+    );
+    codes::answer::verdict_numbers(rules::decide(allow, deny, &names, request))
 }
 
 // The byuid decision by a text.
@@ -90,7 +77,7 @@ pub extern "C" fn gate_byuid(
     low: u64,
     uid: u32,
 ) -> GateAnswer
-    ensures { λ r. ⌜ r ≡ byuidAnswer (decideByuid (now (text .entry)) (portBy port) (addressBy port kind high low) uid) ⌝ }
+    ensures { λ r. ⌜ r ≡ gateByuid (now (text .entry)) port kind high low uid ⌝ }
 {
     codes::answer::byuid_numbers(byuid::decide(
         text,
@@ -115,8 +102,7 @@ pub extern "C" fn gate_portacl(
 ) -> GateAnswer
     ensures { λ r.
         ⌜ r
-        ≡ portaclAnswer
-        (decidePortacl (now (text .entry)) (settingsOf enabled «port_high» «suser_exempt» «autoport_exempt») (bindBy uid (now (groups .entry)) protocol port)) ⌝ }
+        ≡ gatePortacl (now (text .entry)) (settingsOf enabled «port_high» «suser_exempt» «autoport_exempt») uid (now (groups .entry)) protocol port ⌝ }
 {
     let settings = Settings {
         enabled,
@@ -157,36 +143,28 @@ pub extern "C" fn gate_sheet_verdict(
 ) -> GateAnswer
     ensures { λ r.
         ⌜ r
-        ≡ verdictAnswer
-        (decideSheet (now (sheet .entry))
-        (request
+        ≡ gateSheetVerdict (now (sheet .entry))
         (requestNumbers (now (daemon .entry)) (hostNumbers «client_state» «client_kind» «client_high» «client_low») (now («client_name» .entry))
-        (hostNumbers «server_state» «server_kind» «server_high» «server_low») (now («server_name» .entry)) user (now («user_name» .entry))))) ⌝ }
+        (hostNumbers «server_state» «server_kind» «server_high» «server_low») (now («server_name» .entry)) user (now («user_name» .entry))) ⌝ }
 {
-    let given = codes::request::read_states(
+    let mut names = [0u8; codes::request::NAMES];
+    let request = codes::request::read(
+        &mut names,
+        daemon,
         client_state,
         client_kind,
         client_high,
         client_low,
+        client_name,
         server_state,
         server_kind,
         server_high,
         server_low,
-        user,
-    );
-    let client = given.client;
-    let server = given.server;
-    let who = given.user;
-    codes::answer::verdict_numbers(station::decide(
-        sheet,
-        codes::request::daemon_if(given.fit, daemon),
-        client,
-        client_name,
-        server,
         server_name,
-        who,
+        user,
         user_name,
-    ))
+    );
+    codes::answer::verdict_numbers(station::decide(sheet, &names, request))
 }
 
 // The byuid decision by a sheet.
@@ -199,7 +177,7 @@ pub extern "C" fn gate_sheet_byuid(
     low: u64,
     uid: u32,
 ) -> GateAnswer
-    ensures { λ r. ⌜ r ≡ byuidAnswer (decideByuidSheet (now (sheet .entry)) (portBy port) (addressBy port kind high low) uid) ⌝ }
+    ensures { λ r. ⌜ r ≡ gateSheetByuid (now (sheet .entry)) port kind high low uid ⌝ }
 {
     let by = codes::request::port_by(port);
     let at = codes::request::address_by(port, kind, high, low);
@@ -221,8 +199,7 @@ pub extern "C" fn gate_sheet_portacl(
 ) -> GateAnswer
     ensures { λ r.
         ⌜ r
-        ≡ portaclAnswer
-        (decidePortaclSheet (now (sheet .entry)) (settingsOf enabled «port_high» «suser_exempt» «autoport_exempt») (bindBy uid (now (groups .entry)) protocol port)) ⌝ }
+        ≡ gateSheetPortacl (now (sheet .entry)) (settingsOf enabled «port_high» «suser_exempt» «autoport_exempt») uid (now (groups .entry)) protocol port ⌝ }
 {
     let settings = Settings {
         enabled,
@@ -246,7 +223,7 @@ pub extern "C" fn gate_sheet_portacl(
 // Whether a sheet is accepted.
 #[no_mangle]
 pub extern "C" fn gate_check(sheet: &[u8]) -> GateCheck
-    ensures { λ r. ⌜ r ≡ checkAnswer (unpack (now (sheet .entry))) ⌝ }
+    ensures { λ r. ⌜ r ≡ gateCheck (now (sheet .entry)) ⌝ }
 {
     codes::answer::check_numbers(sheet::unpack::unpack(sheet))
 }
@@ -254,7 +231,7 @@ pub extern "C" fn gate_check(sheet: &[u8]) -> GateCheck
 // The place and length of each text of a sheet.
 #[no_mangle]
 pub extern "C" fn gate_unpack(sheet: &[u8]) -> GateParts
-    ensures { λ r. ⌜ r ≡ partsAnswer (unpack (now (sheet .entry))) ⌝ }
+    ensures { λ r. ⌜ r ≡ gateUnpack (now (sheet .entry)) ⌝ }
 {
     codes::answer::parts_numbers(sheet::unpack::unpack(sheet))
 }
@@ -268,81 +245,202 @@ pub extern "C" fn gate_pack(
     byuid: &[u8],
     portacl: &[u8],
 ) -> GateWritten
-    ensures answer { λ r. ⌜ r ≡ writtenAnswer (pack (texts (now (allow .entry)) (now (deny .entry)) (now (byuid .entry)) (now (portacl .entry))) (length (now (out .entry)))) ⌝ }
-    ensures holds { λ _. ⌜ now (out .exit) ≡ lentAfter (now (out .entry)) (pack (texts (now (allow .entry)) (now (deny .entry)) (now (byuid .entry)) (now (portacl .entry))) (length (now (out .entry)))) ⌝ }
+    ensures answer { λ r. ⌜ r
+        ≡ gatePack (texts (now (allow .entry)) (now (deny .entry)) (now (byuid .entry)) (now (portacl .entry))) (now (out .entry)) .answer ⌝ }
+    ensures holds { λ _. ⌜ now (out .exit)
+        ≡ gatePack (texts (now (allow .entry)) (now (deny .entry)) (now (byuid .entry)) (now (portacl .entry))) (now (out .entry)) .out ⌝ }
 {
     codes::answer::written_numbers(sheet::pack::pack(out, allow, deny, byuid, portacl))
 }
 
 // Expands a command for a request at the front of out; a refusal leaves out as it was.
 #[no_mangle]
-pub extern "C" fn gate_expand<'a>(
+pub extern "C" fn gate_expand(
     out: &mut [u8],
-    command: &'a [u8],
-    daemon: &'a [u8],
+    command: &[u8],
+    daemon: &[u8],
     client_state: u32,
     client_kind: u32,
     client_high: u64,
     client_low: u64,
-    client_name: &'a [u8],
+    client_name: &[u8],
     server_state: u32,
     server_kind: u32,
     server_high: u64,
     server_low: u64,
-    server_name: &'a [u8],
+    server_name: &[u8],
     user: u32,
-    user_name: &'a [u8],
+    user_name: &[u8],
     process: u32,
 ) -> GateWritten
     ensures answer { λ r.
         ⌜ r
-        ≡ writtenAnswer
-        (expand (now (command .entry))
-        (request
+        ≡ gateExpand (now (command .entry))
         (requestNumbers (now (daemon .entry)) (hostNumbers «client_state» «client_kind» «client_high» «client_low») (now («client_name» .entry))
-        (hostNumbers «server_state» «server_kind» «server_high» «server_low») (now («server_name» .entry)) user (now («user_name» .entry))))
-        process (length (now (out .entry)))) ⌝ }
+        (hostNumbers «server_state» «server_kind» «server_high» «server_low») (now («server_name» .entry)) user (now («user_name» .entry)))
+        process (now (out .entry)) .answer ⌝ }
     ensures holds { λ _.
         ⌜ now (out .exit)
-        ≡ lentAfter (now (out .entry))
-        (expand (now (command .entry))
-        (request
+        ≡ gateExpand (now (command .entry))
         (requestNumbers (now (daemon .entry)) (hostNumbers «client_state» «client_kind» «client_high» «client_low») (now («client_name» .entry))
-        (hostNumbers «server_state» «server_kind» «server_high» «server_low») (now («server_name» .entry)) user (now («user_name» .entry))))
-        process (length (now (out .entry)))) ⌝ }
+        (hostNumbers «server_state» «server_kind» «server_high» «server_low») (now («server_name» .entry)) user (now («user_name» .entry)))
+        process (now (out .entry)) .out ⌝ }
 {
-    let read = codes::request::read_states(
+    let mut names = [0u8; codes::request::NAMES];
+    let request = codes::request::read(
+        &mut names,
+        daemon,
         client_state,
         client_kind,
         client_high,
         client_low,
+        client_name,
         server_state,
         server_kind,
         server_high,
         server_low,
-        user,
-    );
-    let client = read.client;
-    let server = read.server;
-    let who = read.user;
-    codes::answer::written_numbers(expansion::expand(
-        out,
-        command,
-        codes::request::daemon_if(read.fit, daemon),
-        client,
-        client_name,
-        server,
         server_name,
-        who,
+        user,
         user_name,
-        process,
-    ))
+    );
+    codes::answer::written_numbers(expansion::expand(out, command, &names, request, process))
+}
+
+// The verdict by two texts, and the command of the rule that decided, expanded at the front of out; a refusal leaves out as it was.
+#[no_mangle]
+pub extern "C" fn gate_command<'a>(
+    out: &mut [u8],
+    allow: &'a [u8],
+    deny: &'a [u8],
+    daemon: &[u8],
+    client_state: u32,
+    client_kind: u32,
+    client_high: u64,
+    client_low: u64,
+    client_name: &[u8],
+    server_state: u32,
+    server_kind: u32,
+    server_high: u64,
+    server_low: u64,
+    server_name: &[u8],
+    user: u32,
+    user_name: &[u8],
+    process: u32,
+) -> GateCommand
+    ensures answer { λ r.
+        ⌜ r
+        ≡ gateCommand (now (allow .entry)) (now (deny .entry))
+        (requestNumbers (now (daemon .entry)) (hostNumbers «client_state» «client_kind» «client_high» «client_low») (now («client_name» .entry))
+        (hostNumbers «server_state» «server_kind» «server_high» «server_low») (now («server_name» .entry)) user (now («user_name» .entry)))
+        process (now (out .entry)) .answer ⌝ }
+    ensures holds { λ _.
+        ⌜ now (out .exit)
+        ≡ gateCommand (now (allow .entry)) (now (deny .entry))
+        (requestNumbers (now (daemon .entry)) (hostNumbers «client_state» «client_kind» «client_high» «client_low») (now («client_name» .entry))
+        (hostNumbers «server_state» «server_kind» «server_high» «server_low») (now («server_name» .entry)) user (now («user_name» .entry)))
+        process (now (out .entry)) .out ⌝ }
+{
+    let mut names = [0u8; codes::request::NAMES];
+    let request = codes::request::read(
+        &mut names,
+        daemon,
+        client_state,
+        client_kind,
+        client_high,
+        client_low,
+        client_name,
+        server_state,
+        server_kind,
+        server_high,
+        server_low,
+        server_name,
+        user,
+        user_name,
+    );
+    match rules::decide(allow, deny, &names, request) {
+        Ruling::Refused(refusal) => codes::answer::no_command(refusal),
+        Ruling::Answered(answer) => codes::answer::command_numbers(
+            answer,
+            expansion::expand(
+                out,
+                rules::command_part(allow, deny, answer),
+                &names,
+                request,
+                process,
+            ),
+        ),
+    }
+}
+
+// The same by a sheet.
+#[no_mangle]
+pub extern "C" fn gate_sheet_command(
+    out: &mut [u8],
+    sheet: &[u8],
+    daemon: &[u8],
+    client_state: u32,
+    client_kind: u32,
+    client_high: u64,
+    client_low: u64,
+    client_name: &[u8],
+    server_state: u32,
+    server_kind: u32,
+    server_high: u64,
+    server_low: u64,
+    server_name: &[u8],
+    user: u32,
+    user_name: &[u8],
+    process: u32,
+) -> GateCommand
+    ensures answer { λ r.
+        ⌜ r
+        ≡ gateSheetCommand (now (sheet .entry))
+        (requestNumbers (now (daemon .entry)) (hostNumbers «client_state» «client_kind» «client_high» «client_low») (now («client_name» .entry))
+        (hostNumbers «server_state» «server_kind» «server_high» «server_low») (now («server_name» .entry)) user (now («user_name» .entry)))
+        process (now (out .entry)) .answer ⌝ }
+    ensures holds { λ _.
+        ⌜ now (out .exit)
+        ≡ gateSheetCommand (now (sheet .entry))
+        (requestNumbers (now (daemon .entry)) (hostNumbers «client_state» «client_kind» «client_high» «client_low») (now («client_name» .entry))
+        (hostNumbers «server_state» «server_kind» «server_high» «server_low») (now («server_name» .entry)) user (now («user_name» .entry)))
+        process (now (out .entry)) .out ⌝ }
+{
+    let mut names = [0u8; codes::request::NAMES];
+    let request = codes::request::read(
+        &mut names,
+        daemon,
+        client_state,
+        client_kind,
+        client_high,
+        client_low,
+        client_name,
+        server_state,
+        server_kind,
+        server_high,
+        server_low,
+        server_name,
+        user,
+        user_name,
+    );
+    match station::decide(sheet, &names, request) {
+        Ruling::Refused(refusal) => codes::answer::no_command(refusal),
+        Ruling::Answered(answer) => codes::answer::command_numbers(
+            answer,
+            expansion::expand(
+                out,
+                station::command(sheet, answer),
+                &names,
+                request,
+                process,
+            ),
+        ),
+    }
 }
 
 // The address that a text writes.
 #[no_mangle]
 pub extern "C" fn gate_read_address(text: &[u8]) -> GateAddress
-    ensures { λ r. ⌜ r ≡ addressAnswer (readAddress (now (text .entry))) ⌝ }
+    ensures { λ r. ⌜ r ≡ gateReadAddress (now (text .entry)) ⌝ }
 {
     codes::answer::read_numbers(address::read::read_address(text))
 }
@@ -350,8 +448,8 @@ pub extern "C" fn gate_read_address(text: &[u8]) -> GateAddress
 // Writes an address at the front of out; a refusal leaves out as it was.
 #[no_mangle]
 pub extern "C" fn gate_write_address(out: &mut [u8], kind: u32, high: u64, low: u64) -> GateWritten
-    ensures answer { λ r. ⌜ r ≡ writtenAnswer (writeBy kind high low (length (now (out .entry)))) ⌝ }
-    ensures holds { λ _. ⌜ now (out .exit) ≡ lentAfter (now (out .entry)) (writeBy kind high low (length (now (out .entry)))) ⌝ }
+    ensures answer { λ r. ⌜ r ≡ gateWriteAddress kind high low (now (out .entry)) .answer ⌝ }
+    ensures holds { λ _. ⌜ now (out .exit) ≡ gateWriteAddress kind high low (now (out .entry)) .out ⌝ }
 {
     if codes::request::is_address(kind, high, low) {
         let a = codes::request::address(kind, high, low);

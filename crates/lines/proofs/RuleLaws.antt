@@ -63,7 +63,8 @@ module _ (s : List ℕ) (i : ℕ) (h : Searched s i) where
       index = h .index ∙ rw (add-one, drop-cons s i 0, ne-eqb (getD s i 0) 58 e, ne-eqb (getD s i 0) 91 f) (omega arith);
     }
 
-    pub searched-bracket : (n : ℕ) → getD s i 0 ≡ 91 → n ≡ indexOf 93 (take (length s - (i + 1)) (drop (i + 1) s)) → n ≤ length (take (length s - (i + 1)) (drop (i + 1) s))
+    pub searched-bracket : (n : ℕ) → getD s i 0 ≡ 91 → n ≡ indexOf 93 (take (length s - (i + 1)) (drop (i + 1) s))
+        → n ≤ length (take (length s - (i + 1)) (drop (i + 1) s))
         → Searched s (i + 1 + n)
     unfolding separatorIndex any
     searched-bracket n e is-n k =
@@ -194,11 +195,6 @@ spanLen-le p (x ∷ t) = by (p x) (spanLen-le p t)
     by false ih = omega arith
 
 -- ## The first element
-
-pub elementSpan-is : (s : List ℕ) (a n : ℕ) → a ≡ partingLength s → n ≡ elementLength (take (length s - a) (drop a s))
-    → record { start = a; end = a + n } ≡ elementSpan s
-unfolding elementSpan
-elementSpan-is s a n e f = rw (f, take-rest s a, e)
 
 module _ (s : List ℕ) (p : ElementSpan) (is-p : p ≡ elementSpan s) where
   pub element-start : p .start ≤ p .end

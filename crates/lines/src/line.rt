@@ -37,7 +37,7 @@ fn is_printable(s: &[u8]) -> bool
     let mut i = 0;
     while i < s.len() {
         let b = s[i];
-        all = all & ((32 <= b) & (b <= 126));
+        all = all & ((b' ' <= b) & (b <= b'~'));
         i += 1;
     }
     all
@@ -80,9 +80,9 @@ pub fn scan_line(text: &[u8], start: usize) -> LineSpan
     let mut clean = true;
     while i < text.len() {
         let b = text[i];
-        if (32 <= b) & (b <= 126) {
+        if (b' ' <= b) & (b <= b'~') {
             i += 1;
-        } else if b == 10 {
+        } else if b == b'\n' {
             if follows_slash(text, start, i) {
                 joins += 1;
                 i += 1;
@@ -95,7 +95,7 @@ pub fn scan_line(text: &[u8], start: usize) -> LineSpan
                 };
             }
         } else {
-            clean = clean & (b == 9);
+            clean = clean & (b == b'\t');
             i += 1;
         }
     }
@@ -114,7 +114,7 @@ fn follows_slash(text: &[u8], start: usize, i: usize) -> bool
 {
     if start < i {
         let k = i - 1;
-        text[k] == 92
+        text[k] == b'\\'
     } else {
         false
     }
@@ -125,11 +125,11 @@ fn is_pair(s: &[u8], i: usize) -> bool
     requires { ⌜ i < length (now s) ⌝ }
     ensures { λ r. ⌜ r ≡ pairAt (now (s .entry)) i ⌝ }
 {
-    if s[i] != 92 {
+    if s[i] != b'\\' {
         return false;
     }
     let k = i + 1;
-    if k < s.len() { s[k] == 10 } else { false }
+    if k < s.len() { s[k] == b'\n' } else { false }
 }
 
 // Measures s as joined, and looks at each byte that remains.
@@ -144,7 +144,7 @@ pub fn joined(s: &[u8]) -> JoinedText
             i += 2;
         } else {
             let b = s[i];
-            clean = clean & ((b == 9) | ((32 <= b) & (b <= 126)));
+            clean = clean & ((b == b'\t') | ((b' ' <= b) & (b <= b'~')));
             len += 1;
             i += 1;
         }
@@ -181,7 +181,7 @@ pub fn is_comment(raw: &[u8]) -> bool
         if is_pair(raw, i) {
             i += 2;
         } else {
-            return raw[i] == 35;
+            return raw[i] == b'#';
         }
     }
     false
@@ -194,7 +194,7 @@ pub fn is_blank(raw: &[u8]) -> bool
     let mut i = 0;
     while i < raw.len() {
         let b = raw[i];
-        if (b == 32) | (b == 9) {
+        if (b == b' ') | (b == b'\t') {
             i += 1;
         } else if is_pair(raw, i) {
             i += 2;

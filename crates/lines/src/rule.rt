@@ -6,8 +6,7 @@ ghost use lib.ListN.{drop};
 ghost use Rattle.text.specs.Basics.{all};
 ghost use Rattle.lines.specs.Block.{unmarked, frontAll, PassedTo};
 ghost use Rattle.lines.specs.Rule.{isExcept};
-ghost use Rattle.lines.specs.Parts.{separatorIndex, afterSeparator, isParting, isElementByte, partingLength, elementLength};
-ghost use Rattle.lines.specs.Parts.{elementSpan, firstElement, afterElement};
+ghost use Rattle.lines.specs.Parts.{separatorIndex, afterSeparator, elementSpan, firstElement, afterElement};
 
 // Where an element starts and ends; both are the text's length where there is none.
 pub struct ElementSpan {
@@ -23,7 +22,7 @@ fn is_unmarked(s: &[u8]) -> bool
     let mut i = 0;
     while i < s.len() {
         let b = s[i];
-        all = all & ((b != 58) & (b != 91));
+        all = all & ((b != b':') & (b != b'['));
         i += 1;
     }
     all
@@ -62,12 +61,12 @@ pub fn separator(s: &[u8]) -> usize
     let mut i = unmarked_end(s);
     while i < s.len() {
         let b = s[i];
-        if b == 58 {
+        if b == b':' {
             return i;
         }
         i += 1;
-        if b == 91 {
-            let n = text::index_of(&s[i..], 93);
+        if b == b'[' {
+            let n = text::index_of(&s[i..], b']');
             i += n;
         }
     }
@@ -84,65 +83,6 @@ pub fn after_separator(s: &[u8], i: usize) -> &[u8]
     }
     let a = i + 1;
     &s[a..]
-}
-
-// Whether b parts elements.
-fn is_parting(b: u8) -> bool
-    ensures { λ r. ⌜ r ≡ isParting b ⌝ }
-{
-    (b == 32) | (b == 9) | (b == 44)
-}
-
-// Whether b belongs to an element.
-fn is_element_byte(b: u8) -> bool
-    ensures { λ r. ⌜ r ≡ isElementByte b ⌝ }
-{
-    !is_parting(b)
-}
-
-// How many bytes at the front of s part elements.
-fn parting_length(s: &[u8]) -> usize
-    ensures count { λ r. ⌜ r ≡ partingLength (now (s .entry)) ⌝ }
-    ensures within { λ r. do ⌜ r ≤ (← ⟦s.len()⟧ .entry) ⌝ }
-{
-    let mut i = 0;
-    while i < s.len() {
-        if is_parting(s[i]) {
-            i += 1;
-        } else {
-            return i;
-        }
-    }
-    i
-}
-
-// How many bytes at the front of s belong to one element.
-fn element_length(s: &[u8]) -> usize
-    ensures count { λ r. ⌜ r ≡ elementLength (now (s .entry)) ⌝ }
-    ensures within { λ r. do ⌜ r ≤ (← ⟦s.len()⟧ .entry) ⌝ }
-{
-    let mut i = 0;
-    while i < s.len() {
-        if is_element_byte(s[i]) {
-            i += 1;
-        } else {
-            return i;
-        }
-    }
-    i
-}
-
-// Where the first element of s stands.
-pub fn element_span(s: &[u8]) -> ElementSpan
-    ensures place { λ r. ⌜ r ≡ elementSpan (now (s .entry)) ⌝ }
-    ensures within { λ r. do ⌜ (r .start ≤ r .end) × (r .end ≤ (← ⟦s.len()⟧ .entry)) ⌝ }
-{
-    let a = parting_length(s);
-    let n = element_length(&s[a..]);
-    ElementSpan {
-        start: a,
-        end: a + n,
-    }
 }
 
 // The first element of s, empty where there is none.

@@ -8,11 +8,12 @@ use mathlib.Core.Path.{_≡_, refl, sym, _∙_}
 use lib.ListN.{length, take}
 use Rattle.text.specs.Basics.{if_then_else_, isSome, any, all}
 use Rattle.section.specs.declared.Fault.the-variants as F
-use Rattle.section.specs.Refusal.{lowest}
+use Rattle.section.specs.Code.{firstHolding}
+use Rattle.section.proofs.RefusalLaws.{rising, lowest-first}
 use Rattle.lines.specs.Command.{hasBadPercent}
 use Rattle.lines.specs.Rule.{isExcept, parseRule}
-use Rattle.lines.specs.Parts.{separatorIndex, afterSeparator, words, firstElement, afterElement, trimBlanks, anyBadPercent}
-use Rattle.lines.proofs.RuleLaws.{words-none, words-more, rule, parseRule-none}
+use Rattle.lines.specs.Parts.{separatorIndex, afterSeparator, words, trimBlanks, anyBadPercent}
+use Rattle.lines.proofs.RuleLaws.{rule, parseRule-none}
 use Rattle.elements.specs.declared.element.ElementFault.{ElementFault}
 use Rattle.elements.specs.declared.element.ElementFault.the-variants as E
 use Rattle.elements.specs.Code.{elementFault}
@@ -20,10 +21,11 @@ use Rattle.elements.specs.Element.{Element, reservedStart, daemonElement, clien
 use Rattle.lists.specs.declared.check.ListCheck.{ListCheck}
 use Rattle.lists.specs.declared.Checked.{Checked}
 use Rattle.lists.specs.declared.Checked.the-variants as C
-use Rattle.lists.specs.Check.{exceptMisplaced, ruleFault}
+use Rattle.lists.specs.Check.{withoutExcept, exceptMisplaced, ruleFault}
 use Rattle.lists.specs.Code.{checkedOf, NoNewline}
 use Rattle.lists.specs.ListCode.{isUnsound, checks, isReserved, isFault, listStart, listCheck, listFrom, listMore, listEnd}
 use Rattle.lists.specs.ListCode.{lowestOf, clientWords, badCommandAfter, restFault}
+use Rattle.lists.proofs.ExceptLaws.{no-element, any-element, except-unreserved, except-daemon, except-client}
 use Rattle.lists.proofs.JoinedLaws.{hasBadPercent-joined, afterSeparator-joined, parseRule-joined}
 
 -- ## One list
@@ -42,7 +44,7 @@ module _ (kind : List ℕ → Element) (w : List ℕ) where
       by false true = (refl, refl)
       by false false = (refl, refl)
 
-  listFrom-cons : (after : Bool) (c : ListCheck) (ws : List (List ℕ))
+  pub listFrom-cons : (after : Bool) (c : ListCheck) (ws : List (List ℕ))
       → listFrom kind after c (w ∷ ws) ≡ listFrom kind (not (isExcept w)) (listMore c after (isExcept w) (elementFault kind w)) ws
   unfolding listFrom listMore exceptMisplaced any all
   listFrom-cons after c ws =
@@ -60,21 +62,13 @@ pub listMore-is : (c : ListCheck) (after x : Bool) (f : ElementFault) (r : Bool)
 unfolding listMore
 listMore-is c after x f r is-r u is-u = rw (is-r, is-u)
 
-pub listCheck-start : (kind : List ℕ → Element) (s : List ℕ) (c : ListCheck) → c ≡ listStart → listCheck kind (words s) ≡ listFrom kind false c (words s)
+pub listFrom-start : (kind : List ℕ → Element) (ws : List (List ℕ)) → listCheck kind ws ≡ listFrom kind false listStart ws
 unfolding listCheck listFrom
-listCheck-start kind s c is-c = rw is-c
+listFrom-start kind ws = refl
 
--- the loop that has checked s up to rest, at the element w
-module _ (kind : List ℕ → Element) (s rest : List ℕ) (after : Bool) (c : ListCheck) (so-far : listCheck kind (words s) ≡ listFrom kind after c (words rest))
-    (w : List ℕ) (is-w : w ≡ firstElement rest)
-  where
-    pub listCheck-end : length w ≡ 0 → (r : ListCheck) → r ≡ listEnd c after → r ≡ listCheck kind (words s)
-    unfolding listFrom exceptMisplaced any all
-    listCheck-end z r is-r = is-r ∙ sym (so-far ∙ rw (words-none rest w is-w z, and-true, or-false, or-false))
-
-    pub listCheck-more : (length w ≡ 0 → ⊥) → (next : List ℕ) → next ≡ afterElement rest → (x : Bool) → x ≡ isExcept w → (f : ElementFault) → f ≡ elementFault kind w
-        → (d : ListCheck) → d ≡ listMore c after x f → listCheck kind (words s) ≡ listFrom kind (not x) d (words next)
-    listCheck-more full next is-next x is-x f is-f d is-d = so-far ∙ rw (words-more rest w next is-w full is-next, is-d, is-x, is-f) (listFrom-cons kind w after c (words next))
+pub listFrom-nil : (kind : List ℕ → Element) (after : Bool) (c : ListCheck) → listFrom kind after c [] ≡ listEnd c after
+unfolding listFrom exceptMisplaced any all
+listFrom-nil kind after c = rw (and-true, or-false, or-false)
 
 -- ## The lowest fault
 
@@ -125,9 +119,10 @@ any-or p q (x ∷ s) = rw (any-or p q s) (or-swap (p x) (q x) (any p s) (any q s
 
 -- an unsound element that is not of reserved start is of no kind
 lowest-checked : (a a′ b b′ r s u v x : Bool)
-    → checkedOf (lowest ((F.NoElement, a || a′) ∷ (F.MisplacedExcept, b || b′) ∷ (F.ReservedStart, r || s) ∷ (F.UnknownElement, u || v) ∷ (F.BadPercent, x) ∷ []))
+    → checkedOf
+    (firstHolding ((F.NoElement, a || a′) ∷ (F.MisplacedExcept, b || b′) ∷ (F.ReservedStart, r || s) ∷ (F.UnknownElement, u || v) ∷ (F.BadPercent, x) ∷ []))
     ≡ lowestOf (checks a b r (r || u)) (checks a′ b′ s (s || v)) x
-unfolding lowest lowestOf
+unfolding firstHolding lowestOf
 lowest-checked true a′ b b′ r s u v x = refl
 lowest-checked false true b b′ r s u v x = refl
 lowest-checked false false true b′ r s u v x = refl
@@ -143,9 +138,25 @@ lowest-checked false false false false false false false false false = refl
 
 ruleFault-lists : (ds cs : List (List ℕ)) (k : List ℕ)
     → checkedOf (ruleFault (some (rule ds cs k))) ≡ lowestOf (listCheck daemonElement ds) (listCheck clientElement cs) (hasBadPercent k)
-unfolding ruleFault listCheck
+unfolding ruleFault listCheck rising
 ruleFault-lists ds cs k =
-    rw (any-append reservedStart ds cs, any-or reservedStart (λ e. not (isSome (daemonElement e))) ds, any-or reservedStart (λ e. not (isSome (clientElement e))) cs)
+    rw (
+      no-element ds,
+      no-element cs,
+      any-append reservedStart (withoutExcept ds) (withoutExcept cs),
+      any-element reservedStart except-unreserved ds,
+      any-element reservedStart except-unreserved cs,
+      any-element (λ e. not (isSome (daemonElement e))) except-daemon ds,
+      any-element (λ e. not (isSome (clientElement e))) except-client cs,
+      lowest-first
+          ((F.NoElement, all isExcept ds || all isExcept cs)
+          ∷ (F.MisplacedExcept, exceptMisplaced false ds || exceptMisplaced false cs)
+          ∷ (F.ReservedStart, any reservedStart ds || any reservedStart cs)
+          ∷ (F.UnknownElement, any (λ e. not (isSome (daemonElement e))) ds || any (λ e. not (isSome (clientElement e))) cs)
+          ∷ (F.BadPercent, hasBadPercent k) ∷ []) refl,
+      any-or reservedStart (λ e. not (isSome (daemonElement e))) ds,
+      any-or reservedStart (λ e. not (isSome (clientElement e))) cs,
+    )
     (lowest-checked (all isExcept ds) (all isExcept cs) (exceptMisplaced false ds) (exceptMisplaced false cs) (any reservedStart ds) (any reservedStart cs)
     (any (λ e. not (isSome (daemonElement e))) ds) (any (λ e. not (isSome (clientElement e))) cs) (hasBadPercent k))
 

@@ -31,4 +31,7 @@ pub parseRule-joined : (t : List ℕ) → NoNewline t → (i : ℕ) → i ≡ se
 parseRule-joined t joined i is-i l s is-s =
     let j : ℕ = separatorIndex false s in
     parseRule-parts t i is-i l s is-s j refl (afterSeparator j s) refl
-    ∙ rw (elements-joined (take i t) (all-take isNoNewline i t joined), elements-joined (take j s) (all-take isNoNewline j s (rw is-s (afterSeparator-joined i t joined))))
+    ∙ rw (
+      elements-joined (take i t) (all-take isNoNewline i t joined),
+      elements-joined (take j s) (all-take isNoNewline j s (rw is-s (afterSeparator-joined i t joined))),
+    )

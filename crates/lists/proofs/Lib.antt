@@ -1,3 +1,5 @@
+pub mod ExceptLaws
 pub mod JoinedLaws
 pub mod CheckLaws
 pub mod WalkLaws
+pub mod PassLaws

@@ -4,7 +4,7 @@
 use Prim.Native.Nat.{ℕ, _≤_, _<_}
 use native.Mathlib.Omega.{arith}
 use mathlib.Core.Bool.{Bool, true, false}
-use mathlib.Core.List.{List, [], _∷_}
+use mathlib.Core.List.{List, []}
 use mathlib.Core.Path.{_≡_, refl, ap₂, fun-ext, _∙_}
 use lib.ListN.{length, take}
 use Rattle.lines.specs.Rule.{isExcept}
@@ -16,7 +16,7 @@ use Rattle.elements.specs.Request.{Request}
 use Rattle.elements.proofs.ElementLaws.{daemonElement-request, clientElement-request}
 use Rattle.lists.specs.Walk.{onFound, included, excluded, ruleFound}
 use Rattle.lists.specs.Code.{NoNewline, lineFound}
-use Rattle.lists.specs.ListCode.{turned, daemonFinds, clientFinds, clientWords}
+use Rattle.lists.specs.ListCode.{negated, daemonFinds, clientFinds, clientWords}
 use Rattle.lists.proofs.JoinedLaws.{parseRule-joined}
 
 -- ## One list: the loop of the side f has come to rest, at the element w
@@ -73,15 +73,11 @@ module _ (m : List ℕ → Found) (s rest w : List ℕ) (h : Walked (excluded m)
     unfolding excluded
     excluded-more e = walked-more (excluded m) s rest w next h is-w full is-next (rw (words-more rest w next is-w full is-next, ← is-x, e))
 
-    pub excluded-except : x ≡ true → (y : Found) → y ≡ included m (words next) → (r : Found) → r ≡ turned y → r ≡ excluded m (words s)
+    pub excluded-except : x ≡ true → (y : Found) → y ≡ included m (words next) → (r : Found) → r ≡ negated y → r ≡ excluded m (words s)
     unfolding excluded
     excluded-except e y is-y r is-r = rw (h .same, words-more rest w next is-w full is-next, ← is-x, e, ← is-y) is-r
 
 -- ## One rule
-
-pub clientWords-found : (m : List ℕ → Found) (s : List ℕ) (j : ℕ) → j ≡ separatorIndex false s → (r : Found) → r ≡ included m (words (take j s))
-    → r ≡ included m (clientWords s)
-clientWords-found m s j is-j r is-r = is-r ∙ rw is-j
 
 module _ (q : Request) where
   ruleFound-lists : (ds cs : List (List ℕ)) (k : List ℕ)
@@ -97,17 +93,8 @@ module _ (q : Request) where
     lineFound-none l = rw (parseRule-none t i is-i l)
 
     module _ (joined : NoNewline t) (l : i < length t) (y : Found) (is-y : y ≡ included (daemonFinds (q .daemon) (q .server)) (words (take i t))) where
-      lineFound-some : (s : List ℕ) → s ≡ afterSeparator i t → lineFound q t ≡ onFound y (included (clientFinds (q .client) (q .user) (q .userName)) (clientWords s)) No
+      pub lineFound-some : (s : List ℕ) → s ≡ afterSeparator i t → lineFound q t
+          ≡ onFound y (included (clientFinds (q .client) (q .user) (q .userName)) (clientWords s)) No
       unfolding lineFound
       lineFound-some s is-s =
           rw (parseRule-joined t joined i is-i l s is-s, is-y) (ruleFound-lists (words (take i t)) (clientWords s) (afterSeparator (separatorIndex false s) s))
-
-      pub lineFound-no : y ≡ No → No ≡ lineFound q t
-      lineFound-no e = rw (lineFound-some (afterSeparator i t) refl, e)
-
-      pub lineFound-ask : y ≡ Ask → Ask ≡ lineFound q t
-      lineFound-ask e = rw (lineFound-some (afterSeparator i t) refl, e)
-
-      pub lineFound-yes : y ≡ Yes → (s : List ℕ) → s ≡ afterSeparator i t
-          → (r : Found) → r ≡ included (clientFinds (q .client) (q .user) (q .userName)) (clientWords s) → r ≡ lineFound q t
-      lineFound-yes e s is-s r is-r = rw (lineFound-some s is-s, e, is-r)

@@ -6,7 +6,7 @@ use Prim.Native.Nat.{ℕ}
 use mathlib.Core.Bool.{Bool, false, not, _&&_, _||_}
 use mathlib.Core.List.{List, [], _∷_, _++_}
 use mathlib.Core.Option.{Option, none, some}
-use Rattle.text.specs.Basics.{isSome, any, all}
+use Rattle.text.specs.Basics.{if_then_else_, isSome, any, isEmpty}
 use Rattle.section.specs.declared.Fault.{Fault}
 use Rattle.section.specs.declared.Fault.the-variants as F
 use Rattle.section.specs.Refusal.{lowest}
@@ -14,9 +14,14 @@ use Rattle.lines.specs.Rule.{Rule, isExcept}
 use Rattle.lines.specs.Command.{hasBadPercent}
 use Rattle.elements.specs.Element.{Element, reservedStart, daemonElement, clientElement}
 
+-- the elements among the words of a list: "EXCEPT is none"
+unfoldable pub withoutExcept : List (List ℕ) → List (List ℕ)
+withoutExcept [] = []
+withoutExcept (w ∷ ws) = if isExcept w then withoutExcept ws else w ∷ withoutExcept ws
+
 -- 7: "a list with no element (EXCEPT is none)"
 abbrev pub hasNoElement : List (List ℕ) → Bool
-hasNoElement ws = all isExcept ws
+hasNoElement ws = isEmpty (withoutExcept ws)
 
 -- 8: "EXCEPT not directly between two elements"; after: whether an element stands directly before
 unfoldable pub exceptMisplaced : Bool → List (List ℕ) → Bool
@@ -25,7 +30,7 @@ exceptMisplaced after (w ∷ ws) = isExcept w && not after || exceptMisplaced (n
 
 -- 10: "any other element not among the kinds below"
 abbrev pub hasUnknown : (List ℕ → Element) → List (List ℕ) → Bool
-hasUnknown kind ws = any (λ e. not (isSome (kind e))) ws
+hasUnknown kind ws = any (λ e. not (isSome (kind e))) (withoutExcept ws)
 
 -- the lowest of 7 to 11; 7 too where there is "no first separator"
 unfoldable pub ruleFault : Option Rule → Option Fault
@@ -33,6 +38,6 @@ ruleFault none = some F.NoElement
 ruleFault (some r) = lowest
     ((F.NoElement, hasNoElement (r .daemons) || hasNoElement (r .clients))
     ∷ (F.MisplacedExcept, exceptMisplaced false (r .daemons) || exceptMisplaced false (r .clients))
-    ∷ (F.ReservedStart, any reservedStart (r .daemons ++ r .clients))
+    ∷ (F.ReservedStart, any reservedStart (withoutExcept (r .daemons) ++ withoutExcept (r .clients)))
     ∷ (F.UnknownElement, hasUnknown daemonElement (r .daemons) || hasUnknown clientElement (r .clients))
     ∷ (F.BadPercent, hasBadPercent (r .command)) ∷ [])

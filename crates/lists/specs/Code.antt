@@ -1,5 +1,5 @@
--- What the contracts of check_rule and rule_found cite. Nothing here needs to be believed for the meaning of document 01: the verdict's
--- promise, in rules, is stated over Check, Walk and its own definitions alone.
+-- What the contract of pass_rule cites. Nothing here needs to be believed for the meaning of document 01: the verdict's promise, in rules,
+-- is stated over Check, Walk and its own definitions alone.
 --   checkedOf o    == o as the code answers it
 --   NoNewline t    == t holds no newline, as a joined line does
 --   lineFound r t  == what the rule in the joined line t finds of the request r

@@ -2,3 +2,4 @@ pub mod Check
 pub mod Walk
 pub mod Code
 pub mod ListCode
+pub mod PassCode

@@ -11,10 +11,11 @@
 -- Assumes nothing: these are definitions.
 use Prim.Native.Nat.{ℕ}
 use mathlib.Core.Bool.{Bool, true, false, not, _&&_, _||_}
-use mathlib.Core.List.{List, [], _∷_}
+use mathlib.Core.List.{List, []}
 use lib.ListN.{take}
-use Rattle.text.specs.Basics.{if_then_else_, isSome, any}
+use Rattle.text.specs.Basics.{if_then_else_, isSome, any, all}
 use Rattle.section.specs.declared.Fault.the-variants as F
+use Rattle.lines.specs.Rule.{isExcept}
 use Rattle.lines.specs.Parts.{separatorIndex, afterSeparator, words, trimBlanks, anyBadPercent}
 use Rattle.elements.specs.declared.Found.{Found}
 use Rattle.elements.specs.declared.Found.the-variants as N
@@ -27,7 +28,7 @@ use Rattle.elements.specs.Element.{Element, reservedStart, daemonElement, clien
 use Rattle.lists.specs.declared.Checked.{Checked}
 use Rattle.lists.specs.declared.Checked.the-variants as C
 use Rattle.lists.specs.declared.check.ListCheck.{ListCheck}
-use Rattle.lists.specs.Check.{hasNoElement, exceptMisplaced}
+use Rattle.lists.specs.Check.{exceptMisplaced}
 use Rattle.lists.specs.Walk.{onFound}
 
 -- ## Checking a list
@@ -40,7 +41,7 @@ abbrev pub checks : Bool → Bool → Bool → Bool → ListCheck
 checks e m r u = record { empty = e; misplaced = m; reserved = r; unsound = u }
 
 unfoldable pub listCheck : (List ℕ → Element) → List (List ℕ) → ListCheck
-listCheck kind ws = checks (hasNoElement ws) (exceptMisplaced false ws) (any reservedStart ws) (any (isUnsound kind) ws)
+listCheck kind ws = checks (all isExcept ws) (exceptMisplaced false ws) (any reservedStart ws) (any (isUnsound kind) ws)
 
 abbrev pub listStart : ListCheck
 listStart = checks true false false false
@@ -48,7 +49,7 @@ listStart = checks true false false false
 unfoldable pub listFrom : (List ℕ → Element) → Bool → ListCheck → List (List ℕ) → ListCheck
 listFrom kind after c ws =
     checks
-    (c .empty && hasNoElement ws)
+    (c .empty && all isExcept ws)
     (c .misplaced || exceptMisplaced after ws)
     (c .reserved || any reservedStart ws)
     (c .unsound || any (isUnsound kind) ws)
@@ -93,8 +94,8 @@ restFault d s = lowestOf d (listCheck clientElement (clientWords s)) (badCommand
 -- ## Looking at a list
 
 -- what the list after EXCEPT finds, turned round
-abbrev pub turned : Found → Found
-turned f = onFound f N.No N.Yes
+abbrev pub negated : Found → Found
+negated f = onFound f N.No N.Yes
 
 abbrev pub daemonFinds : List ℕ → Endpoint → List ℕ → Found
 daemonFinds daemon server e = lookAt (daemonRequest daemon server) (daemonElement e)

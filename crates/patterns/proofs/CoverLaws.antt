@@ -2,25 +2,22 @@
 -- Assumes nothing.
 use Prim.Native.Nat.{ℕ, zero, suc, _+_, _-_, _*_, _/_, _%_, _^_, _<_, _≤_}
 use mathlib.Core.Bool.{Bool, true, false, true≢false}
-use mathlib.Core.Bool as Bool
 use mathlib.Core.List.{List, [], _∷_}
 use mathlib.Core.Option.{Option, none, some}
 use mathlib.Core.Path.{_≡_, refl, sym, ap, ap₂, _∙_}
-use native.Mathlib.Nat.{zero-add, add-zero, add-suc, mul-comm, div-add-mod', div-div-eq-div-mul, mod-eq-of-lt, pow-zero, pow-suc, div-one}
+use native.Mathlib.Nat.{add-zero, add-suc, mul-comm, div-add-mod', div-div-eq-div-mul, mod-eq-of-lt, pow-zero, pow-suc, div-one}
 use native.Mathlib.Omega.{arith}
-use borrow.Author.Tests.{eqb-true, eqb-false, eq-eqb, ne-eqb, lt-ltb, leb-true}
+use borrow.Author.Tests.{eq-eqb, ne-eqb, lt-ltb, leb-true}
 use lib.Bits.{bitAnd, and-mask}
 use lib.Dec.{eqb, leb, ltb}
 use lib.Pow.{pow-pos, shl-shr}
-use lib.ListN.{length, take, drop, getD}
+use lib.ListN.{length, take, drop}
 use lib.Seq.{take-all, take-append-le}
-use Rattle.text.specs.Basics.{if_then_else_, _>>=_, _orElse_, given, holds, isSome, isEmpty, any, all, each}
+use Rattle.text.specs.Basics.{if_then_else_, _>>=_, _orElse_, given, holds, isSome, all, each}
 use Rattle.text.specs.Text.{bytes, among, lastAmong, startsWith, splitOnce, split, equal}
-use Rattle.text.specs.Number.{fromDigits, toDigits, numeral, readDecimal}
-use Rattle.text.specs.Scan.{indexOf}
+use Rattle.text.specs.Number.{fromDigits, toDigits, readDecimal}
 use Rattle.text.proofs.Digits.{length-toDigits, fromDigits-toDigits, toDigits-fromDigits}
-use Rattle.text.proofs.Intercalate.{each-none}
-use Rattle.text.proofs.ScanLaws.{splitOnce-mark, splitOnce-no-mark, equal-refl, eq-of-equal}
+use Rattle.text.proofs.ScanLaws.{equal-refl, eq-of-equal}
 use Rattle.address.specs.Address.{samePrefix, addrCase, readV4, readV6}
 use Rattle.address.specs.declared.Addr.{Addr}
 use Rattle.address.specs.declared.Addr.the-variants as A
@@ -35,7 +32,6 @@ use Rattle.patterns.specs.declared.net.NetRead.the-variants as R
 use Rattle.patterns.specs.declared.net.PrefixRead.{PrefixRead}
 use Rattle.patterns.specs.declared.net.PrefixRead.the-variants as P
 use Rattle.patterns.proofs.DottedLaws.{dottedFields-pos}
-use Rattle.patterns.proofs.TestLaws.{ends-in-dot, getD-indexOf, indexOf-length, lastAmong-drop}
 
 -- ## Leading fields
 
@@ -60,7 +56,8 @@ take-toDigits b k (suc j) n =
     rw (add-suc k j, take-append-le k (toDigits b (k + j) (n / b)) (n % b ∷ []) (omega (arith, length-toDigits b (k + j) (n / b))))
     (take-toDigits b k j (n / b) ∙ ap (toDigits b k) (div-div-eq-div-mul n b (b ^ j) ∙ ap (λ (p : ℕ). n / p) (mul-comm b (b ^ j) ∙ sym (pow-suc b j))))
 
-equal-digits : (b k x : ℕ) (fs : List ℕ) → 0 < b → all (λ d. ltb d b) fs ≡ true → length fs ≡ k → x < b ^ k → equal fs (toDigits b k x) ≡ eqb (fromDigits b 0 fs) x
+equal-digits : (b k x : ℕ) (fs : List ℕ) → 0 < b → all (λ d. ltb d b) fs ≡ true → length fs ≡ k → x < b ^ k → equal fs (toDigits b k x)
+    ≡ eqb (fromDigits b 0 fs) x
 equal-digits b k x fs pos below len lt = by (equal fs (toDigits b k x)) refl
   where
     by : (t : Bool) → equal fs (toDigits b k x) ≡ t → equal fs (toDigits b k x) ≡ eqb (fromDigits b 0 fs) x
@@ -86,7 +83,8 @@ module _ (fs : List ℕ) (below : all (λ d. ltb d 256) fs ≡ true) (a : ℕ) (
       rw (e, m, and-leading 32 k (q - 1) h refl a small)
       (eqb-iff n (a / q) (n * q) (a / q * q) (ap (λ (x : ℕ). x * q)) (λ r. sym (shl-shr n (32 - k)) ∙ ap (λ (x : ℕ). x / q) r ∙ shl-shr (a / q) (32 - k)))
 
-  leadingNet-covers : (k : ℕ) → length fs ≡ k → 1 ≤ k → k ≤ 3 → startsWith fs (toDigits 256 4 a) ≡ eqb (n * 2 ^ (32 - 8 * k)) (bitAnd a (2 ^ 32 - 2 ^ (32 - 8 * k)))
+  leadingNet-covers : (k : ℕ) → length fs ≡ k → 1 ≤ k → k ≤ 3 → startsWith fs (toDigits 256 4 a)
+      ≡ eqb (n * 2 ^ (32 - 8 * k)) (bitAnd a (2 ^ 32 - 2 ^ (32 - 8 * k)))
   leadingNet-covers zero len h l = absurd (omega arith)
   leadingNet-covers (suc zero) len h l = starts 1 3 len (omega arith) ∙ shifted 8 16777216 (omega arith) refl
   leadingNet-covers (suc (suc zero)) len h l = starts 2 2 len (omega arith) ∙ shifted 16 65536 (omega arith) refl
@@ -174,7 +172,8 @@ module _ (e : List ℕ) (a : ℕ) (small : a < 4294967296) where
   }
 
   pub dottedTest-net : (r : NetRead) → r ≡ asNet (dottedNet e) → (x : Bool) → x ≡ netCovers r a → x ≡ holds (λ f. f a) (dottedTest e)
-  dottedTest-net r is-r x k = k ∙ ap (λ (n : NetRead). netCovers n a) is-r ∙ by (dottedNet e) ∙ sym (dottedNet-alike (λ f. f a) (λ q. eqb (q .0) (bitAnd a (q .1))) at-address e)
+  dottedTest-net r is-r x k = k ∙ ap (λ (n : NetRead). netCovers n a) is-r ∙ by (dottedNet e)
+      ∙ sym (dottedNet-alike (λ f. f a) (λ q. eqb (q .0) (bitAnd a (q .1))) at-address e)
     where
       by : (o : Option (ℕ × ℕ)) → netCovers (asNet o) a ≡ holds (λ q. eqb (q .0) (bitAnd a (q .1))) o
       by none = refl
@@ -197,13 +196,15 @@ module _ (e : List ℕ) where
   unfolding dottedPattern dottedTest
   dottedPattern-matches h = by (dottedTest e)
     where
-      by : (o : Option (ℕ → Bool)) → matchesPattern (o >>= λ f. some (λ h. addrCase (h .host .addr) false f (λ a. false))) h ≡ addrCase (h .host .addr) false (λ a. holds (λ f. f a) o) (λ a. false)
+      by : (o : Option (ℕ → Bool)) → matchesPattern (o >>= λ f. some (λ h. addrCase (h .host .addr) false f (λ a. false))) h
+          ≡ addrCase (h .host .addr) false (λ a. holds (λ f. f a) o) (λ a. false)
       by none = none-covers (h .host .addr)
       by (some f) = refl
 
   pub dottedPattern-sound : isSome (dottedPattern e) ≡ isSome (dottedNet e)
   unfolding dottedPattern dottedTest
-  dottedPattern-sound = by (dottedTest e) ∙ dottedNet-alike (λ f. true) (λ q. true) (record { address = λ n. refl; masked = λ n m. refl; leading = λ fs below h l. refl }) e
+  dottedPattern-sound = by (dottedTest e)
+      ∙ dottedNet-alike (λ f. true) (λ q. true) (record { address = λ n. refl; masked = λ n m. refl; leading = λ fs below h l. refl }) e
     where
       by : (o : Option (ℕ → Bool)) → isSome {A = Endpoint → Bool} (o >>= λ f. some (λ h. addrCase (h .host .addr) false f (λ a. false))) ≡ isSome o
       by none = refl
@@ -250,16 +251,10 @@ asNet-sound : (o : Option (ℕ × ℕ)) (r : NetRead) → r ≡ asNet o → (r �
 asNet-sound none r q = (λ e. refl, λ n m e. let z : _≡_ {A = ℕ} 0 1 = cc in absurd (omega arith))
 asNet-sound (some p) r q = (λ e. let z : _≡_ {A = ℕ} 0 1 = cc in absurd (omega arith), λ n m e. refl)
 
-asPrefix-sound : (o : Option (ℕ × ℕ)) (r : PrefixRead) → r ≡ asPrefix o → (r ≡ P.Nothing → false ≡ isSome o) × ((h l m : ℕ) → r ≡ P.Prefix h l m → true ≡ isSome o)
+asPrefix-sound : (o : Option (ℕ × ℕ)) (r : PrefixRead) → r ≡ asPrefix o → (r ≡ P.Nothing → false ≡ isSome o)
+    × ((h l m : ℕ) → r ≡ P.Prefix h l m → true ≡ isSome o)
 asPrefix-sound none r q = (λ e. refl, λ h l m e. let z : _≡_ {A = ℕ} 0 1 = cc in absurd (omega arith))
 asPrefix-sound (some p) r q = (λ e. let z : _≡_ {A = ℕ} 0 1 = cc in absurd (omega arith), λ h l m e. refl)
-
-module _ (e : List ℕ) (r : NetRead) (is-r : r ≡ asNet (dottedNet e)) where
-  pub dottedPattern-nothing : r ≡ R.Nothing → false ≡ isSome (dottedPattern e)
-  dottedPattern-nothing q = asNet-sound (dottedNet e) r is-r .0 q ∙ sym (dottedPattern-sound e)
-
-  pub dottedPattern-net : (n m : ℕ) → r ≡ R.Net n m → true ≡ isSome (dottedPattern e)
-  dottedPattern-net n m q = asNet-sound (dottedNet e) r is-r .1 n m q ∙ sym (dottedPattern-sound e)
 
 prefixLength-le : (t : List ℕ) (m : ℕ) → prefixLength t ≡ some m → m ≤ 128
 unfolding prefixLength
@@ -317,6 +312,3 @@ module _ (e : List ℕ) (r : PrefixRead) (is-r : r ≡ asPrefix (bracketPrefix e
             let u : p .0 / 2 ^ 64 ≡ h = cc in
             let v : p .0 % 2 ^ 64 ≡ l = cc in
             rw (← n, ← u, ← v, div-add-mod' (p .0) (2 ^ 64))
-
-pub netCovers-net : (r : NetRead) (n m a : ℕ) → r ≡ R.Net n m → (x : Bool) → x ≡ eqb n (bitAnd a m) → x ≡ netCovers r a
-netCovers-net r n m a q x k = rw q k

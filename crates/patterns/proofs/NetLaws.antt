@@ -57,7 +57,8 @@ unfolding prefixLength any
 prefixLength-bad [] h n = absurd (h refl)
 prefixLength-bad (x ∷ s) h n = rw (ne-eqb x 47 n)
 
-pub prefixLength-read : (s : List ℕ) → (length s ≡ 0 → ⊥) → getD s 0 0 ≡ 47 → (r : NumberRead) → r ≡ asNumber (readDecimal 128 (take (length s - 1) (drop 1 s))) → r ≡ asNumber (prefixLength s)
+pub prefixLength-read : (s : List ℕ) → (length s ≡ 0 → ⊥) → getD s 0 0 ≡ 47 → (r : NumberRead) → r ≡ asNumber (readDecimal 128 (take (length s - 1) (drop 1 s)))
+    → r ≡ asNumber (prefixLength s)
 unfolding prefixLength any
 prefixLength-read [] h n r q = absurd (h refl)
 prefixLength-read (x ∷ s) h n r q = q ∙ ap (λ (l : List ℕ). asNumber (readDecimal 128 l)) (take-rest (x ∷ s) 1) ∙ rw (eq-eqb x 47 n)

@@ -2,42 +2,51 @@
 -- Assumes nothing.
 use Prim.Native.Nat.{ℕ, _-_, _<_, _≤_}
 use Prim.Native.String.{String}
-use mathlib.Core.Bool.{Bool, true, false, not, _&&_}
+use mathlib.Core.Bool.{Bool, true, false, not, _&&_, _||_, true≢false}
 use mathlib.Core.Bool as Bool
 use mathlib.Core.List.{List, [], _∷_}
 use mathlib.Core.Path.{_≡_, refl, sym, ap₂, _∙_}
 use native.Mathlib.Omega.{arith}
-use borrow.Author.Tests.{ne-eqb, le-leb, lt-leb}
-use lib.Dec.{leb, ltb}
+use borrow.Author.Tests.{eq-eqb, ne-eqb, le-leb, lt-leb, not-true}
+use lib.Dec.{eqb, leb, ltb}
 use lib.ListN.{length, drop, getD}
 use Rattle.text.specs.Basics.{if_then_else_, _orElse_, given, isSome, first, all, any}
+use Rattle.text.proofs.BasicLaws.{or-false}
 use Rattle.text.specs.Text.{bytes, isWord, among, firstAmong, lastAmong, inRange, equalFold}
 use Rattle.text.proofs.ScanLaws.{equalFold-lengths}
 use Rattle.patterns.specs.declared.pattern.Wildcard.{Wildcard}
 use Rattle.patterns.specs.declared.pattern.Wildcard.the-variants as W
 use Rattle.patterns.specs.declared.pattern.Form.the-variants as F
 use Rattle.patterns.specs.Pattern.{wildcard, isNameByte, domainPattern, bracketPattern, dottedPattern, namePattern, hostPattern}
-use Rattle.patterns.specs.Code.{wildcardOf, formOf, isDottedByte, wildcardPattern, formPattern, matchesPattern, hostMatches, domainCovers, plainCovers}
+use Rattle.patterns.specs.Code.{wordSize, wildcardOf, formOf, isDottedByte, wildcardPattern, formPattern, matchesPattern, domainCovers, plainCovers}
 use Rattle.patterns.specs.Host.{Endpoint, endpoint, nameKnown}
 use Rattle.patterns.specs.declared.Host.{Host}
-use Rattle.patterns.specs.declared.pattern.Form.{Form}
 use Rattle.patterns.proofs.TestLaws.{firstAmong-head, lastAmong-last}
 
 -- ## Wildcards
 
-not-word : (w : String) (e : List ℕ) → length (bytes w) < length e → isWord w e ≡ false
-not-word w e h = equalFold-lengths (bytes w) e (λ q. omega arith)
+not-word : (w : String) (e : List ℕ) → eqb (length e) (length (bytes w)) ≡ false → isWord w e ≡ false
+not-word w e h = equalFold-lengths (bytes w) e (λ q. true≢false (sym (eq-eqb (length e) (length (bytes w)) (sym q)) ∙ h))
 
-pub wildcardOf-long : (e : List ℕ) → 8 < length e → W.Nothing ≡ wildcardOf e
+pub wildcardOf-size : (e : List ℕ) → wordSize (length e) ≡ false → W.Nothing ≡ wildcardOf e
 unfolding wildcardOf
-wildcardOf-long e h =
+wildcardOf-size e h =
+    let three : (eqb (length e) 3 ≡ false)
+    × ((eqb (length e) 5 || (eqb (length e) 7 || eqb (length e) 8)) ≡ false) = or-false (eqb (length e) 3)
+    (eqb (length e) 5 || (eqb (length e) 7 || eqb (length e) 8)) h in
+    let five : (eqb (length e) 5 ≡ false)
+    × ((eqb (length e) 7 || eqb (length e) 8) ≡ false) = or-false (eqb (length e) 5) (eqb (length e) 7 || eqb (length e) 8) (three .1) in
+    let seven : (eqb (length e) 7 ≡ false) × (eqb (length e) 8 ≡ false) = or-false (eqb (length e) 7) (eqb (length e) 8) (five .1) in
     rw (
-      not-word "ALL" e (omega arith),
-      not-word "LOCAL" e (omega arith),
-      not-word "KNOWN" e (omega arith),
-      not-word "UNKNOWN" e (omega arith),
-      not-word "PARANOID" e (omega arith),
+      not-word "ALL" e (three .0),
+      not-word "LOCAL" e (five .0),
+      not-word "KNOWN" e (five .0),
+      not-word "UNKNOWN" e (seven .0),
+      not-word "PARANOID" e (seven .1),
     )
+
+pub wildcardOf-sized : (e : List ℕ) (x : Bool) → x ≡ wordSize (length e) → not x ≡ true → W.Nothing ≡ wildcardOf e
+wildcardOf-sized e x is-x n = wildcardOf-size e (sym is-x ∙ not-true x n)
 
 module _ (e : List ℕ) (a : Bool) (is-a : a ≡ isWord "ALL" e) where
   pub wildcardOf-all : a ≡ true → W.All ≡ wildcardOf e
@@ -143,7 +152,8 @@ module _ (e : List ℕ) where
   unfolding domainCovers
   domainCovers-ends n x q y r k = rw (← q, y) k
 
-  pub domainCovers-differs : (n : List ℕ) (x : Bool) → x ≡ (ltb (length e) (length n) && equalFold e (drop (length n - length e) n)) → x ≡ false → false ≡ domainCovers e n
+  pub domainCovers-differs : (n : List ℕ) (x : Bool) → x ≡ (ltb (length e) (length n) && equalFold e (drop (length n - length e) n)) → x ≡ false → false
+      ≡ domainCovers e n
   unfolding domainCovers
   domainCovers-differs n x q y = rw (← q, y)
 
@@ -189,8 +199,10 @@ module _ (e : List ℕ) (host : Host) (name : List ℕ) (x : Bool) (is-x : x ≡
   pub domainPattern-matches : y ≡ domainCovers e name → (x && y) ≡ matchesPattern (domainPattern e) (endpoint host name)
   unfolding domainPattern domainCovers
   domainPattern-matches is-y =
-      ap₂ _&&_ is-x is-y ∙ by (nameKnown (endpoint host name)) (ltb (length e) (length name)) (equalFold e (drop (length name - length e) name)) (isSome (domainPattern e))
-      ∙ met (all isNameByte e && inRange 2 255 (length e)) (λ h. nameKnown h && ltb (length e) (length (h .name)) && equalFold e (drop (length (h .name) - length e) (h .name))) (endpoint host name)
+      ap₂ _&&_ is-x is-y
+      ∙ by (nameKnown (endpoint host name)) (ltb (length e) (length name)) (equalFold e (drop (length name - length e) name)) (isSome (domainPattern e))
+      ∙ met (all isNameByte e && inRange 2 255 (length e))
+      (λ h. nameKnown h && ltb (length e) (length (h .name)) && equalFold e (drop (length (h .name) - length e) (h .name))) (endpoint host name)
     where
       by : (k l q s : Bool) → (k && (l && q && s)) ≡ (k && l && q && s)
       by true l q s = refl
@@ -208,18 +220,12 @@ module _ (e : List ℕ) (host : Host) (name : List ℕ) (x : Bool) (is-x : x ≡
 
 -- ## A pattern, by what it is read as
 
-module _ (e : List ℕ) (f v : Form) (is-f : f ≡ formOf e) (is-v : f ≡ v) where
-  pub formPattern-sound : (r : Bool) → r ≡ isSome (formPattern v e) → r ≡ isSome (formPattern (formOf e) e)
-  formPattern-sound r q = rw (← is-f, is-v) q
-
-  pub formPattern-matches : (h : Endpoint) (r : Bool) → r ≡ matchesPattern (formPattern v e) h → r ≡ matchesPattern (formPattern (formOf e) e) h
-  formPattern-matches h r q = rw (← is-f, is-v) q
-
 hostPattern-is : (e : List ℕ) → hostPattern e ≡ wildcardPattern (wildcardOf e) orElse formPattern (formOf e) e
 unfolding hostPattern formOf
 hostPattern-is e = rw (wildcard-of e) (by (firstAmong "." e) (firstAmong "[" e) (all isDottedByte e))
   where
-    by : (a b c : Bool) → (wildcardPattern (wildcardOf e) orElse (if a then domainPattern e else if b then bracketPattern e else if c then dottedPattern e else namePattern e))
+    by : (a b c : Bool)
+        → (wildcardPattern (wildcardOf e) orElse (if a then domainPattern e else if b then bracketPattern e else if c then dottedPattern e else namePattern e))
         ≡ (wildcardPattern (wildcardOf e) orElse formPattern (if a then F.Domain else if b then F.Bracket else if c then F.Dotted else F.Plain) e)
     by true b c = refl
     by false true c = refl
@@ -229,10 +235,3 @@ hostPattern-is e = rw (wildcard-of e) (by (firstAmong "." e) (firstAmong "[" e) 
 module _ (e : List ℕ) (w v : Wildcard) (is-w : w ≡ wildcardOf e) (is-v : w ≡ v) where
   pub hostPattern-at : hostPattern e ≡ wildcardPattern v orElse formPattern (formOf e) e
   hostPattern-at = hostPattern-is e ∙ rw (← is-w, is-v)
-
-  pub hostPattern-sound : (r : Bool) → r ≡ isSome (wildcardPattern v orElse formPattern (formOf e) e) → r ≡ isSome (hostPattern e)
-  hostPattern-sound r q = rw hostPattern-at q
-
-  pub hostMatches-at : (h : Endpoint) (r : Bool) → r ≡ matchesPattern (wildcardPattern v orElse formPattern (formOf e) e) h → r ≡ hostMatches e h
-  unfolding hostMatches
-  hostMatches-at h r q = rw hostPattern-at q

@@ -3,14 +3,16 @@
 use Prim.Native.Nat.{ℕ, _+_, _*_, _^_, _<_}
 use mathlib.Core.Bool.{Bool, true, false, not, _&&_, _||_, true≢false}
 use mathlib.Core.Bool as Bool
-use mathlib.Core.List.{List, []}
+use mathlib.Core.List.{List, [], _∷_}
 use mathlib.Core.Option.{Option, none, some}
 use mathlib.Core.Path.{_≡_, refl, sym, ap, ap₂, _∙_}
 use lib.Bits.{bitAnd}
 use lib.Dec.{eqb}
-use Rattle.text.specs.Basics.{_orElse_, isSome, any}
+use lib.ListN.{length, getD}
+use native.Mathlib.Omega.{arith}
+use Rattle.text.specs.Basics.{_orElse_, isSome, any, all}
 use Rattle.text.specs.Text.{among}
-use Rattle.text.proofs.BasicLaws.{and-true}
+use Rattle.text.proofs.BasicLaws.{and-true, all-getD}
 use Rattle.address.specs.Address.{samePrefix, addrCase}
 use Rattle.address.specs.declared.Addr.{Addr}
 use Rattle.address.specs.declared.Addr.the-variants as A
@@ -25,10 +27,10 @@ use Rattle.patterns.specs.declared.pattern.Form.the-variants as F
 use Rattle.patterns.specs.declared.pattern.Wildcard.{Wildcard}
 use Rattle.patterns.specs.declared.pattern.Wildcard.the-variants as W
 use Rattle.patterns.specs.Host.{Endpoint, endpoint, nameCase, nameKnown, addrKnown}
-use Rattle.patterns.specs.Pattern.{Pattern, domainPattern, bracketPattern, dottedPattern, namePattern, hostPattern}
-use Rattle.patterns.specs.Code.{hostSeen, patternSeen, matchesPattern, wildcardOf, wildcardPattern, formOf, formPattern, domainCovers, plainCovers}
+use Rattle.patterns.specs.Pattern.{Pattern, isNameByte, domainPattern, bracketPattern, dottedPattern, namePattern, hostPattern}
+use Rattle.patterns.specs.Code.{isDottedByte, Named, hostSeen, patternSeen, matchesPattern, wildcardOf, wildcardPattern, formOf, formPattern, domainCovers, plainCovers}
 use Rattle.patterns.specs.Code.{asNet, dottedNet, netSound, netCovers, dottedCovers, asPrefix, bracketPrefix, prefixHolds, prefixCovers, bracketCovers}
-use Rattle.patterns.proofs.PatternLaws.{domainPattern-matches, namePattern-matches, hostPattern-at}
+use Rattle.patterns.proofs.PatternLaws.{wildcardOf-size, formOf-domain, formOf-plain, domainPattern-matches, namePattern-matches, hostPattern-at}
 use Rattle.patterns.proofs.CoverLaws.{dottedTest-net, dottedPattern-sound, dottedPattern-matches, bracketPattern-matches}
 use Rattle.patterns.proofs.CoverLaws.{bracketPattern-nothing, bracketPattern-prefix, prefixCovers-nothing, prefixCovers-prefix}
 
@@ -183,3 +185,34 @@ module _ (e : List ℕ) (w : Wildcard) (is-w : w ≡ wildcardOf e) (look : Bool)
 
   pub seen-paranoid : w ≡ W.Paranoid → (x : Bool) → x ≡ nameCase (endpoint host []) false true false → Found (hostSeen true (look && x))
   seen-paranoid q x is-x = wildcard-seen W.Paranoid (λ h. nameCase h false true false) refl q x is-x
+
+-- ## A text that is told to be a domain or a name
+
+pub named-names : (e : List ℕ) → Named e → true ≡ all isNameByte e
+named-names e h = sym (h .names)
+
+pub named-full : (e : List ℕ) → Named e → 0 < length e
+unfolding all
+named-full [] h = absurd (true≢false (h .not-dotted))
+named-full (x ∷ t) h = omega arith
+
+module _ (e : List ℕ) (h : Named e) (look : Bool) (host : Host) (name : List ℕ) (s m : Bool) where
+  full : length e ≡ 0 → ⊥
+  full z = omega (arith, named-full e h)
+
+  seen-named : (x : HostSeen) → x ≡ patternSeen look (formPattern (formOf e) e) (endpoint host name) → x ≡ patternSeen look (hostPattern e) (endpoint host name)
+  seen-named = seen-form e (wildcardOf e) refl look host name (sym (wildcardOf-size e (h .size)))
+
+  pub named-domain : getD e 0 0 ≡ 46 → s ≡ isSome (domainPattern e) → m ≡ (look && matchesPattern (domainPattern e) (endpoint host name))
+      → hostSeen s m ≡ patternSeen look (hostPattern e) (endpoint host name)
+  named-domain q is-s is-m = seen-named (hostSeen s m) (seen-domain e (formOf e) refl look host name (sym (formOf-domain e full q)) s m is-s is-m)
+
+  no-bracket : getD e 0 0 ≡ 91 → ⊥
+  unfolding isNameByte any
+  no-bracket q = true≢false (sym (all-getD isNameByte e 0 0 (h .names) (named-full e h)) ∙ ap isNameByte q)
+
+  pub named-plain : (getD e 0 0 ≡ 46 → ⊥) → s ≡ isSome (namePattern e) → m ≡ (look && matchesPattern (namePattern e) (endpoint host name))
+      → hostSeen s m ≡ patternSeen look (hostPattern e) (endpoint host name)
+  named-plain n is-s is-m =
+      seen-named (hostSeen s m)
+      (seen-plain e (formOf e) refl look host name (sym (formOf-plain e full n no-bracket (all isDottedByte e) refl (h .not-dotted))) s m is-s is-m)

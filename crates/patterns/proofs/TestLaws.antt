@@ -63,7 +63,8 @@ unfolding indexOf spanLen any
 no-dot [] = refl
 no-dot (x ∷ s) = by (eqb x 46) refl (no-dot s)
   where
-    by : (t : Bool) → eqb x 46 ≡ t → eqb (indexOf 46 s) (length s) ≡ not (any (among ".") s) → eqb (indexOf 46 (x ∷ s)) (length (x ∷ s)) ≡ not (any (among ".") (x ∷ s))
+    by : (t : Bool) → eqb x 46 ≡ t → eqb (indexOf 46 s) (length s) ≡ not (any (among ".") s) → eqb (indexOf 46 (x ∷ s)) (length (x ∷ s))
+        ≡ not (any (among ".") (x ∷ s))
     by true e ih = simp e (ne-eqb 0 (suc (length s)) (λ q. omega arith))
     by false e ih = simp e (eqb-suc (indexOf 46 s) (length s) ∙ ih)
 
@@ -125,7 +126,8 @@ ends-in-dot t n = lastAmong-last "." t (length t - 1) n refl ∙ Bool.or-false (
 
 pub no-dot-at-end : (t : List ℕ) → length t ≤ indexOf 46 t → lastAmong "." t ≡ false
 no-dot-at-end [] h = refl
-no-dot-at-end (x ∷ t) h = ends-in-dot (x ∷ t) (λ q. omega arith) ∙ ne-eqb (getD (x ∷ t) (length (x ∷ t) - 1) 0) 46 (λ q. omega (arith, indexOf-le 46 (x ∷ t) (length (x ∷ t) - 1) (omega arith) q))
+no-dot-at-end (x ∷ t) h = ends-in-dot (x ∷ t) (λ q. omega arith)
+    ∙ ne-eqb (getD (x ∷ t) (length (x ∷ t) - 1) 0) 46 (λ q. omega (arith, indexOf-le 46 (x ∷ t) (length (x ∷ t) - 1) (omega arith) q))
 
 pub dot-at-end : (t : List ℕ) → indexOf 46 t + 1 ≡ length t → lastAmong "." t ≡ true
 dot-at-end t e =

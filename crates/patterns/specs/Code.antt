@@ -5,10 +5,11 @@
 --   wildcardOf e, formOf e       == the wildcard that e is; what e is read as where it is none
 --   dottedNet e, bracketPrefix e == the net and mask, or the address and prefix length, that a pattern of addresses writes
 -- Assumes nothing: these are definitions.
-use Prim.Native.Nat.{ℕ, _+_, _-_, _*_, _/_, _%_, _^_}
+use Prim.Native.Nat.{ℕ, _-_, _*_, _/_, _%_, _^_}
 use mathlib.Core.Bool.{Bool, true, false, not, _&&_, _||_}
 use mathlib.Core.List.{List, [], _∷_}
 use mathlib.Core.Option.{Option, none, some}
+use mathlib.Core.Path.{_≡_}
 use lib.Dec.{leb, ltb, eqb}
 use lib.Bits.{bitAnd}
 use lib.ListN.{length, take, drop}
@@ -31,7 +32,7 @@ use Rattle.patterns.specs.declared.net.NetRead.the-variants as R
 use Rattle.patterns.specs.declared.net.PrefixRead.{PrefixRead}
 use Rattle.patterns.specs.declared.net.PrefixRead.the-variants as P
 use Rattle.patterns.specs.Host.{Endpoint, nameCase, nameKnown, addrKnown}
-use Rattle.patterns.specs.Pattern.{Pattern, domainPattern, leadingFields, netMask, bracketPattern, dottedPattern, namePattern, hostPattern}
+use Rattle.patterns.specs.Pattern.{Pattern, isNameByte, domainPattern, leadingFields, netMask, bracketPattern, dottedPattern, namePattern, hostPattern}
 
 -- ## Wildcards and forms
 
@@ -44,6 +45,10 @@ wildcardOf e =
     else if isWord "PARANOID" e then W.Paranoid
     else W.Nothing
 
+-- the lengths of the wildcards
+abbrev pub wordSize : ℕ → Bool
+wordSize n = eqb n 3 || (eqb n 5 || (eqb n 7 || eqb n 8))
+
 abbrev pub isDottedByte : ℕ → Bool
 isDottedByte b = isDigit b || among "./" b
 
@@ -53,6 +58,12 @@ formOf e =
     else if firstAmong "[" e then F.Bracket
     else if all isDottedByte e then F.Dotted
     else F.Plain
+
+-- a text that its bytes and its length tell to be a domain or a name
+pub record Named (e : List ℕ) : Type 0 where
+  pub size : wordSize (length e) ≡ false
+  pub names : all isNameByte e ≡ true
+  pub not-dotted : all isDottedByte e ≡ false
 
 -- what a wildcard matches
 abbrev pub wildcardPattern : Wildcard → Pattern

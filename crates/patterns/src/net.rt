@@ -1,7 +1,5 @@
 // Patterns of addresses: the dotted ones of IPv4 are read as a net and a mask, the bracketed ones of IPv6 as a prefix.
-//   dotted_sound(e), bracket_sound(e)                 == e is such a pattern
-//   dotted_matches(e, host), bracket_matches(e, host) == e is one that matches the host's address
-//   dotted_seen(e, look, host), bracket_seen(e, look, host) == both at once, in one reading
+//   dotted_seen(e, look, host), bracket_seen(e, look, host) == whether e is such a pattern and, if it is looked at, matches the host's address
 use super::Host;
 use super::HostSeen;
 use address::Addr;
@@ -87,7 +85,7 @@ fn read_dotted(e: &[u8]) -> NetRead
             if e.len() <= j {
                 return ended_net(n, k, v, begun);
             }
-            if e[j] != 47 {
+            if e[j] != b'/' {
                 return NetRead::Nothing;
             }
             let after = j + 1;
@@ -103,7 +101,7 @@ fn read_length(s: &[u8]) -> NumberRead
     if s.len() == 0 {
         return NumberRead::Value(128);
     }
-    if s[0] != 47 {
+    if s[0] != b'/' {
         return NumberRead::Nothing;
     }
     text::read_decimal(&s[1..], 128)
@@ -130,45 +128,12 @@ fn read_bracket(e: &[u8]) -> PrefixRead
         return PrefixRead::Nothing;
     }
     let s = &e[1..];
-    let i = text::index_of(s, 93);
+    let i = text::index_of(s, b']');
     if i == s.len() {
         return PrefixRead::Nothing;
     }
     let after = i + 1;
     pair_prefix(read_v6(&s[..i]), read_length(&s[after..]))
-}
-
-// Whether e is a dotted pattern.
-pub fn dotted_sound(e: &[u8]) -> bool
-    ensures { λ r. ⌜ r ≡ isSome (dottedPattern (now (e .entry))) ⌝ }
-{
-    let net = read_dotted(e);
-    match net {
-        NetRead::Nothing => false,
-        NetRead::Net(_, _) => true,
-    }
-}
-
-// Whether an address lies in a net that was read.
-fn net_covers(net: NetRead, a: u32) -> bool
-    ensures { λ r. ⌜ r ≡ netCovers net a ⌝ }
-{
-    match net {
-        NetRead::Nothing => false,
-        NetRead::Net(net, mask) => in_net(net, mask, a),
-    }
-}
-
-// Whether the dotted pattern e matches: an IPv4 address, never a name.
-pub fn dotted_matches(e: &[u8], host: Host) -> bool
-    ensures { λ r. ⌜ r ≡ dottedCovers (now (e .entry)) host ⌝ }
-{
-    let addr = host.addr;
-    match addr {
-        Addr::Unknown => false,
-        Addr::V4(a) => net_covers(read_dotted(e), a),
-        Addr::V6(_, _) => false,
-    }
 }
 
 // Whether a net was read, where no address is compared with it.
@@ -212,40 +177,6 @@ pub fn dotted_seen(e: &[u8], look: bool, host: Host) -> HostSeen
         Addr::Unknown => net_sound(read_dotted(e)),
         Addr::V4(a) => net_seen(read_dotted(e), look, a),
         Addr::V6(_, _) => net_sound(read_dotted(e)),
-    }
-}
-
-// Whether e is a bracketed pattern.
-pub fn bracket_sound(e: &[u8]) -> bool
-    ensures { λ r. ⌜ r ≡ isSome (bracketPattern (now (e .entry))) ⌝ }
-{
-    let prefix = read_bracket(e);
-    match prefix {
-        PrefixRead::Nothing => false,
-        PrefixRead::Prefix(_, _, _) => true,
-    }
-}
-
-// Whether the bracketed pattern e covers an IPv6 address.
-fn bracket_covers(e: &[u8], high: u64, low: u64) -> bool
-    ensures { λ r. ⌜ r ≡ prefixCovers (now (e .entry)) (high * 2 ^ 64 + low) ⌝ }
-{
-    let prefix = read_bracket(e);
-    match prefix {
-        PrefixRead::Nothing => false,
-        PrefixRead::Prefix(h, l, m) => same_prefix_v6(h, l, high, low, m),
-    }
-}
-
-// Whether the bracketed pattern e matches: an IPv6 address, in the first bits.
-pub fn bracket_matches(e: &[u8], host: Host) -> bool
-    ensures { λ r. ⌜ r ≡ bracketCovers (now (e .entry)) host ⌝ }
-{
-    let addr = host.addr;
-    match addr {
-        Addr::Unknown => false,
-        Addr::V4(_) => false,
-        Addr::V6(high, low) => bracket_covers(e, high, low),
     }
 }
 

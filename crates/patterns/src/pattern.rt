@@ -1,16 +1,12 @@
 // Host patterns: wildcards, domains and names, and which form a pattern has.
-//   host_sound(e)               == e is a host pattern
-//   host_matches(e, host, name) == e is one that matches the host
-//   host_seen(e, names, dotted, look, host, name) == both at once, by what is known of the bytes of e
+//   host_seen(e, names, dotted, look, host, name) == whether e is a host pattern and, if it is looked at, matches, by what is known of its bytes
+//   host_read(e, look, host, name)  == the same where nothing is known of them
+//   named_seen(e, look, host, name) == the same of what is told to be a domain or a name
 use super::Host;
 use super::HostSeen;
 use super::Name;
-use super::net::bracket_matches;
 use super::net::bracket_seen;
-use super::net::bracket_sound;
-use super::net::dotted_matches;
 use super::net::dotted_seen;
-use super::net::dotted_sound;
 use address::Addr;
 use text::equal_fold;
 ghost use mathlib.Core.Path.{_≡_};
@@ -20,7 +16,7 @@ ghost use Rattle.text.specs.Basics.{isSome, any, all};
 ghost use Rattle.text.specs.Text.{among};
 ghost use Rattle.patterns.specs.Host.{endpoint, nameCase, nameKnown, addrKnown};
 ghost use Rattle.patterns.specs.Pattern.{isNameByte, domainPattern, namePattern, hostPattern};
-ghost use Rattle.patterns.specs.Code.{wildcardOf, formOf, isDottedByte, formPattern, matchesPattern, patternSeen, hostMatches, domainCovers, plainCovers};
+ghost use Rattle.patterns.specs.Code.{wordSize, wildcardOf, formOf, isDottedByte, formPattern, matchesPattern, patternSeen, domainCovers, plainCovers, Named};
 
 // The wildcard that a text is.
 pub enum Wildcard {
@@ -40,11 +36,18 @@ pub enum Form {
     Plain,
 }
 
-// The wildcard that e is; the longest has eight bytes.
+// Whether a wildcard has n bytes.
+pub fn is_word_size(n: usize) -> bool
+    ensures { λ r. ⌜ r ≡ wordSize n ⌝ }
+{
+    (n == 3) | ((n == 5) | ((n == 7) | (n == 8)))
+}
+
+// The wildcard that e is; by its length most texts are none.
 pub fn read_wildcard(e: &[u8]) -> Wildcard
     ensures { λ r. ⌜ r ≡ wildcardOf (now (e .entry)) ⌝ }
 {
-    if 8 < e.len() {
+    if !is_word_size(e.len()) {
         return Wildcard::Nothing;
     }
     if equal_fold(b"ALL", e) {
@@ -69,7 +72,7 @@ pub fn read_wildcard(e: &[u8]) -> Wildcard
 pub fn is_name_byte(b: u8) -> bool
     ensures { λ r. ⌜ r ≡ isNameByte b ⌝ }
 {
-    text::is_letter(b) | text::is_digit(b) | ((b == 45) | ((b == 95) | (b == 46)))
+    text::is_letter(b) | text::is_digit(b) | ((b == b'-') | ((b == b'_') | (b == b'.')))
 }
 
 // Whether every byte of s may stand in a name.
@@ -91,7 +94,7 @@ pub fn is_name(s: &[u8]) -> bool
 fn is_dotted_byte(b: u8) -> bool
     ensures { λ r. ⌜ r ≡ isDottedByte b ⌝ }
 {
-    text::is_digit(b) | ((b == 46) | (b == 47))
+    text::is_digit(b) | ((b == b'.') | (b == b'/'))
 }
 
 // Whether s has only digits, dots and slashes.
@@ -118,10 +121,10 @@ fn read_form(e: &[u8], dotted: bool) -> Form
         return Form::Dotted;
     }
     let b = e[0];
-    if b == 46 {
+    if b == b'.' {
         return Form::Domain;
     }
-    if b == 91 {
+    if b == b'[' {
         return Form::Bracket;
     }
     if dotted { Form::Dotted } else { Form::Plain }
@@ -191,7 +194,7 @@ fn is_unknown(host: Host) -> bool
 fn has_no_dot(s: &[u8]) -> bool
     ensures { λ r. ⌜ r ≡ not (any (among ".") (now (s .entry))) ⌝ }
 {
-    text::index_of(s, 46) == s.len()
+    text::index_of(s, b'.') == s.len()
 }
 
 // LOCAL: a known name without a dot.
@@ -243,7 +246,7 @@ fn plain_sound(e: &[u8], names: bool) -> bool
         return false;
     }
     let last = e.len() - 1;
-    if e[last] == 46 {
+    if e[last] == b'.' {
         return false;
     }
     names
@@ -282,32 +285,6 @@ fn plain_matches(e: &[u8], look: bool, host: Host, name: &[u8]) -> bool
     }
 }
 
-// Whether e, no wildcard, is a pattern.
-fn form_sound(e: &[u8]) -> bool
-    ensures { λ r. ⌜ r ≡ isSome (formPattern (formOf (now (e .entry))) (now (e .entry))) ⌝ }
-{
-    let f = read_form(e, is_dotted(e));
-    match f {
-        Form::Domain => domain_sound(e, is_name(e)),
-        Form::Bracket => bracket_sound(e),
-        Form::Dotted => dotted_sound(e),
-        Form::Plain => plain_sound(e, is_name(e)),
-    }
-}
-
-// Whether e, no wildcard, matches.
-fn form_matches(e: &[u8], host: Host, name: &[u8]) -> bool
-    ensures { λ r. ⌜ r ≡ matchesPattern (formPattern (formOf (now (e .entry))) (now (e .entry))) (endpoint host (now (name .entry))) ⌝ }
-{
-    let f = read_form(e, is_dotted(e));
-    match f {
-        Form::Domain => domain_matches(e, true, host, name),
-        Form::Bracket => bracket_matches(e, host),
-        Form::Dotted => dotted_matches(e, host),
-        Form::Plain => plain_matches(e, true, host, name),
-    }
-}
-
 // Whether e, no wildcard, is a pattern and, if it is looked at, matches.
 fn form_seen(e: &[u8], names: bool, dotted: bool, look: bool, host: Host, name: &[u8]) -> HostSeen
     requires { ⌜ names ≡ all isNameByte (now e) ⌝ }
@@ -326,36 +303,6 @@ fn form_seen(e: &[u8], names: bool, dotted: bool, look: bool, host: Host, name: 
             sound: plain_sound(e, names),
             matches: plain_matches(e, look, host, name),
         },
-    }
-}
-
-// Whether e is a host pattern.
-pub fn host_sound(e: &[u8]) -> bool
-    ensures { λ r. ⌜ r ≡ isSome (hostPattern (now (e .entry))) ⌝ }
-{
-    let w = read_wildcard(e);
-    match w {
-        Wildcard::Nothing => form_sound(e),
-        Wildcard::All => true,
-        Wildcard::Local => true,
-        Wildcard::Known => true,
-        Wildcard::Unknown => true,
-        Wildcard::Paranoid => true,
-    }
-}
-
-// Whether e is a host pattern that matches the host.
-pub fn host_matches(e: &[u8], host: Host, name: &[u8]) -> bool
-    ensures { λ r. ⌜ r ≡ hostMatches (now (e .entry)) (endpoint host (now (name .entry))) ⌝ }
-{
-    let w = read_wildcard(e);
-    match w {
-        Wildcard::Nothing => form_matches(e, host, name),
-        Wildcard::All => true,
-        Wildcard::Local => is_local(host, name),
-        Wildcard::Known => is_known(host),
-        Wildcard::Unknown => is_unknown(host),
-        Wildcard::Paranoid => name_paranoid(host),
     }
 }
 
@@ -396,5 +343,29 @@ pub fn host_seen(
             sound: true,
             matches: look & name_paranoid(host),
         },
+    }
+}
+
+// Whether e is a host pattern and, if it is looked at, matches the host, where nothing is known of its bytes.
+pub fn host_read(e: &[u8], look: bool, host: Host, name: &[u8]) -> HostSeen
+    ensures { λ r. ⌜ r ≡ patternSeen look (hostPattern (now (e .entry))) (endpoint host (now (name .entry))) ⌝ }
+{
+    host_seen(e, is_name(e), is_dotted(e), look, host, name)
+}
+
+// The same of a text of name bytes that is as long as no wildcard and not only digits and dots: a domain or a name, by its first byte.
+pub fn named_seen(e: &[u8], look: bool, host: Host, name: &[u8]) -> HostSeen
+    requires { ⌜ Named (now e) ⌝ }
+    ensures { λ r. ⌜ r ≡ patternSeen look (hostPattern (now (e .entry))) (endpoint host (now (name .entry))) ⌝ }
+{
+    if e[0] == 46 {
+        return HostSeen {
+            sound: domain_sound(e, true),
+            matches: domain_matches(e, look, host, name),
+        };
+    }
+    HostSeen {
+        sound: plain_sound(e, true),
+        matches: plain_matches(e, look, host, name),
     }
 }

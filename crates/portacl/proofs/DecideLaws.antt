@@ -6,7 +6,7 @@ use mathlib.Core.List.{List, [], _∷_, map}
 use mathlib.Core.Option.{Option, none, some}
 use mathlib.Core.Path.{_≡_, refl, sym, ap, ap₂, _∙_}
 use native.Mathlib.Omega.{arith}
-use borrow.Author.Tests.{eq-eqb, ne-eqb, lt-ltb, le-ltb}
+use borrow.Author.Tests.{eq-eqb, ne-eqb, lt-ltb, le-ltb, lt-leb, le-leb}
 use lib.Dec.{ltb, eqb}
 use lib.ListN.{length}
 use Rattle.text.specs.Basics.{_>>=_, holds, any}
@@ -28,8 +28,8 @@ use Rattle.portacl.specs.declared.Ruling.the-variants.{Refused, Answered
 use Rattle.portacl.specs.declared.Settings.{Settings}
 use Rattle.portacl.specs.declared.Walked.{Walked}
 use Rattle.portacl.specs.declared.Walked.the-variants.{Bad, Sound}
-use Rattle.portacl.specs.Portacl.{Bind, rulingOf, readWord, readEntry, entries, entryFault, portaclFault, portaclDecision, decidePortacl}
-use Rattle.portacl.specs.Code.{bind, checkedOf, entryData, idData, protocolData, portData, grantsTo, entriesData, walk, decisionOf}
+use Rattle.portacl.specs.Portacl.{bind, Bind, portaclRuling, readWord, readEntry, entries, entryFault, portaclFault, portaclDecision, decidePortacl}
+use Rattle.portacl.specs.Code.{checkedOf, entryData, idData, protocolData, portData, grantsTo, entriesData, walk, decisionOf}
 
 -- what an entry that was read grants
 abbrev grantsOf : Option Entry → Option (Bind → Bool)
@@ -147,12 +147,13 @@ module _ (s : Settings) (uid port : ℕ) (granted : Bool) where
 
 -- ## The decision
 
-module _ (t : List ℕ) (s : Settings) (uid : ℕ) (groups : List ℕ) (protocol : Protocol) (port : ℕ) (o : Bool) (is-o : o ≡ ltb (S.portacl .limit) (length t)) where
+module _ (t : List ℕ) (s : Settings) (uid : ℕ) (groups : List ℕ) (protocol : Protocol) (port : ℕ) (o : Bool)
+    (is-o : o ≡ ltb (S.portacl .limit) (length t)) where
   abbrev b : Bind
   b = bind uid groups protocol port
 
   abbrev ruling : Ruling
-  ruling = rulingOf (decidePortacl t s b)
+  ruling = portaclRuling (decidePortacl t s (some b))
 
   pub decide-over : o ≡ true → (r : Refusal) → r ≡ refusal F.OverLimit (S.portacl .order) 0 → Refused r ≡ ruling
   unfolding decidePortacl
@@ -166,7 +167,7 @@ module _ (t : List ℕ) (s : Settings) (uid : ℕ) (groups : List ℕ) (protocol
 
       pub decide-many : c ≡ C.Sound → (r : Refusal) → r ≡ placeless F.BadRequest → Refused r ≡ ruling
       unfolding decidePortacl
-      decide-many q r is-r = rw (← is-o, e, checkedOf-sound (portaclFault t) (sym is-c ∙ q), lt-ltb 16 (length groups) many, is-r)
+      decide-many q r is-r = rw (← is-o, e, checkedOf-sound (portaclFault t) (sym is-c ∙ q), lt-leb (length groups) 16 many, is-r)
 
     module _ (few : length groups ≤ 16) (w : Walked) (is-w : w ≡ walk b 1 false (entriesData t)) where
       pub decide-bad : (n : ℕ) → w ≡ Bad n → (r : Refusal) → r ≡ refusal F.BadEntry (S.portacl .order) n → Refused r ≡ ruling
@@ -175,4 +176,4 @@ module _ (t : List ℕ) (s : Settings) (uid : ℕ) (groups : List ℕ) (protocol
 
       pub decide-answer : (g : Bool) → w ≡ Sound g → (d : Decision) → d ≡ decisionOf s uid port g → Answered d ≡ ruling
       unfolding decidePortacl portaclDecision decisionOf
-      decide-answer g q d is-d = rw (← is-o, e, fault-none t b w is-w g q, le-ltb 16 (length groups) few, ← (granting t b w is-w g q)) (ap Answered is-d)
+      decide-answer g q d is-d = rw (← is-o, e, fault-none t b w is-w g q, le-leb (length groups) 16 few, ← (granting t b w is-w g q)) (ap Answered is-d)

@@ -91,7 +91,8 @@ module _ (m : ℕ) (g : ℕ → List ℕ → Option Entry) (s : List ℕ) (i : �
   number-first-some j e r q = rw (parts-some (readDecimal m) g s i is-i n h) (number-some m (λ a. g a (after s i)) (take i s) k is-k j e r q)
 
 -- one of two words
-module _ {A : Type 0} (w v : String × A) (g : A → List ℕ → Option Entry) (s : List ℕ) (i : ℕ) (is-i : i ≡ indexOf 58 s) (n : i ≡ length s → ⊥) (h : i ≤ length s)
+module _ {A : Type 0} (w v : String × A) (g : A → List ℕ → Option Entry) (s : List ℕ) (i : ℕ) (is-i : i ≡ indexOf 58 s) (n : i ≡ length s → ⊥)
+    (h : i ≤ length s)
     (x : Bool) (is-x : x ≡ equal (bytes (w .0)) (take i s)) where
   abbrev word : EntryRead
   word = asEntry (parts (λ t. readWord t w v) g s)

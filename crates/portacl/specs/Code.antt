@@ -30,9 +30,6 @@ use Rattle.portacl.specs.declared.Walked.{Walked}
 use Rattle.portacl.specs.declared.Walked.the-variants.{Bad, Sound}
 use Rattle.portacl.specs.Portacl.{Bind, readWord, protocolWord}
 
-abbrev pub bind : ℕ → List ℕ → Protocol → ℕ → Bind
-bind u gs p n = record { uid = u; groups = gs; protocol = p; port = n }
-
 abbrev pub checkedOf : Option Refusal → Checked
 checkedOf none = C.Sound
 checkedOf (some r) = C.Refused r
@@ -78,7 +75,8 @@ entryData e = do
   idData group (a .1)
 
 unfoldable pub grantsTo : Entry → Bind → Bool
-grantsTo x b = equal (protocolWord (x .protocol)) (protocolWord (b .protocol)) && eqb (x .port) (b .port) && any (eqb (x .id)) (if x .group then b .groups else b .uid ∷ [])
+grantsTo x b = equal (protocolWord (x .protocol)) (protocolWord (b .protocol)) && eqb (x .port) (b .port) && any (eqb (x .id))
+    (if x .group then b .groups else b .uid ∷ [])
 
 -- ## The entries
 

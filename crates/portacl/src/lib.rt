@@ -6,12 +6,13 @@ use section::Refusal;
 use text::NumberRead;
 ghost use mathlib.Core.Bool.{false};
 ghost use mathlib.Core.List.{[], _∷_};
+ghost use mathlib.Core.Option.{some};
 ghost use mathlib.Core.Path.{_≡_};
 ghost use lib.Dec.{eqb};
 ghost use Rattle.text.specs.Basics.{if_then_else_, any};
 ghost use Rattle.text.specs.Text.{equal};
-ghost use Rattle.portacl.specs.Portacl.{protocolWord, rulingOf, portaclFault, decidePortacl};
-ghost use Rattle.portacl.specs.Code.{bind, checkedOf, asEntry, entryData, idData, protocolData, portData, grantsTo, entriesData, walk, decisionOf};
+ghost use Rattle.portacl.specs.Portacl.{bind, protocolWord, portaclRuling, portaclFault, decidePortacl};
+ghost use Rattle.portacl.specs.Code.{checkedOf, asEntry, entryData, idData, protocolData, portData, grantsTo, entriesData, walk, decisionOf};
 
 // The words of the decision.
 pub enum Decision {
@@ -252,7 +253,7 @@ pub fn decide(
     protocol: Protocol,
     port: u16,
 ) -> Ruling
-    ensures { λ r. ⌜ r ≡ rulingOf (decidePortacl (now (text .entry)) settings (record { uid = uid; groups = now (groups .entry); protocol = protocol; port = port })) ⌝ }
+    ensures { λ r. ⌜ r ≡ portaclRuling (decidePortacl (now (text .entry)) settings (some (bind uid (now (groups .entry)) protocol port))) ⌝ }
 {
     if section::Portacl::over(text.len()) {
         return Ruling::Refused(section::Portacl::refusal(Fault::OverLimit, 0));

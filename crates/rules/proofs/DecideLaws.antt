@@ -13,7 +13,7 @@ use Rattle.text.specs.Basics.{if_then_else_, _orElse_, given, first}
 use Rattle.text.proofs.ScanLaws.{take-rest}
 use Rattle.section.specs.declared.Fault.the-variants as F
 use Rattle.section.specs.declared.Refusal.{Refusal}
-use Rattle.section.specs.Refusal.{refusal, placeless, refusing}
+use Rattle.section.specs.Refusal.{refused, answered, refusal, placeless, _before_}
 use Rattle.section.specs.Section as S
 use Rattle.section.specs.Section.{part}
 use Rattle.lines.specs.Line.{lines}
@@ -26,42 +26,43 @@ use Rattle.rules.specs.declared.Ruling.the-variants as R
 use Rattle.rules.specs.declared.hosts_file.Pass.{Pass}
 use Rattle.rules.specs.declared.hosts_file.Pass.the-variants as P
 use Rattle.rules.specs.Check.{hostsFault}
-use Rattle.rules.specs.Search.{answer, lineAnswer, search, decide, rulingOf, commandBytes}
-use Rattle.rules.specs.FileCode.{hostsFaultAt, passOf, passText, isUnmatched, onward, passBoth, refusingRequest, rulingBy}
+use Rattle.rules.specs.Search.{answer, lineAnswer, search, decide, verdictRuling, commandBytes}
+use Rattle.rules.specs.FileCode.{hostsFaultAt, passOf, passText, isUnmatched, combined, passBoth, refusingRequest, rulingBy}
 
 -- ## The pass over both files
 
 module _ (p q : Pass) where
-  pub on-faulty : (g : Refusal) → p ≡ P.Faulty g → P.Faulty g ≡ onward p q
+  pub on-faulty : (g : Refusal) → p ≡ P.Faulty g → P.Faulty g ≡ combined p q
   on-faulty g e = rw e
 
-  pub on-unmatched : p ≡ P.Unmatched → q ≡ onward p q
+  pub on-unmatched : p ≡ P.Unmatched → q ≡ combined p q
   on-unmatched e = rw e
 
   module _ (a : Answer) (e : p ≡ P.Matched a) where
-    pub on-then-faulty : (g : Refusal) → q ≡ P.Faulty g → P.Faulty g ≡ onward p q
+    pub on-then-faulty : (g : Refusal) → q ≡ P.Faulty g → P.Faulty g ≡ combined p q
     on-then-faulty g f = rw (e, f)
 
-    pub on-then-unmatched : q ≡ P.Unmatched → P.Matched a ≡ onward p q
+    pub on-then-unmatched : q ≡ P.Unmatched → P.Matched a ≡ combined p q
     on-then-unmatched f = rw (e, f)
 
-    pub on-then-matched : (c : Answer) → q ≡ P.Matched c → P.Matched a ≡ onward p q
+    pub on-then-matched : (c : Answer) → q ≡ P.Matched c → P.Matched a ≡ combined p q
     on-then-matched c f = rw (e, f)
 
 -- an answer in the second text is looked for only if the first one has none
-onward-pass : (o o′ : Option Refusal) (x x′ : Option Answer)
-    → onward (passOf o x) (passOf o′ (if isUnmatched (passOf o x) then x′ else none)) ≡ passOf (o orElse o′) (x orElse x′)
-onward-pass (some g) o′ x x′ = refl
-onward-pass none o′ none x′ = refl
-onward-pass none none (some a) x′ = refl
-onward-pass none (some g) (some a) x′ = refl
+combined-pass : (o o′ : Option Refusal) (x x′ : Option Answer)
+    → combined (passOf o x) (passOf o′ (if isUnmatched (passOf o x) then x′ else none)) ≡ passOf (o orElse o′) (x orElse x′)
+combined-pass (some g) o′ x x′ = refl
+combined-pass none o′ none x′ = refl
+combined-pass none none (some a) x′ = refl
+combined-pass none (some g) (some a) x′ = refl
 
 pub both-pass : (r : Request) (allow deny : List ℕ) (p : Pass) → p ≡ passText 1 Granted Allow true r allow → (b : Bool) → b ≡ isUnmatched p
-    → (q : Pass) → q ≡ passText 2 Denied Deny b r deny → (s : Pass) → s ≡ onward p q → s ≡ passBoth r allow deny
+    → (q : Pass) → q ≡ passText 2 Denied Deny b r deny → (s : Pass) → s ≡ combined p q → s ≡ passBoth r allow deny
 unfolding passBoth passText hostsFaultAt hostsFault
 both-pass r allow deny p is-p b is-b q is-q s is-s =
     is-s ∙ rw (is-q, is-b, is-p)
-    (onward-pass (hostsFault S.allow allow) (hostsFault S.deny deny) (first (lineAnswer Granted Allow r) (lines allow)) (first (lineAnswer Denied Deny r) (lines deny)))
+    (combined-pass (hostsFault S.allow allow) (hostsFault S.deny deny) (first (lineAnswer Granted Allow r) (lines allow))
+    (first (lineAnswer Denied Deny r) (lines deny)))
 
 -- ## The ruling
 
@@ -84,7 +85,7 @@ module _ (p : Pass) (b : Bool) where
 
 rulingBy-pass : (o : Option Refusal) (x : Option Answer) (b : Bool)
     → rulingBy (passOf o x) b
-    ≡ rulingOf (refusing (o orElse given (not b) (placeless F.BadRequest)) (Option·getD x (answer Granted Neither 0 (part 0 0))))
+    ≡ verdictRuling (o before (if b then answered (Option·getD x (answer Granted Neither 0 (part 0 0))) else refused (placeless F.BadRequest)))
 rulingBy-pass (some g) x b = refl
 rulingBy-pass none none true = refl
 rulingBy-pass none none false = refl
@@ -92,17 +93,17 @@ rulingBy-pass none (some a) true = refl
 rulingBy-pass none (some a) false = refl
 
 module _ (allow deny : List ℕ) (r : Request) (x : Bool) (is-x : x ≡ ltb 16384 (length allow)) where
-  pub decide-allow : x ≡ true → (g : Refusal) → g ≡ refusal F.OverLimit 1 0 → R.Refused g ≡ rulingOf (decide allow deny r)
+  pub decide-allow : x ≡ true → (g : Refusal) → g ≡ refusal F.OverLimit 1 0 → R.Refused g ≡ verdictRuling (decide allow deny (some r))
   unfolding decide
   decide-allow e g is-g = rw (← is-x, e, is-g)
 
   module _ (within : x ≡ false) (y : Bool) (is-y : y ≡ ltb 16384 (length deny)) where
-    pub decide-deny : y ≡ true → (g : Refusal) → g ≡ refusal F.OverLimit 2 0 → R.Refused g ≡ rulingOf (decide allow deny r)
+    pub decide-deny : y ≡ true → (g : Refusal) → g ≡ refusal F.OverLimit 2 0 → R.Refused g ≡ verdictRuling (decide allow deny (some r))
     unfolding decide
     decide-deny e g is-g = rw (← is-x, within, ← is-y, e, is-g)
 
     pub decide-pass : y ≡ false → (p : Pass) → p ≡ passBoth r allow deny → (b : Bool) → b ≡ wellFormed r → (q : Ruling) → q ≡ rulingBy p b
-        → q ≡ rulingOf (decide allow deny r)
+        → q ≡ verdictRuling (decide allow deny (some r))
     unfolding decide search passBoth
     decide-pass e p is-p b is-b q is-q =
         is-q
@@ -111,19 +112,6 @@ module _ (allow deny : List ℕ) (r : Request) (x : Bool) (is-x : x ≡ ltb 1638
         (first (lineAnswer Granted Allow r) (lines allow) orElse first (lineAnswer Denied Deny r) (lines deny)) (wellFormed r))
 
 -- ## The part of a file
-
-module _ (s : List ℕ) (at n : ℕ) where
-  pub part-none : length s ≤ at → take 0 s ≡ take n (drop at s)
-  part-none h = rw (drop-of-length-le s h) (sym (take-nil n))
-
-  pub part-rest : length (take (length s - at) (drop at s)) ≤ n → take (length s - at) (drop at s) ≡ take n (drop at s)
-  part-rest h = rw (take-rest s at) (sym (take-all n (drop at s) (rw (take-rest s at) at h)))
-
-  pub part-front : take n (take (length s - at) (drop at s)) ≡ take n (drop at s)
-  part-front = rw (take-rest s at)
-
-  pub part-length : n < length (take (length s - at) (drop at s)) → n ≡ length (take n (take (length s - at) (drop at s)))
-  part-length h = sym (length-take-le n (take (length s - at) (drop at s)) (omega arith))
 
 module _ (allow deny : List ℕ) (a : Answer) (t : List ℕ) where
   pub command-allow : a .file ≡ Allow → t ≡ take (a .command .len) (drop (a .command .place) allow) → t ≡ commandBytes allow deny a

@@ -28,7 +28,7 @@ pub record Examples : Type 0 where
   -- "within a line the lowest number": the byte 1, and no ending newline
   pub lowest-number : lineFault (line 1 0 (1 ∷ []) false) ≡ some F.Unended
   -- "then allow, deny ..; then 13": the byte 1 in a line of allow, and a request outside its sizes
-  pub request-last : decide (1 ∷ 10 ∷ []) [] unfit ≡ refused (refusal F.BadByte 1 1)
+  pub request-last : decide (1 ∷ 10 ∷ []) [] (some unfit) ≡ refused (refusal F.BadByte 1 1)
 
 pub examples : Examples
 unfolding any all first split lowest join logicalLines lines hasBadByte lineFault hostsFault wellFormed decide

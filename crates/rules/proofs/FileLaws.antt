@@ -1,5 +1,5 @@
 -- Laws of the pass over a text, shaped as the calls and tests of the code hand their facts over.
--- A line is read by its shape, its shape and its rule tell what it gives, and the loop goes from line to line.
+-- A line is read by its kind, its kind and its rule tell what it gives, and the loop goes from line to line.
 -- Assumes nothing.
 use Prim.Native.Nat.{ℕ, _+_, _-_, _*_, _≤_, _<_}
 use native.Mathlib.Nat.{sub-zero}
@@ -20,9 +20,11 @@ use Rattle.section.specs.declared.Fault.the-variants as F
 use Rattle.section.specs.declared.Part.{Part}
 use Rattle.section.specs.declared.Refusal.{Refusal}
 use Rattle.section.specs.Refusal.{lowest, refusal, atPlace}
+use Rattle.section.specs.Code.{firstHolding}
+use Rattle.section.proofs.RefusalLaws.{rising, lowest-first}
 use Rattle.section.specs.Section.{Section, part}
 use Rattle.lines.specs.declared.line.LineSpan.{LineSpan}
-use Rattle.lines.specs.Line.{Line, line, join, logicalLines, lines, hasBadByte, isComment, isBlank}
+use Rattle.lines.specs.Line.{Line, line, join, logicalLines, lines, hasBadByte, isComment, isBlank, isTooLong}
 use Rattle.lines.specs.Rule.{Rule, parseRule}
 use Rattle.lines.specs.Parts.{separatorIndex, afterSeparator}
 use Rattle.lines.specs.Scan.{spanAt, scanLine, isLineByte, SpanBounds}
@@ -31,110 +33,123 @@ use Rattle.lines.proofs.RuleLaws.{parseRule-none, parseRule-parts}
 use Rattle.elements.specs.declared.Found.{Found}
 use Rattle.elements.specs.declared.Found.the-variants.{No, Yes, Ask}
 use Rattle.elements.specs.Request.{Request}
-use Rattle.lists.specs.declared.Checked.{Checked}
 use Rattle.lists.specs.declared.Checked.the-variants as Che
+use Rattle.lists.specs.declared.pass.RuleSeen.{RuleSeen}
 use Rattle.lists.specs.Check.{ruleFault}
 use Rattle.lists.specs.Walk.{ruleFound}
 use Rattle.lists.specs.Code.{NoNewline, checkedOf, foundBy, lineFound}
+use Rattle.lists.specs.PassCode.{ruleSeen}
 use Rattle.rules.specs.declared.Verdict.{Verdict}
 use Rattle.rules.specs.declared.Verdict.the-variants as Ver
 use Rattle.rules.specs.declared.File.{File}
 use Rattle.rules.specs.declared.Answer.{Answer}
 use Rattle.rules.specs.declared.hosts_file.Pass.{Pass}
 use Rattle.rules.specs.declared.hosts_file.Pass.the-variants as P
-use Rattle.rules.specs.declared.hosts_file.Shape.{Shape}
-use Rattle.rules.specs.declared.hosts_file.Shape.the-variants as Sh
-use Rattle.rules.specs.declared.hosts_file.Told.{Told}
-use Rattle.rules.specs.declared.hosts_file.Told.the-variants as T
+use Rattle.rules.specs.declared.hosts_file.LineKind.{LineKind}
+use Rattle.rules.specs.declared.hosts_file.LineKind.the-variants as Kind
+use Rattle.rules.specs.declared.hosts_file.Examined.{Examined}
+use Rattle.rules.specs.declared.hosts_file.Examined.the-variants as T
 use Rattle.rules.specs.declared.hosts_file.Step.{Step}
 use Rattle.rules.specs.Check.{lineFault, hostsFault}
 use Rattle.rules.specs.Search.{answer, ruleAnswer, lineAnswer}
-use Rattle.rules.specs.FileCode.{faultAt, hostsFaultAt, passOf, passLine, passText, shapeFault, shapeOf, lineShape, toldOf, ruleTold, lineTold}
-use Rattle.rules.specs.FileCode.{commandPart, ScannedLine, stepOf, onward}
-use Rattle.rules.proofs.JoinLaws.{ruleTold-join, isEmpty-trimmed}
+use Rattle.rules.specs.FileCode.{faultAt, hostsFaultAt, passOf, passLine, passText, layoutFault, kindAs, lineKind, examinedAs, ruleExamined, lineExamined}
+use Rattle.rules.specs.FileCode.{commandPart, ScannedLine, stepOf, combined}
+use Rattle.rules.proofs.JoinLaws.{ruleExamined-join, isEmpty-trimmed}
 
--- ## The shape of a line
+-- ## The kind of a line
+
+kind-lowest : (l : Line)
+    → lowest
+    ((F.Unended, not (l .ended))
+    ∷ (F.BadByte, not (isComment l) && hasBadByte (join (l .raw)))
+    ∷ (F.LongLine, isTooLong (join (l .raw))) ∷ [])
+    ≡ layoutFault l
+unfolding rising
+kind-lowest l =
+    lowest-first
+    ((F.Unended, not (l .ended))
+    ∷ (F.BadByte, not (isComment l) && hasBadByte (join (l .raw)))
+    ∷ (F.LongLine, isTooLong (join (l .raw))) ∷ [])
+    refl
 
 module _ (s : List ℕ) (l : LineSpan) (h : ScannedLine s l) where
-  pub shape-unended : not (l .ended) ≡ true → Sh.Faulty F.Unended ≡ lineShape (line 0 0 s (l .ended))
-  unfolding lineShape lowest
-  shape-unended e = rw e
+  pub kind-unended : not (l .ended) ≡ true → Kind.Faulty F.Unended ≡ lineKind (line 0 0 s (l .ended))
+  unfolding lineKind firstHolding
+  kind-unended e = rw e
 
   module _ (ended : not (l .ended) ≡ false) (x : Bool) (is-x : x ≡ firstAmong "#" (join s)) where
-    pub shape-bad : (not x && not (l .clean)) ≡ true → Sh.Faulty F.BadByte ≡ lineShape (line 0 0 s (l .ended))
-    unfolding lineShape lowest
-    shape-bad e = rw (ended, ← is-x, h .bytes, e)
+    pub kind-bad : (not x && not (l .clean)) ≡ true → Kind.Faulty F.BadByte ≡ lineKind (line 0 0 s (l .ended))
+    unfolding lineKind firstHolding
+    kind-bad e = rw (ended, ← is-x, h .bytes, e)
 
     module _ (clean : (not x && not (l .clean)) ≡ false) where
-      pub shape-long : 2047 < length s - 2 * l .joins → Sh.Faulty F.LongLine ≡ lineShape (line 0 0 s (l .ended))
-      unfolding lineShape lowest
-      shape-long k = rw (ended, ← is-x, h .bytes, clean, lt-ltb 2047 (length (join s)) (omega (arith, h .lengths)))
+      pub kind-long : 2047 < length s - 2 * l .joins → Kind.Faulty F.LongLine ≡ lineKind (line 0 0 s (l .ended))
+      unfolding lineKind firstHolding
+      kind-long k = rw (ended, ← is-x, h .bytes, clean, lt-ltb 2047 (length (join s)) (omega (arith, h .lengths)))
 
       module _ (short : length s - 2 * l .joins ≤ 2047) where
-        pub shape-comment : x ≡ true → Sh.Passed ≡ lineShape (line 0 0 s (l .ended))
-        unfolding lineShape lowest
-        shape-comment e = rw (ended, ← is-x, h .bytes, clean, le-ltb 2047 (length (join s)) (omega (arith, h .lengths)), e)
+        pub kind-comment : x ≡ true → Kind.Skipped ≡ lineKind (line 0 0 s (l .ended))
+        unfolding lineKind firstHolding
+        kind-comment e = rw (ended, ← is-x, h .bytes, clean, le-ltb 2047 (length (join s)) (omega (arith, h .lengths)), e)
 
-        pub shape-blank : x ≡ false → (y : Bool) → y ≡ all (among " \t") (join s) → y ≡ true → Sh.Passed ≡ lineShape (line 0 0 s (l .ended))
-        unfolding lineShape lowest
-        shape-blank e y is-y f = rw (ended, ← is-x, h .bytes, clean, le-ltb 2047 (length (join s)) (omega (arith, h .lengths)), e, ← is-y, f)
+        pub kind-blank : x ≡ false → (y : Bool) → y ≡ all (among " \t") (join s) → y ≡ true → Kind.Skipped ≡ lineKind (line 0 0 s (l .ended))
+        unfolding lineKind firstHolding
+        kind-blank e y is-y f = rw (ended, ← is-x, h .bytes, clean, le-ltb 2047 (length (join s)) (omega (arith, h .lengths)), e, ← is-y, f)
 
-        pub shape-rule : x ≡ false → (y : Bool) → y ≡ all (among " \t") (join s) → y ≡ false → Sh.Ruled ≡ lineShape (line 0 0 s (l .ended))
-        unfolding lineShape lowest
-        shape-rule e y is-y f = rw (ended, ← is-x, h .bytes, clean, le-ltb 2047 (length (join s)) (omega (arith, h .lengths)), e, ← is-y, f)
+        pub kind-rule : x ≡ false → (y : Bool) → y ≡ all (among " \t") (join s) → y ≡ false → Kind.HasRule ≡ lineKind (line 0 0 s (l .ended))
+        unfolding lineKind firstHolding
+        kind-rule e y is-y f = rw (ended, ← is-x, h .bytes, clean, le-ltb 2047 (length (join s)) (omega (arith, h .lengths)), e, ← is-y, f)
 
 -- ## What a rule, and a line, tells
 
-module _ (b : Bool) (r : Request) (t : List ℕ) (x : Checked) (is-x : x ≡ checkedOf (ruleFault (parseRule t))) where
-  pub told-faulty : (f : Fault) → x ≡ Che.Faulty f → T.Faulty f ≡ ruleTold b r t
-  unfolding ruleTold
-  told-faulty f e = by (ruleFault (parseRule t)) (sym is-x ∙ e)
+module _ (b : Bool) (r : Request) (t : List ℕ) (x : RuleSeen) (is-x : x ≡ ruleSeen r b t) where
+  checked : checkedOf (ruleFault (parseRule t)) ≡ x .check
+  unfolding ruleSeen
+  checked = sym (ap (λ (z : RuleSeen). z .check) is-x)
+
+  pub examined-faulty : (f : Fault) → x .check ≡ Che.Faulty f → T.Faulty f ≡ ruleExamined b r t
+  unfolding ruleExamined
+  examined-faulty f e = by (ruleFault (parseRule t)) (checked ∙ e)
     where
-      by : (o : Option Fault) → checkedOf o ≡ Che.Faulty f → T.Faulty f ≡ toldOf o (if b then lineFound r t else No)
+      by : (o : Option Fault) → checkedOf o ≡ Che.Faulty f → T.Faulty f ≡ examinedAs o (if b then lineFound r t else No)
       by none k = let z : _≡_ {A = ℕ} 0 1 = cc in absurd (omega arith)
       by (some g) k = cc
 
-  told-sound : x ≡ Che.Sound → toldOf none (if b then lineFound r t else No) ≡ ruleTold b r t
-  unfolding ruleTold
-  told-sound e = by (ruleFault (parseRule t)) (sym is-x ∙ e)
+  pub examined-sound : x .check ≡ Che.Sound → T.Finds (x .found) ≡ ruleExamined b r t
+  unfolding ruleExamined ruleSeen
+  examined-sound e = ap (λ (z : RuleSeen). T.Finds (z .found)) is-x ∙ by (ruleFault (parseRule t)) (checked ∙ e)
     where
-      by : (o : Option Fault) → checkedOf o ≡ Che.Sound → toldOf none (if b then lineFound r t else No) ≡ toldOf o (if b then lineFound r t else No)
+      by : (o : Option Fault) → checkedOf o ≡ Che.Sound → T.Finds (if b then lineFound r t else No) ≡ examinedAs o (if b then lineFound r t else No)
       by none k = refl
       by (some g) k = let z : _≡_ {A = ℕ} 0 1 = cc in absurd (omega arith)
 
-  pub told-found : x ≡ Che.Sound → b ≡ true → (y : Found) → y ≡ lineFound r t → T.Finds y ≡ ruleTold b r t
-  told-found e f y is-y = rw is-y (ap (λ (c : Bool). toldOf none (if c then lineFound r t else No)) (sym f) ∙ told-sound e)
+-- the line as its kind has it, t being what its rule tells
+abbrev examinedBy : LineKind → Examined → Examined
+examinedBy (Kind.Faulty f) t = T.Faulty f
+examinedBy Kind.Skipped t = T.Finds No
+examinedBy Kind.HasRule t = t
 
-  pub told-unsought : x ≡ Che.Sound → b ≡ false → T.Finds No ≡ ruleTold b r t
-  told-unsought e f = ap (λ (c : Bool). toldOf none (if c then lineFound r t else No)) (sym f) ∙ told-sound e
+examinedBy-kind : (o q : Option Fault) (p : Bool) (x : Found)
+    → examinedBy (kindAs o p) (examinedAs q x) ≡ examinedAs (o orElse (if p then none else q)) (if p then No else x)
+examinedBy-kind (some f) q p x = refl
+examinedBy-kind none q true x = refl
+examinedBy-kind none q false x = refl
 
--- the line as its shape has it, t being what its rule tells
-abbrev toldBy : Shape → Told → Told
-toldBy (Sh.Faulty f) t = T.Faulty f
-toldBy Sh.Passed t = T.Finds No
-toldBy Sh.Ruled t = t
-
-toldBy-shape : (o q : Option Fault) (p : Bool) (x : Found)
-    → toldBy (shapeOf o p) (toldOf q x) ≡ toldOf (o orElse (if p then none else q)) (if p then No else x)
-toldBy-shape (some f) q p x = refl
-toldBy-shape none q true x = refl
-toldBy-shape none q false x = refl
-
-module _ (b : Bool) (r : Request) (s : List ℕ) (l : LineSpan) (x : Shape) (is-x : x ≡ lineShape (line 0 0 s (l .ended))) where
-  told-shape : toldBy x (ruleTold b r s) ≡ lineTold b r (line 0 0 s (l .ended))
-  unfolding lineTold lineShape lineFault ruleTold
-  told-shape =
+module _ (b : Bool) (r : Request) (s : List ℕ) (l : LineSpan) (x : LineKind) (is-x : x ≡ lineKind (line 0 0 s (l .ended))) where
+  examined-kind : examinedBy x (ruleExamined b r s) ≡ lineExamined b r (line 0 0 s (l .ended))
+  unfolding lineExamined lineKind lineFault ruleExamined
+  examined-kind =
       let n : Line = line 0 0 s (l .ended) in
-      rw is-x (toldBy-shape (shapeFault n) (ruleFault (parseRule s)) (isComment n || isBlank n) (if b then lineFound r s else No))
+      rw (is-x, kind-lowest n) (examinedBy-kind (layoutFault n) (ruleFault (parseRule s)) (isComment n || isBlank n) (if b then lineFound r s else No))
 
-  pub line-faulty : (f : Fault) → x ≡ Sh.Faulty f → T.Faulty f ≡ lineTold b r (line 0 0 s (l .ended))
-  line-faulty f e = rw e at told-shape
+  pub line-faulty : (f : Fault) → x ≡ Kind.Faulty f → T.Faulty f ≡ lineExamined b r (line 0 0 s (l .ended))
+  line-faulty f e = rw e at examined-kind
 
-  pub line-passed : x ≡ Sh.Passed → T.Finds No ≡ lineTold b r (line 0 0 s (l .ended))
-  line-passed e = rw e at told-shape
+  pub line-passed : x ≡ Kind.Skipped → T.Finds No ≡ lineExamined b r (line 0 0 s (l .ended))
+  line-passed e = rw e at examined-kind
 
-  pub line-ruled : x ≡ Sh.Ruled → (y : Told) → y ≡ ruleTold b r s → y ≡ lineTold b r (line 0 0 s (l .ended))
-  line-ruled e y is-y = is-y ∙ (rw e at told-shape)
+  pub line-ruled : x ≡ Kind.HasRule → (y : Examined) → y ≡ ruleExamined b r s → y ≡ lineExamined b r (line 0 0 s (l .ended))
+  line-ruled e y is-y = is-y ∙ (rw e at examined-kind)
 
 -- ## The line with dropped pairs
 
@@ -153,20 +168,22 @@ all-noNewline (x ∷ t) e =
     rw (isLineByte-noNewline x (f .0)) (all-noNewline t (f .1))
 
 -- the tests that a rule has passed
-ruled-tests : (a b c p : Bool) → shapeOf (lowest ((F.Unended, a) ∷ (F.BadByte, b) ∷ (F.LongLine, c) ∷ [])) p ≡ Sh.Ruled
+ruled-tests : (a b c p : Bool) → kindAs (firstHolding ((F.Unended, a) ∷ (F.BadByte, b) ∷ (F.LongLine, c) ∷ [])) p ≡ Kind.HasRule
     → (b ≡ false) × ((c ≡ false) × (p ≡ false))
-unfolding lowest
+unfolding firstHolding
 ruled-tests true b c p e = let z : _≡_ {A = ℕ} 0 1 = cc in absurd (omega arith)
 ruled-tests false true c p e = let z : _≡_ {A = ℕ} 0 1 = cc in absurd (omega arith)
 ruled-tests false false true p e = let z : _≡_ {A = ℕ} 0 1 = cc in absurd (omega arith)
 ruled-tests false false false true e = let z : _≡_ {A = ℕ} 0 1 = cc in absurd (omega arith)
 ruled-tests false false false false e = (refl, (refl, refl))
 
-module _ (s : List ℕ) (l : LineSpan) (x : Shape) (is-x : x ≡ lineShape (line 0 0 s (l .ended))) (ruled : x ≡ Sh.Ruled) where
-  tests : (not (firstAmong "#" (join s)) && hasBadByte (join s) ≡ false) × ((ltb 2047 (length (join s)) ≡ false) × (firstAmong "#" (join s) || all (among " \t") (join s) ≡ false))
-  unfolding lineShape
+module _ (s : List ℕ) (l : LineSpan) (x : LineKind) (is-x : x ≡ lineKind (line 0 0 s (l .ended))) (ruled : x ≡ Kind.HasRule) where
+  tests : (not (firstAmong "#" (join s)) && hasBadByte (join s) ≡ false)
+      × ((ltb 2047 (length (join s)) ≡ false) × (firstAmong "#" (join s) || all (among " \t") (join s) ≡ false))
+  unfolding lineKind
   tests =
-      ruled-tests (not (l .ended)) (not (firstAmong "#" (join s)) && hasBadByte (join s)) (ltb 2047 (length (join s))) (firstAmong "#" (join s) || all (among " \t") (join s))
+      ruled-tests (not (l .ended)) (not (firstAmong "#" (join s)) && hasBadByte (join s)) (ltb 2047 (length (join s)))
+      (firstAmong "#" (join s) || all (among " \t") (join s))
       (sym is-x ∙ ruled)
 
   pub ruled-clean : NoNewline (join s)
@@ -192,8 +209,8 @@ module _ (s o d : List ℕ) (n : ℕ) (is-n : n ≡ length (join s)) (is-o : o �
   pub joined-clean : NoNewline (join s) → NoNewline (take n o)
   joined-clean h = rw joined-part h
 
-  pub joined-told : (b : Bool) (r : Request) → NoNewline (join s) → (y : Told) → y ≡ ruleTold b r (take n o) → y ≡ ruleTold b r s
-  joined-told b r h y is-y = is-y ∙ ap (ruleTold b r) joined-part ∙ ruleTold-join b r s h
+  pub examine-joined : (b : Bool) (r : Request) → NoNewline (join s) → (y : Examined) → y ≡ ruleExamined b r (take n o) → y ≡ ruleExamined b r s
+  examine-joined b r h y is-y = is-y ∙ ap (ruleExamined b r) joined-part ∙ ruleExamined-join b r s h
 
 -- ## The raw command
 
@@ -224,7 +241,7 @@ module _ (at : ℕ) (s : List ℕ) (a : ℕ) (is-a : a ≡ separatorIndex false 
 -- ## What a line gives
 
 -- of what it tells, n being its number and p its raw command
-abbrev passBy : ℕ → Verdict → File → ℕ → Part → Told → Pass
+abbrev passBy : ℕ → Verdict → File → ℕ → Part → Examined → Pass
 passBy o v f n p (T.Faulty g) = P.Faulty (refusal g o n)
 passBy o v f n p (T.Finds No) = P.Unmatched
 passBy o v f n p (T.Finds Yes) = P.Matched (answer v f n p)
@@ -237,22 +254,22 @@ module _ (o : ℕ) (v : Verdict) (f : File) (b : Bool) (r : Request) (n at : ℕ
   passBy-found u Yes = refl
   passBy-found u Ask = refl
 
-  passBy-told : (g : Option Fault) (p c : Bool) (q : Option Rule)
-      → passBy o v f n (commandPart at s q) (toldOf g (if p then No else if c then foundBy r q else No))
+  passBy-examined : (g : Option Fault) (p c : Bool) (q : Option Rule)
+      → passBy o v f n (commandPart at s q) (examinedAs g (if p then No else if c then foundBy r q else No))
       ≡ passOf (atPlace o n g) (if c then (if p then none else (q >>= λ u. ruleAnswer v f (line n at s e) u (ruleFound r u))) else none)
-  passBy-told (some g) p c q = refl
-  passBy-told none true true q = refl
-  passBy-told none true false q = refl
-  passBy-told none false false q = refl
-  passBy-told none false true none = refl
-  passBy-told none false true (some u) = passBy-found u (ruleFound r u)
+  passBy-examined (some g) p c q = refl
+  passBy-examined none true true q = refl
+  passBy-examined none true false q = refl
+  passBy-examined none false false q = refl
+  passBy-examined none false true none = refl
+  passBy-examined none false true (some u) = passBy-found u (ruleFound r u)
 
-  module _ (t : Told) (is-t : t ≡ lineTold b r (line 0 0 s e)) where
+  module _ (t : Examined) (is-t : t ≡ lineExamined b r (line 0 0 s e)) where
     line-pass : passBy o v f n (commandPart at s (parseRule s)) t ≡ passLine o v f b r (line n at s e)
-    unfolding lineTold lineFault lineFound passLine lineAnswer
+    unfolding lineExamined lineFault lineFound passLine lineAnswer
     line-pass =
         let l : Line = line n at s e in
-        rw is-t (passBy-told (lineFault l) (isComment l || isBlank l) b (parseRule s))
+        rw is-t (passBy-examined (lineFault l) (isComment l || isBlank l) b (parseRule s))
 
     pub pass-faulty : (g : Fault) → t ≡ T.Faulty g → P.Faulty (refusal g o n) ≡ passLine o v f b r (line n at s e)
     pass-faulty g k = rw k at line-pass
@@ -290,10 +307,10 @@ module _ (t : List ℕ) (i : ℕ) (l : LineSpan) (is-l : l ≡ spanAt i (scanLin
 
 -- ## The loop over the lines
 
-onward-nothing : (p : Pass) → onward p P.Unmatched ≡ p
-onward-nothing (P.Faulty g) = refl
-onward-nothing P.Unmatched = refl
-onward-nothing (P.Matched a) = refl
+combined-nothing : (p : Pass) → combined p P.Unmatched ≡ p
+combined-nothing (P.Faulty g) = refl
+combined-nothing P.Unmatched = refl
+combined-nothing (P.Matched a) = refl
 
 -- no fault
 abbrev pub Sound : Pass → Type 0
@@ -301,10 +318,10 @@ Sound (P.Faulty g) = ⊥
 Sound P.Unmatched = Unit {0}
 Sound (P.Matched a) = Unit {0}
 
-onward-faulty : (p : Pass) (g : Refusal) → Sound p → onward p (P.Faulty g) ≡ P.Faulty g
-onward-faulty (P.Faulty f) g h = absurd h
-onward-faulty P.Unmatched g h = refl
-onward-faulty (P.Matched a) g h = refl
+combined-faulty : (p : Pass) (g : Refusal) → Sound p → combined p (P.Faulty g) ≡ P.Faulty g
+combined-faulty (P.Faulty f) g h = absurd h
+combined-faulty P.Unmatched g h = refl
+combined-faulty (P.Matched a) g h = refl
 
 -- the pass over a first line, with the fault x and the answer y, and over the lines after it, with x′ and y′
 both-faulty : (x x′ : Option Refusal) (y y′ : Option Answer) (b : Bool) (g : Refusal)
@@ -323,7 +340,7 @@ both-unmatched none x′ y y′ false e = refl
 
 both-matched : (x x′ : Option Refusal) (y y′ : Option Answer) (b : Bool) (a : Answer)
     → passOf x (if b then y else none) ≡ P.Matched a
-    → (b ≡ true) × (passOf (x orElse x′) (if b then (y orElse y′) else none) ≡ onward (P.Matched a) (passOf x′ none))
+    → (b ≡ true) × (passOf (x orElse x′) (if b then (y orElse y′) else none) ≡ combined (P.Matched a) (passOf x′ none))
 both-matched (some h) x′ y y′ b a e = let z : _≡_ {A = ℕ} 0 1 = cc in absurd (omega arith)
 both-matched none (some h) (some c) y′ true a e = (refl, refl)
 both-matched none none (some c) y′ true a e = (refl, e)
@@ -340,7 +357,7 @@ module _ (o : ℕ) (v : Verdict) (f : File) (r : Request) where
     pub number : n ≤ i + 1
     pub sound : Sound found
     pub fresh : b ≡ true → found ≡ P.Unmatched
-    pub rest : whole ≡ onward found (passLines b (logicalLines n i (split "\n" (drop i t))))
+    pub rest : whole ≡ combined found (passLines b (logicalLines n i (split "\n" (drop i t))))
 
   pub passing-start : (t : List ℕ) (b : Bool) → Passing (passText o v f b r t) t 0 1 b P.Unmatched
   unfolding passLines passText hostsFaultAt lines
@@ -372,13 +389,13 @@ module _ (o : ℕ) (v : Verdict) (f : File) (r : Request) where
     unfolding passLine passLines first
     passLines-unmatched e = both-unmatched (faultAt o l) (first (faultAt o) ls) (lineAnswer v f r l) (first (lineAnswer v f r) ls) b e
 
-    passLines-matched : (a : Answer) → passLine o v f b r l ≡ P.Matched a → (b ≡ true) × (passLines b (l ∷ ls) ≡ onward (P.Matched a) (passLines false ls))
+    passLines-matched : (a : Answer) → passLine o v f b r l ≡ P.Matched a → (b ≡ true) × (passLines b (l ∷ ls) ≡ combined (P.Matched a) (passLines false ls))
     unfolding passLine passLines first
     passLines-matched a e = both-matched (faultAt o l) (first (faultAt o) ls) (lineAnswer v f r l) (first (lineAnswer v f r) ls) b a e
 
   module _ {whole : Pass} {t : List ℕ} {i n : ℕ} {b : Bool} {found : Pass} (inv : Passing whole t i n b found) where
     pub passing-end : length t ≤ i → found ≡ whole
-    passing-end h = sym (inv .rest ∙ rw (logicalLines-end t i n i h, passLines-nil b) (onward-nothing found))
+    passing-end h = sym (inv .rest ∙ rw (logicalLines-end t i n i h, passLines-nil b) (combined-nothing found))
 
     module _ (h : i < length t) (st : Step) (is-st : st ≡ stepOf o v f b r t i n (spanAt i (scanLine (drop i t)))) where
       scanned : LineSpan
@@ -422,7 +439,7 @@ module _ (o : ℕ) (v : Verdict) (f : File) (r : Request) where
       next-number = omega (arith, next-is, number-is, bounds .pairs, bounds .from, inv .number)
 
       pub pass-stop : (g : Refusal) → st .pass ≡ P.Faulty g → P.Faulty g ≡ whole
-      pass-stop g e = sym (inv .rest ∙ rw (all-lines, passLines-faulty b this those g (this-pass (P.Faulty g) e)) (onward-faulty found g (inv .sound)))
+      pass-stop g e = sym (inv .rest ∙ rw (all-lines, passLines-faulty b this those g (this-pass (P.Faulty g) e)) (combined-faulty found g (inv .sound)))
 
       pub passing-more : st .pass ≡ P.Unmatched → Passing whole t (st .next) (st .number) b found
       unfolding those
@@ -447,6 +464,12 @@ module _ (o : ℕ) (v : Verdict) (f : File) (r : Request) where
           }
 
 -- ## The checks alone
+
+pub pass-empty : (o : ℕ) (v : Verdict) (f : File) (b : Bool) (r : Request) (t : List ℕ) → length t ≡ 0 → P.Unmatched ≡ passText o v f b r t
+unfolding passText hostsFaultAt lines logicalLines split first
+pass-empty o v f true r [] h = refl
+pass-empty o v f false r [] h = refl
+pass-empty o v f b r (x ∷ t) h = absurd (omega arith)
 
 pub pass-unsought : (o : ℕ) (v : Verdict) (f : File) (r : Request) (t : List ℕ) (p : Pass) → p ≡ passText o v f false r t → p ≡ passOf (hostsFaultAt o t) none
 unfolding passText

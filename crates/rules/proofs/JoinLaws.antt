@@ -22,8 +22,8 @@ use Rattle.elements.specs.Request.{Request}
 use Rattle.lists.specs.Check.{ruleFault}
 use Rattle.lists.specs.Walk.{ruleFound}
 use Rattle.lists.specs.Code.{NoNewline, lineFound}
-use Rattle.rules.specs.declared.hosts_file.Told.{Told}
-use Rattle.rules.specs.FileCode.{toldOf, ruleTold}
+use Rattle.rules.specs.declared.hosts_file.Examined.{Examined}
+use Rattle.rules.specs.FileCode.{examinedAs, ruleExamined}
 
 -- ## Parting at a separator
 
@@ -138,9 +138,9 @@ abbrev ruleBy : List ℕ × List ℕ → Option (List ℕ × List ℕ) → Rule
 ruleBy p o = let q : List ℕ × List ℕ = Option·getD o (p .1, []) in rule (elements (p .0)) (elements (q .0)) (q .1)
 
 module _ (b : Bool) (r : Request) where
-  tells : Rule → Told
+  tells : Rule → Examined
   unfolding ruleFound
-  tells u = toldOf (ruleFault (some u)) (if b then ruleFound r u else No)
+  tells u = examinedAs (ruleFault (some u)) (if b then ruleFound r u else No)
 
   tells-command : (ds cs : List (List ℕ)) (c : List ℕ) → NoNewline (join c) → tells (rule ds cs (join c)) ≡ tells (rule ds cs c)
   unfolding tells ruleFault ruleFound
@@ -151,17 +151,17 @@ module _ (b : Bool) (r : Request) where
   tells-rest d t none h k l = rw (elements-join d h, elements-join t k)
   tells-rest d t (some q) h k l = rw (elements-join d h, elements-join (q .0) (l .0)) (tells-command (elements d) (elements (q .0)) (q .1) (l .1))
 
-  ruleTold-parts : (s : List ℕ) (o : Option (List ℕ × List ℕ)) → splitSeparator false s ≡ o → AllParts isNoNewline (joinParts o)
-      → ruleTold b r (join s) ≡ ruleTold b r s
-  unfolding ruleTold lineFound parseRule tells
-  ruleTold-parts s none e h = rw (splitSeparator-join false s, e)
-  ruleTold-parts s (some p) e h =
+  ruleExamined-parts : (s : List ℕ) (o : Option (List ℕ × List ℕ)) → splitSeparator false s ≡ o → AllParts isNoNewline (joinParts o)
+      → ruleExamined b r (join s) ≡ ruleExamined b r s
+  unfolding ruleExamined lineFound parseRule tells
+  ruleExamined-parts s none e h = rw (splitSeparator-join false s, e)
+  ruleExamined-parts s (some p) e h =
       rw (splitSeparator-join false s, e)
       (ap (λ (o : Option (List ℕ × List ℕ)). tells (ruleBy (join (p .0), join (p .1)) o)) (splitSeparator-join false (p .1))
       ∙ tells-rest (p .0) (p .1) (splitSeparator false (p .1)) (h .0) (h .1) (joined-all (p .1) (h .1)))
 
-  pub ruleTold-join : (s : List ℕ) → NoNewline (join s) → ruleTold b r (join s) ≡ ruleTold b r s
-  ruleTold-join s h = ruleTold-parts s (splitSeparator false s) refl (joined-all s h)
+  pub ruleExamined-join : (s : List ℕ) → NoNewline (join s) → ruleExamined b r (join s) ≡ ruleExamined b r s
+  ruleExamined-join s h = ruleExamined-parts s (splitSeparator false s) refl (joined-all s h)
 
 -- ## The command
 
@@ -203,4 +203,5 @@ isEmpty-trimmed t = by (all (among " \t") (join t)) refl
   where
     by : (b : Bool) → all (among " \t") (join t) ≡ b → isEmpty (reverse (skipBlanks (reverse (skipBlanks (join t))))) ≡ b
     by true e = rw (skipBlanks-all (join t) e)
-    by false e = let h = skipBlanks-some (join t) e in rw (h .1 .1 .0, reverse-append (h .0 ∷ []) (h .1 .0)) (skipBlanks-snoc (reverse (h .1 .0)) (h .0) (h .1 .1 .1))
+    by false e = let h = skipBlanks-some (join t) e in
+        rw (h .1 .1 .0, reverse-append (h .0 ∷ []) (h .1 .0)) (skipBlanks-snoc (reverse (h .1 .0)) (h .0) (h .1 .1 .1))

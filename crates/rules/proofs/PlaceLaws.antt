@@ -184,7 +184,8 @@ module _ (allow deny : List ℕ) (r : Request) where
   search-within = by (first (lineAnswer Ver.Granted Allow r) (lines allow)) (first (lineAnswer Ver.Denied Deny r) (lines deny)) refl refl
     where
       by : (x y : Option Answer) → first (lineAnswer Ver.Granted Allow r) (lines allow) ≡ x → first (lineAnswer Ver.Denied Deny r) (lines deny) ≡ y
-          → let a : Answer = Option·getD (x orElse y) (answer Ver.Granted Neither 0 (part 0 0)) in a .command .place + a .command .len ≤ fileLength allow deny (a .file)
+          → let a : Answer = Option·getD (x orElse y) (answer Ver.Granted Neither 0 (part 0 0)) in
+          a .command .place + a .command .len ≤ fileLength allow deny (a .file)
       by (some a) y e f = let w = text-within Ver.Granted Allow r allow a e in rw (w .file) (w .end)
       by none (some a) e f = let w = text-within Ver.Denied Deny r deny a f in rw (w .file) (w .end)
       by none none e f = omega arith

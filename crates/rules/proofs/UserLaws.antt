@@ -9,7 +9,7 @@ use mathlib.Core.Path.{_≡_, refl, ap}
 use Rattle.text.specs.Basics.{if_then_else_, _>>=_, _orElse_, given, first}
 use Rattle.section.specs.declared.Fault.the-variants as F
 use Rattle.section.specs.declared.Refusal.{Refusal}
-use Rattle.section.specs.Refusal.{Outcome, refused, answered, placeless, refusing}
+use Rattle.section.specs.Refusal.{Outcome, refused, answered, placeless, _before_}
 use Rattle.section.specs.Section as S
 use Rattle.section.specs.Section.{part, overLimit}
 use Rattle.lines.specs.Line.{Line, lines, isComment, isBlank}
@@ -53,7 +53,8 @@ QuietOutcome (answered a) = QuietVerdict (a .verdict)
 
 -- ## Choices that agree wherever the first is quiet
 
-onFound-same : (x x′ y y′ n n′ : Found) → Quiet (onFound x y n) → (Quiet x → x′ ≡ x) → (Quiet y → y′ ≡ y) → (Quiet n → n′ ≡ n) → onFound x′ y′ n′ ≡ onFound x y n
+onFound-same : (x x′ y y′ n n′ : Found) → Quiet (onFound x y n) → (Quiet x → x′ ≡ x) → (Quiet y → y′ ≡ y) → (Quiet n → n′ ≡ n) → onFound x′ y′ n′
+    ≡ onFound x y n
 onFound-same Yes x′ y y′ n n′ h f g k = rw (f tt) (g h)
 onFound-same No x′ y y′ n n′ h f g k = rw (f tt) (k h)
 onFound-same Ask x′ y y′ n n′ h f g k = absurd h
@@ -70,7 +71,8 @@ module _ (m m′ : List ℕ → Found) (agree : (w : List ℕ) → Quiet (m w) �
     included-same [] h = refl
     included-same (w ∷ ws) h =
         if-same (isExcept w) No No (onFound (m w) (excluded m ws) (included m ws)) (onFound (m′ w) (excluded m′ ws) (included m′ ws)) h (λ q. refl)
-        λ q. onFound-same (m w) (m′ w) (excluded m ws) (excluded m′ ws) (included m ws) (included m′ ws) q (agree w) (λ k. excluded-same ws k) (λ k. included-same ws k)
+        λ q. onFound-same (m w) (m′ w) (excluded m ws) (excluded m′ ws) (included m ws) (included m′ ws) q (agree w) (λ k. excluded-same ws k)
+        (λ k. included-same ws k)
 
     excluded-same : (ws : List (List ℕ)) → Quiet (excluded m ws) → excluded m′ ws ≡ excluded m ws
     excluded-same [] h = refl
@@ -79,12 +81,14 @@ module _ (m m′ : List ℕ → Found) (agree : (w : List ℕ) → Quiet (m w) �
         (λ q. onFound-same (included m ws) (included m′ ws) No No Yes Yes q (λ k. included-same ws k) (λ k. refl) (λ k. refl))
         (λ k. excluded-same ws k)
 
-first-same : (f f′ : Line → Option Answer) → ((l : Line) → QuietAnswer (f l) → f′ l ≡ f l) → (ls : List Line) → QuietAnswer (first f ls) → first f′ ls ≡ first f ls
+first-same : (f f′ : Line → Option Answer) → ((l : Line) → QuietAnswer (f l) → f′ l ≡ f l) → (ls : List Line) → QuietAnswer (first f ls) → first f′ ls
+    ≡ first f ls
 unfolding first
 first-same f f′ same [] h = refl
 first-same f f′ same (l ∷ ls) h = by (f l) (f′ l) (same l) h (first-same f f′ same ls)
   where
-    by : (o o′ : Option Answer) → (QuietAnswer o → o′ ≡ o) → QuietAnswer (o orElse first f ls) → (QuietAnswer (first f ls) → first f′ ls ≡ first f ls) → (o′ orElse first f′ ls) ≡ (o orElse first f ls)
+    by : (o o′ : Option Answer) → (QuietAnswer o → o′ ≡ o) → QuietAnswer (o orElse first f ls) → (QuietAnswer (first f ls) → first f′ ls ≡ first f ls)
+        → (o′ orElse first f′ ls) ≡ (o orElse first f ls)
     by none o′ e h ih = rw (e tt) (ih h)
     by (some a) o′ e h ih = rw (e h)
 
@@ -104,12 +108,14 @@ module _ (r : Request) (t₀ : List ℕ) (u : User) (t : List ℕ) where
   daemon-same e = by (halves e)
     where
       half : (o : Option (List ℕ → Bool)) (o′ : Option (Endpoint → Bool))
-          → lookAt asked (o >>= λ f. o′ >>= λ g. some λ q. foundIf (f (q .daemon) && g (q .server))) ≡ lookAt unasked (o >>= λ f. o′ >>= λ g. some λ q. foundIf (f (q .daemon) && g (q .server)))
+          → lookAt asked (o >>= λ f. o′ >>= λ g. some λ q. foundIf (f (q .daemon) && g (q .server)))
+          ≡ lookAt unasked (o >>= λ f. o′ >>= λ g. some λ q. foundIf (f (q .daemon) && g (q .server)))
       half none o′ = refl
       half (some f) none = refl
       half (some f) (some g) = refl
 
-      name : (o : Option (List ℕ → Bool)) → lookAt asked (o >>= λ f. some λ q. foundIf (f (q .daemon))) ≡ lookAt unasked (o >>= λ f. some λ q. foundIf (f (q .daemon)))
+      name : (o : Option (List ℕ → Bool)) → lookAt asked (o >>= λ f. some λ q. foundIf (f (q .daemon)))
+          ≡ lookAt unasked (o >>= λ f. some λ q. foundIf (f (q .daemon)))
       name none = refl
       name (some f) = refl
 
@@ -135,7 +141,8 @@ module _ (r : Request) (t₀ : List ℕ) (u : User) (t : List ℕ) where
       half (some f) none h = refl
       half (some f) (some g) h = asks (g (r .client)) f h
 
-      name : (o : Option (Endpoint → Bool)) → lookAt asked (o >>= λ g. some λ q. foundIf (g (q .client))) ≡ lookAt unasked (o >>= λ g. some λ q. foundIf (g (q .client)))
+      name : (o : Option (Endpoint → Bool)) → lookAt asked (o >>= λ g. some λ q. foundIf (g (q .client)))
+          ≡ lookAt unasked (o >>= λ g. some λ q. foundIf (g (q .client)))
       name none = refl
       name (some g) = refl
 
@@ -162,7 +169,8 @@ module _ (r : Request) (t₀ : List ℕ) (u : User) (t : List ℕ) where
       quiet x Ask h = h
 
       by : (b : Bool) (o : Option Rule) → QuietAnswer (if b then none else (o >>= λ x. ruleAnswer v f l x (ruleFound unasked x)))
-          → (if b then none else (o >>= λ x. ruleAnswer v f l x (ruleFound asked x))) ≡ (if b then none else (o >>= λ x. ruleAnswer v f l x (ruleFound unasked x)))
+          → (if b then none else (o >>= λ x. ruleAnswer v f l x (ruleFound asked x)))
+          ≡ (if b then none else (o >>= λ x. ruleAnswer v f l x (ruleFound unasked x)))
       by true o h = refl
       by false none h = refl
       by false (some x) h = ap (ruleAnswer v f l x) (rule-same x (quiet x (ruleFound unasked x) h))
@@ -172,7 +180,8 @@ module _ (r : Request) (t₀ : List ℕ) (u : User) (t : List ℕ) where
   search-same allow deny = two
       (first (lineAnswer Ver.Granted Deciding.Allow unasked) (lines allow)) (first (lineAnswer Ver.Granted Deciding.Allow asked) (lines allow))
       (first (lineAnswer Ver.Denied Deciding.Deny unasked) (lines deny)) (first (lineAnswer Ver.Denied Deciding.Deny asked) (lines deny))
-      (first-same (lineAnswer Ver.Granted Deciding.Allow unasked) (lineAnswer Ver.Granted Deciding.Allow asked) (line-same Ver.Granted Deciding.Allow) (lines allow))
+      (first-same (lineAnswer Ver.Granted Deciding.Allow unasked) (lineAnswer Ver.Granted Deciding.Allow asked) (line-same Ver.Granted Deciding.Allow)
+      (lines allow))
       (first-same (lineAnswer Ver.Denied Deciding.Deny unasked) (lineAnswer Ver.Denied Deciding.Deny asked) (line-same Ver.Denied Deciding.Deny) (lines deny))
     where
       none-matched : Answer
@@ -185,15 +194,154 @@ module _ (r : Request) (t₀ : List ℕ) (u : User) (t : List ℕ) where
       two none o′ (some a) p′ f g h = rw (f tt, g h)
 
   -- a call that neither asks nor is refused gives every user that fits the same outcome; so does one that is refused
-  pub decide-same : wellFormed asked ≡ wellFormed unasked → (allow deny : List ℕ) → QuietOutcome (decide allow deny unasked)
-      → decide allow deny asked ≡ decide allow deny unasked
+  pub decide-same : wellFormed asked ≡ wellFormed unasked → (allow deny : List ℕ) → QuietOutcome (decide allow deny (some unasked))
+      → decide allow deny (some asked) ≡ decide allow deny (some unasked)
   unfolding decide
   decide-same e a d = by
       (overLimit S.allow a orElse overLimit S.deny d orElse hostsFault S.allow a orElse hostsFault S.deny d)
       (wellFormed unasked) (wellFormed asked) e
     where
-      by : (o : Option Refusal) (b b′ : Bool) → b′ ≡ b → QuietOutcome (refusing (o orElse given (not b) (placeless F.BadRequest)) (search a d unasked))
-          → refusing (o orElse given (not b′) (placeless F.BadRequest)) (search a d asked) ≡ refusing (o orElse given (not b) (placeless F.BadRequest)) (search a d unasked)
+      by : (o : Option Refusal) (b b′ : Bool) → b′ ≡ b → QuietOutcome (o before (if b then answered (search a d unasked) else refused (placeless F.BadRequest)))
+          → (o before (if b′ then answered (search a d asked) else refused (placeless F.BadRequest)))
+          ≡ (o before (if b then answered (search a d unasked) else refused (placeless F.BadRequest)))
       by (some f) b b′ e h = refl
       by none false b′ e h = rw e
       by none true b′ e h = rw e (ap answered (search-same a d h))
+
+-- ## Who has fetched is never asked
+
+abbrev pub Fetched : User → Type 0
+Fetched U.NotFetched = ⊥
+Fetched U.Unknown = Unit {0}
+Fetched U.Known = Unit {0}
+
+onFound-quiet : (x y n : Found) → Quiet x → Quiet y → Quiet n → Quiet (onFound x y n)
+onFound-quiet Yes y n h g k = g
+onFound-quiet No y n h g k = k
+onFound-quiet Ask y n h g k = h
+
+if-quiet : (b : Bool) (x y : Found) → Quiet x → Quiet y → Quiet (if b then x else y)
+if-quiet true x y h g = h
+if-quiet false x y h g = g
+
+foundIf-quiet : (b : Bool) → Quiet (foundIf b)
+foundIf-quiet true = tt
+foundIf-quiet false = tt
+
+module _ (m : List ℕ → Found) (quiet : (w : List ℕ) → Quiet (m w)) where
+  mutual
+    unfolding included excluded
+
+    included-quiet : (ws : List (List ℕ)) → Quiet (included m ws)
+    included-quiet [] = tt
+    included-quiet (w ∷ ws) =
+        if-quiet (isExcept w) No (onFound (m w) (excluded m ws) (included m ws)) tt
+        (onFound-quiet (m w) (excluded m ws) (included m ws) (quiet w) (excluded-quiet ws) (included-quiet ws))
+
+    excluded-quiet : (ws : List (List ℕ)) → Quiet (excluded m ws)
+    excluded-quiet [] = tt
+    excluded-quiet (w ∷ ws) =
+        if-quiet (isExcept w) (onFound (included m ws) No Yes) (excluded m ws)
+        (onFound-quiet (included m ws) No Yes (included-quiet ws) tt tt) (excluded-quiet ws)
+
+module _ (r : Request) (fetched : Fetched (r .user)) where
+  daemon-quiet : (e : List ℕ) → Quiet (lookAt r (daemonElement e))
+  unfolding daemonElement daemonParts
+  daemon-quiet e = by (halves e)
+    where
+      half : (o : Option (List ℕ → Bool)) (q : Option (Endpoint → Bool))
+          → Quiet (lookAt r (o >>= λ f. q >>= λ g. some λ x. foundIf (f (x .daemon) && g (x .server))))
+      half none q = tt
+      half (some f) none = tt
+      half (some f) (some g) = foundIf-quiet (f (r .daemon) && g (r .server))
+
+      name : (o : Option (List ℕ → Bool)) → Quiet (lookAt r (o >>= λ f. some λ x. foundIf (f (x .daemon))))
+      name none = tt
+      name (some f) = foundIf-quiet (f (r .daemon))
+
+      by : (o : Option (List ℕ × List ℕ)) → Quiet (lookAt r (daemonParts e o))
+      by none = name (daemonName e)
+      by (some p) = half (daemonName (p .0)) (hostPattern (p .1))
+
+  client-quiet : (e : List ℕ) → Quiet (lookAt r (clientElement e))
+  unfolding clientElement clientParts
+  client-quiet e = by (halves e)
+    where
+      user : (u : User) → Fetched u → (b : Bool) → Quiet (elim u [ U.NotFetched ↦ Ask | U.Unknown ↦ foundIf b | U.Known ↦ foundIf b ])
+      user U.NotFetched h b = h
+      user U.Unknown h b = foundIf-quiet b
+      user U.Known h b = foundIf-quiet b
+
+      half : (o : Option (Request → Bool)) (q : Option (Endpoint → Bool))
+          → Quiet (lookAt r (o >>= λ f. q >>= λ g. some λ x. if g (x .client) then userCase x Ask (foundIf (f x)) (foundIf (f x)) else No))
+      half none q = tt
+      half (some f) none = tt
+      half (some f) (some g) = if-quiet (g (r .client)) (userCase r Ask (foundIf (f r)) (foundIf (f r))) No (user (r .user) fetched (f r)) tt
+
+      name : (o : Option (Endpoint → Bool)) → Quiet (lookAt r (o >>= λ g. some λ x. foundIf (g (x .client))))
+      name none = tt
+      name (some g) = foundIf-quiet (g (r .client))
+
+      by : (o : Option (List ℕ × List ℕ)) → Quiet (lookAt r (clientParts e o))
+      by none = name (hostPattern e)
+      by (some p) = half (userHalf (p .0)) (hostPattern (p .1))
+
+  rule-quiet : (x : Rule) → Quiet (ruleFound r x)
+  unfolding ruleFound
+  rule-quiet x = onFound-quiet (included (λ e. lookAt r (daemonElement e)) (x .daemons)) (included (λ e. lookAt r (clientElement e)) (x .clients)) No
+      (included-quiet (λ e. lookAt r (daemonElement e)) daemon-quiet (x .daemons))
+      (included-quiet (λ e. lookAt r (clientElement e)) client-quiet (x .clients)) tt
+
+  line-quiet : (v : Verdict) → QuietVerdict v → (f : File) (l : Line) → QuietAnswer (lineAnswer v f r l)
+  unfolding lineAnswer
+  line-quiet v h f l = by (isComment l || isBlank l) (parseRule (l .raw))
+    where
+      answer-quiet : (x : Rule) (y : Found) → Quiet y → QuietAnswer (ruleAnswer v f l x y)
+      answer-quiet x No k = tt
+      answer-quiet x Yes k = h
+      answer-quiet x Ask k = k
+
+      by : (b : Bool) (o : Option Rule) → QuietAnswer (if b then none else (o >>= λ x. ruleAnswer v f l x (ruleFound r x)))
+      by true o = tt
+      by false none = tt
+      by false (some x) = answer-quiet x (ruleFound r x) (rule-quiet x)
+
+  first-quiet : (f : Line → Option Answer) → ((l : Line) → QuietAnswer (f l)) → (ls : List Line) → QuietAnswer (first f ls)
+  unfolding first
+  first-quiet f h [] = tt
+  first-quiet f h (l ∷ ls) = by (f l) (h l) (first-quiet f h ls)
+    where
+      by : (o : Option Answer) → QuietAnswer o → QuietAnswer (first f ls) → QuietAnswer (o orElse first f ls)
+      by none k ih = ih
+      by (some a) k ih = k
+
+  search-quiet : (allow deny : List ℕ) → QuietVerdict (search allow deny r .verdict)
+  unfolding search
+  search-quiet allow deny = by
+      (first (lineAnswer Ver.Granted Deciding.Allow r) (lines allow)) (first (lineAnswer Ver.Denied Deciding.Deny r) (lines deny))
+      (first-quiet (lineAnswer Ver.Granted Deciding.Allow r) (line-quiet Ver.Granted tt Deciding.Allow) (lines allow))
+      (first-quiet (lineAnswer Ver.Denied Deciding.Deny r) (line-quiet Ver.Denied tt Deciding.Deny) (lines deny))
+    where
+      by : (o q : Option Answer) → QuietAnswer o → QuietAnswer q
+          → QuietVerdict (Option·getD (o orElse q) (answer Ver.Granted Deciding.Neither 0 (part 0 0)) .verdict)
+      by (some a) q h k = h
+      by none none h k = tt
+      by none (some a) h k = k
+
+  pub decide-quiet : (allow deny : List ℕ) → QuietOutcome (decide allow deny (some r))
+  unfolding decide
+  decide-quiet a d = by
+      (overLimit S.allow a orElse overLimit S.deny d orElse hostsFault S.allow a orElse hostsFault S.deny d) (wellFormed r)
+    where
+      by : (o : Option Refusal) (b : Bool) → QuietOutcome (o before (if b then answered (search a d r) else refused (placeless F.BadRequest)))
+      by (some f) b = tt
+      by none false = tt
+      by none true = search-quiet a d
+
+pub decide-none-quiet : (allow deny : List ℕ) → QuietOutcome (decide allow deny none)
+unfolding decide
+decide-none-quiet a d = by (overLimit S.allow a orElse overLimit S.deny d orElse hostsFault S.allow a orElse hostsFault S.deny d)
+  where
+    by : (o : Option Refusal) → QuietOutcome (o before refused (placeless F.BadRequest))
+    by (some f) = tt
+    by none = tt

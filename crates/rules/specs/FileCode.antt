@@ -3,11 +3,11 @@
 --   hostsFaultAt s t == the refusal of the text t of the section whose order is s
 --   passOf o a       == a refusal, else an answer, as the code answers them
 --   passLine .. l, passText .. t == the same of a line and of a text; the answer is looked for only if search holds
---   onward p q       == the pass p over some lines, then q over what follows
+--   combined p q       == the pass p over some lines, then q over what follows
 --   passBoth r allow deny == the pass over both texts
 --   rulingBy p sound == the ruling by that pass, on a request that is sound or not
---   lineShape l      == whether the line l is faulty by 4 to 6, passed over, or a rule
---   ruleTold .. t, lineTold .. l == the lowest fault of a rule and of a line, else what it finds
+--   lineKind l      == whether the line l is faulty by 4 to 6, passed over, or a rule
+--   ruleExamined .. t, lineExamined .. l == the lowest fault of a rule and of a line, else what it finds
 --   commandPart at s o == the raw command of the rule o, which was read from the line s at a place
 --   ScannedLine s l  == the bytes s are those of a line that was scanned as l
 --   stepOf .. t i n s == what the step over the line of t at i, of number n and scanned as s, answers
@@ -24,7 +24,8 @@ use Rattle.section.specs.declared.Fault.{Fault}
 use Rattle.section.specs.declared.Fault.the-variants as F
 use Rattle.section.specs.declared.Part.{Part}
 use Rattle.section.specs.declared.Refusal.{Refusal}
-use Rattle.section.specs.Refusal.{lowest, atPlace, placeless}
+use Rattle.section.specs.Refusal.{atPlace, placeless}
+use Rattle.section.specs.Code.{firstHolding}
 use Rattle.section.specs.Section as S
 use Rattle.section.specs.Section.{part}
 use Rattle.lines.specs.declared.line.LineSpan.{LineSpan}
@@ -44,10 +45,10 @@ use Rattle.rules.specs.declared.Ruling.{Ruling}
 use Rattle.rules.specs.declared.Ruling.the-variants as R
 use Rattle.rules.specs.declared.hosts_file.Pass.{Pass}
 use Rattle.rules.specs.declared.hosts_file.Pass.the-variants as P
-use Rattle.rules.specs.declared.hosts_file.Shape.{Shape}
-use Rattle.rules.specs.declared.hosts_file.Shape.the-variants as Sh
-use Rattle.rules.specs.declared.hosts_file.Told.{Told}
-use Rattle.rules.specs.declared.hosts_file.Told.the-variants as T
+use Rattle.rules.specs.declared.hosts_file.LineKind.{LineKind}
+use Rattle.rules.specs.declared.hosts_file.LineKind.the-variants as Kind
+use Rattle.rules.specs.declared.hosts_file.Examined.{Examined}
+use Rattle.rules.specs.declared.hosts_file.Examined.the-variants as T
 use Rattle.rules.specs.declared.hosts_file.Step.{Step}
 use Rattle.rules.specs.Check.{lineFault, hostsFault}
 use Rattle.rules.specs.Search.{answer, rawCommand, lineAnswer}
@@ -83,12 +84,12 @@ isUnmatched P.Unmatched = true
 isUnmatched (P.Matched a) = false
 
 -- a fault goes before every answer, and the first of each stays
-abbrev pub onward : Pass → Pass → Pass
-onward (P.Faulty f) q = P.Faulty f
-onward P.Unmatched q = q
-onward (P.Matched a) (P.Faulty g) = P.Faulty g
-onward (P.Matched a) P.Unmatched = P.Matched a
-onward (P.Matched a) (P.Matched c) = P.Matched a
+abbrev pub combined : Pass → Pass → Pass
+combined (P.Faulty f) q = P.Faulty f
+combined P.Unmatched q = q
+combined (P.Matched a) (P.Faulty g) = P.Faulty g
+combined (P.Matched a) P.Unmatched = P.Matched a
+combined (P.Matched a) (P.Matched c) = P.Matched a
 
 unfoldable pub passBoth : Request → List ℕ → List ℕ → Pass
 passBoth r allow deny = passOf
@@ -107,29 +108,29 @@ rulingBy (P.Matched a) sound = refusingRequest sound a
 -- ## A line
 
 -- 4 to 6
-abbrev pub shapeFault : Line → Option Fault
-shapeFault l = lowest
+abbrev pub layoutFault : Line → Option Fault
+layoutFault l = firstHolding
     ((F.Unended, not (l .ended))
     ∷ (F.BadByte, not (isComment l) && hasBadByte (join (l .raw)))
     ∷ (F.LongLine, isTooLong (join (l .raw))) ∷ [])
 
-abbrev pub shapeOf : Option Fault → Bool → Shape
-shapeOf (some f) passed = Sh.Faulty f
-shapeOf none true = Sh.Passed
-shapeOf none false = Sh.Ruled
+abbrev pub kindAs : Option Fault → Bool → LineKind
+kindAs (some f) passed = Kind.Faulty f
+kindAs none true = Kind.Skipped
+kindAs none false = Kind.HasRule
 
-unfoldable pub lineShape : Line → Shape
-lineShape l = shapeOf (shapeFault l) (isComment l || isBlank l)
+unfoldable pub lineKind : Line → LineKind
+lineKind l = kindAs (layoutFault l) (isComment l || isBlank l)
 
-abbrev pub toldOf : Option Fault → Found → Told
-toldOf (some f) x = T.Faulty f
-toldOf none x = T.Finds x
+abbrev pub examinedAs : Option Fault → Found → Examined
+examinedAs (some f) x = T.Faulty f
+examinedAs none x = T.Finds x
 
-unfoldable pub ruleTold : Bool → Request → List ℕ → Told
-ruleTold search r t = toldOf (ruleFault (parseRule t)) (if search then lineFound r t else No)
+unfoldable pub ruleExamined : Bool → Request → List ℕ → Examined
+ruleExamined search r t = examinedAs (ruleFault (parseRule t)) (if search then lineFound r t else No)
 
-unfoldable pub lineTold : Bool → Request → Line → Told
-lineTold search r l = toldOf (lineFault l) (if isComment l || isBlank l then No else if search then lineFound r (l .raw) else No)
+unfoldable pub lineExamined : Bool → Request → Line → Examined
+lineExamined search r l = examinedAs (lineFault l) (if isComment l || isBlank l then No else if search then lineFound r (l .raw) else No)
 
 unfoldable pub commandPart : ℕ → List ℕ → Option Rule → Part
 commandPart at s none = part (at + length s) 0

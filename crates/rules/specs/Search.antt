@@ -1,20 +1,19 @@
 -- Document 01, "Search": the verdict. What one rule finds is in lists, Walk.antt.
 --   search allow deny r == the answer on a request by two sound texts
---   decide allow deny r == the call: every check, then the search
---   rulingOf o          == the outcome o as the call answers it
+--   decide allow deny o == the call: every check, then the search for the request in o
+--   verdictRuling o          == the outcome o as the call answers it
 --   commandBytes allow deny a == the bytes of the raw command of the answer a
 -- Assumes nothing: these are definitions.
 use Prim.Native.Nat.{ℕ, _+_, _-_}
-use mathlib.Core.Bool.{not, _||_}
+use mathlib.Core.Bool.{_||_}
 use mathlib.Core.List.{List, [], _∷_}
 use mathlib.Core.Option.{Option, none, some, Option·getD}
-use lib.ListN.{length, take, drop}
-use Rattle.text.specs.Basics.{if_then_else_, _>>=_, _orElse_, given, isEmpty, first}
-use Rattle.section.specs.declared.Fault.the-variants as F
+use lib.ListN.{length}
+use Rattle.text.specs.Basics.{if_then_else_, _>>=_, _orElse_, isEmpty, first}
 use Rattle.section.specs.declared.Part.{Part}
-use Rattle.section.specs.Refusal.{Outcome, refused, answered, placeless, refusing}
+use Rattle.section.specs.Refusal.{Outcome, refused, answered, _before_, fitting}
 use Rattle.section.specs.Section as S
-use Rattle.section.specs.Section.{part, overLimit}
+use Rattle.section.specs.Section.{part, bytesAt, overLimit}
 use Rattle.lines.specs.Line.{Line, lines, isComment, isBlank}
 use Rattle.lines.specs.Rule.{Rule, parseRule}
 use Rattle.lines.specs.Command.{trimmed}
@@ -64,20 +63,15 @@ search allow deny r = Option·getD
 
 -- "per section in turn, .. limit (2) ..; then allow, deny ..; then 13"; "A call that takes only some texts makes only
 -- their checks, over the whole of each text, before any verdict."
-unfoldable pub decide : List ℕ → List ℕ → Request → Outcome Answer
-decide allow deny r = refusing
-    (overLimit S.allow allow orElse overLimit S.deny deny
-    orElse hostsFault S.allow allow orElse hostsFault S.deny deny
-    orElse given (not (wellFormed r)) (placeless F.BadRequest))
-    (search allow deny r)
+unfoldable pub decide : List ℕ → List ℕ → Option Request → Outcome Answer
+decide allow deny o =
+    (overLimit S.allow allow orElse overLimit S.deny deny orElse hostsFault S.allow allow orElse hostsFault S.deny deny)
+    before fitting wellFormed o (λ r. answered (search allow deny r))
 
-abbrev pub rulingOf : Outcome Answer → Ruling
-rulingOf (refused f) = Ruling.Refused f
-rulingOf (answered a) = Ruling.Answered a
+abbrev pub verdictRuling : Outcome Answer → Ruling
+verdictRuling (refused f) = Ruling.Refused f
+verdictRuling (answered a) = Ruling.Answered a
 
 -- "The verdict hands back the raw command as a part of the allow file or of the deny file"
-abbrev pub bytesAt : List ℕ → Part → List ℕ
-bytesAt t p = take (p .len) (drop (p .place) t)
-
 abbrev pub commandBytes : List ℕ → List ℕ → Answer → List ℕ
 commandBytes allow deny a = elim (a .file) [ Neither ↦ [] | Allow ↦ bytesAt allow (a .command) | Deny ↦ bytesAt deny (a .command) ]

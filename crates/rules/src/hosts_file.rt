@@ -7,10 +7,10 @@ ghost use lib.ListN.{length, drop};
 ghost use Rattle.lines.specs.Line.{line, join};
 ghost use Rattle.lines.specs.Rule.{parseRule};
 ghost use Rattle.lines.specs.Scan.{spanAt, scanLine};
-ghost use Rattle.patterns.specs.Host.{endpoint};
-ghost use Rattle.elements.specs.Request.{requestOf};
+ghost use Rattle.elements.specs.Places.{requestAt};
+ghost use Rattle.classes.specs.Class.{Classes};
 ghost use Rattle.lists.specs.Code.{NoNewline};
-ghost use Rattle.rules.specs.FileCode.{ScannedLine, lineShape, ruleTold, lineTold, commandPart, passLine, stepOf, passText, passOf, hostsFaultAt};
+ghost use Rattle.rules.specs.FileCode.{ScannedLine, lineKind, ruleExamined, lineExamined, commandPart, passLine, stepOf, passText, passOf, hostsFaultAt};
 ghost use mathlib.Core.Option.{none};
 use super::Answer;
 use super::File;
@@ -18,6 +18,7 @@ use super::Verdict;
 use address::Addr;
 use elements::Found;
 use elements::User;
+use elements::request::Request;
 use lines::line;
 use lines::line::LineSpan;
 use lines::rule;
@@ -36,14 +37,14 @@ pub enum Pass {
 }
 
 // What a line is before its rule is read: faulty, a comment or blank, or a rule.
-pub enum Shape {
+pub enum LineKind {
     Faulty(Fault),
-    Passed,
-    Ruled,
+    Skipped,
+    HasRule,
 }
 
 // What a line tells: its lowest fault, else what it finds of the request.
-pub enum Told {
+pub enum Examined {
     Faulty(Fault),
     Finds(Found),
 }
@@ -55,153 +56,102 @@ pub struct Step {
     pub pass: Pass,
 }
 
-// The shape of a line that was scanned.
-fn shape_of(raw: &[u8], span: LineSpan) -> Shape
+// The kind of a line that was scanned.
+fn kind_of_line(raw: &[u8], span: LineSpan) -> LineKind
     requires { ⌜ ScannedLine (now raw) span ⌝ }
-    ensures { λ r. ⌜ r ≡ lineShape (line 0 0 (now (raw .entry)) (span .ended)) ⌝ }
+    ensures { λ r. ⌜ r ≡ lineKind (line 0 0 (now (raw .entry)) (span .ended)) ⌝ }
 {
     if !span.ended {
-        return Shape::Faulty(Fault::Unended);
+        return LineKind::Faulty(Fault::Unended);
     }
     let comment = line::is_comment(raw);
     if !comment & !span.clean {
-        return Shape::Faulty(Fault::BadByte);
+        return LineKind::Faulty(Fault::BadByte);
     }
     if 2047 < raw.len() - 2 * span.joins {
-        return Shape::Faulty(Fault::LongLine);
+        return LineKind::Faulty(Fault::LongLine);
     }
     if comment {
-        return Shape::Passed;
+        return LineKind::Skipped;
     }
     if line::is_blank(raw) {
-        Shape::Passed
+        LineKind::Skipped
     } else {
-        Shape::Ruled
+        LineKind::HasRule
     }
 }
 
 // What the rule in the joined line t tells.
-fn rule_told(
+fn examine_rule(
+    class: &[u8; 256],
     t: &[u8],
     search: bool,
-    daemon: &[u8],
-    client: Host,
-    client_name: &[u8],
-    server: Host,
-    server_name: &[u8],
-    user: User,
-    user_name: &[u8],
-) -> Told
+    names: &[u8],
+    request: Request,
+) -> Examined
+    requires { ⌜ Classes (now class) ⌝ }
     requires { ⌜ NoNewline (now t) ⌝ }
     ensures { λ r.
         ⌜ r
-        ≡ ruleTold search
-        (requestOf (now (daemon .entry)) (endpoint client (now («client_name» .entry))) (endpoint server (now («server_name» .entry))) user (now («user_name» .entry)))
+        ≡ ruleExamined search
+        (requestAt (now (names .entry)) request)
         (now (t .entry)) ⌝ }
 {
-    match lists::check::check_rule(t) {
-        Checked::Faulty(f) => Told::Faulty(f),
-        Checked::Sound => {
-            if search {
-                Told::Finds(lists::walk::rule_found(
-                    t,
-                    daemon,
-                    client,
-                    client_name,
-                    server,
-                    server_name,
-                    user,
-                    user_name,
-                ))
-            } else {
-                Told::Finds(Found::No)
-            }
-        }
+    let seen = lists::pass::pass_rule(class, t, search, names, request);
+    let check = seen.check;
+    let found = seen.found;
+    match check {
+        Checked::Faulty(f) => Examined::Faulty(f),
+        Checked::Sound => Examined::Finds(found),
     }
 }
 
 // What the rule in a line with dropped pairs tells.
-fn joined_told(
+fn examine_joined(
+    class: &[u8; 256],
     raw: &[u8],
     search: bool,
-    daemon: &[u8],
-    client: Host,
-    client_name: &[u8],
-    server: Host,
-    server_name: &[u8],
-    user: User,
-    user_name: &[u8],
-) -> Told
+    names: &[u8],
+    request: Request,
+) -> Examined
+    requires { ⌜ Classes (now class) ⌝ }
     requires { ⌜ (NoNewline (join (now raw))) × (length (join (now raw)) ≤ 2047) ⌝ }
     ensures { λ r.
         ⌜ r
-        ≡ ruleTold search
-        (requestOf (now (daemon .entry)) (endpoint client (now («client_name» .entry))) (endpoint server (now («server_name» .entry))) user (now («user_name» .entry)))
+        ≡ ruleExamined search
+        (requestAt (now (names .entry)) request)
         (now (raw .entry)) ⌝ }
 {
     let mut joined = [0u8; 2048];
     let n = line::join_into(&mut joined, raw);
-    rule_told(
-        &joined[..n],
-        search,
-        daemon,
-        client,
-        client_name,
-        server,
-        server_name,
-        user,
-        user_name,
-    )
+    examine_rule(class, &joined[..n], search, names, request)
 }
 
 // What a line that was scanned tells.
-fn line_told(
+fn examine_line(
+    class: &[u8; 256],
     raw: &[u8],
     span: LineSpan,
     search: bool,
-    daemon: &[u8],
-    client: Host,
-    client_name: &[u8],
-    server: Host,
-    server_name: &[u8],
-    user: User,
-    user_name: &[u8],
-) -> Told
+    names: &[u8],
+    request: Request,
+) -> Examined
+    requires { ⌜ Classes (now class) ⌝ }
     requires { ⌜ ScannedLine (now raw) span ⌝ }
     ensures { λ r.
         ⌜ r
-        ≡ lineTold search
-        (requestOf (now (daemon .entry)) (endpoint client (now («client_name» .entry))) (endpoint server (now («server_name» .entry))) user (now («user_name» .entry)))
+        ≡ lineExamined search
+        (requestAt (now (names .entry)) request)
         (line 0 0 (now (raw .entry)) (span .ended)) ⌝ }
 {
-    match shape_of(raw, span) {
-        Shape::Faulty(f) => Told::Faulty(f),
-        Shape::Passed => Told::Finds(Found::No),
-        Shape::Ruled => {
+    match kind_of_line(raw, span) {
+        LineKind::Faulty(f) => Examined::Faulty(f),
+        LineKind::Skipped => Examined::Finds(Found::No),
+        LineKind::HasRule => {
             if span.joins == 0 {
-                rule_told(
-                    raw,
-                    search,
-                    daemon,
-                    client,
-                    client_name,
-                    server,
-                    server_name,
-                    user,
-                    user_name,
-                )
+                examine_rule(class, raw, search, names, request)
             } else {
-                joined_told(
-                    raw,
-                    search,
-                    daemon,
-                    client,
-                    client_name,
-                    server,
-                    server_name,
-                    user,
-                    user_name,
-                )
+                examine_joined(class, raw, search, names, request)
             }
         }
     }
@@ -229,6 +179,7 @@ fn command_of(raw: &[u8], at: usize) -> Part
 
 // What a line that was scanned gives, which starts at a place and has the number n.
 fn pass_line(
+    class: &[u8; 256],
     raw: &[u8],
     span: LineSpan,
     at: usize,
@@ -237,39 +188,24 @@ fn pass_line(
     verdict: Verdict,
     file: File,
     search: bool,
-    daemon: &[u8],
-    client: Host,
-    client_name: &[u8],
-    server: Host,
-    server_name: &[u8],
-    user: User,
-    user_name: &[u8],
+    names: &[u8],
+    request: Request,
 ) -> Pass
+    requires { ⌜ Classes (now class) ⌝ }
     requires { ⌜ (ScannedLine (now raw) span) × (at + length (now raw) < 18446744073709551616) ⌝ }
     ensures { λ r.
         ⌜ r
         ≡ passLine order verdict file search
-        (requestOf (now (daemon .entry)) (endpoint client (now («client_name» .entry))) (endpoint server (now («server_name» .entry))) user (now («user_name» .entry)))
+        (requestAt (now (names .entry)) request)
         (line n at (now (raw .entry)) (span .ended)) ⌝ }
 {
-    match line_told(
-        raw,
-        span,
-        search,
-        daemon,
-        client,
-        client_name,
-        server,
-        server_name,
-        user,
-        user_name,
-    ) {
-        Told::Faulty(f) => Pass::Faulty(Refusal {
+    match examine_line(class, raw, span, search, names, request) {
+        Examined::Faulty(f) => Pass::Faulty(Refusal {
             fault: f,
             section: order,
             line: n,
         }),
-        Told::Finds(found) => match found {
+        Examined::Finds(found) => match found {
             Found::No => Pass::Unmatched,
             Found::Ask => Pass::Matched(Answer {
                 verdict: Verdict::Ask,
@@ -289,6 +225,7 @@ fn pass_line(
 
 // The step over the line of a text that starts at i and has the number n.
 fn step_over(
+    class: &[u8; 256],
     text: &[u8],
     i: usize,
     n: usize,
@@ -296,24 +233,21 @@ fn step_over(
     verdict: Verdict,
     file: File,
     search: bool,
-    daemon: &[u8],
-    client: Host,
-    client_name: &[u8],
-    server: Host,
-    server_name: &[u8],
-    user: User,
-    user_name: &[u8],
+    names: &[u8],
+    request: Request,
 ) -> Step
+    requires { ⌜ Classes (now class) ⌝ }
     requires { ⌜ (i < length (now text)) × (n ≤ i + 1) ⌝ }
     ensures { λ r.
         ⌜ r
         ≡ stepOf order verdict file search
-        (requestOf (now (daemon .entry)) (endpoint client (now («client_name» .entry))) (endpoint server (now («server_name» .entry))) user (now («user_name» .entry)))
+        (requestAt (now (names .entry)) request)
         (now (text .entry)) i n (spanAt i (scanLine (drop i (now (text .entry))))) ⌝ }
 {
     let span = line::scan_line(text, i);
     let e = span.end;
     let pass = pass_line(
+        class,
         &text[i..e],
         span,
         i,
@@ -322,13 +256,8 @@ fn step_over(
         verdict,
         file,
         search,
-        daemon,
-        client,
-        client_name,
-        server,
-        server_name,
-        user,
-        user_name,
+        names,
+        request,
     );
     Step {
         next: e + 1,
@@ -337,25 +266,23 @@ fn step_over(
     }
 }
 
-// What a text gives: the refusal at its lowest faulty line, else, if search holds, the answer of its first rule that matches or asks.
-pub fn pass_file(
+// What the lines of a text give: the refusal at its lowest faulty line, else, if search holds, the answer of its first rule that matches or
+// asks.
+fn pass_lines(
+    class: &[u8; 256],
     text: &[u8],
     order: u8,
     verdict: Verdict,
     file: File,
     search: bool,
-    daemon: &[u8],
-    client: Host,
-    client_name: &[u8],
-    server: Host,
-    server_name: &[u8],
-    user: User,
-    user_name: &[u8],
+    names: &[u8],
+    request: Request,
 ) -> Pass
+    requires { ⌜ Classes (now class) ⌝ }
     ensures { λ r.
         ⌜ r
         ≡ passText order verdict file search
-        (requestOf (now (daemon .entry)) (endpoint client (now («client_name» .entry))) (endpoint server (now («server_name» .entry))) user (now («user_name» .entry)))
+        (requestAt (now (names .entry)) request)
         (now (text .entry)) ⌝ }
 {
     let mut i = 0;
@@ -364,6 +291,7 @@ pub fn pass_file(
     let mut found = Pass::Unmatched;
     while i < text.len() {
         let step = step_over(
+            class,
             text,
             i,
             n,
@@ -371,13 +299,8 @@ pub fn pass_file(
             verdict,
             file,
             searching,
-            daemon,
-            client,
-            client_name,
-            server,
-            server_name,
-            user,
-            user_name,
+            names,
+            request,
         );
         let pass = step.pass;
         match pass {
@@ -396,14 +319,46 @@ pub fn pass_file(
     found
 }
 
+// What a text gives. The classes of bytes are made once for all of its lines.
+pub fn pass_file(
+    text: &[u8],
+    order: u8,
+    verdict: Verdict,
+    file: File,
+    search: bool,
+    names: &[u8],
+    request: Request,
+) -> Pass
+    ensures { λ r.
+        ⌜ r
+        ≡ passText order verdict file search
+        (requestAt (now (names .entry)) request)
+        (now (text .entry)) ⌝ }
+{
+    if text.len() == 0 {
+        return Pass::Unmatched;
+    }
+    let class = classes::classes();
+    pass_lines(&class, text, order, verdict, file, search, names, request)
+}
+
 // The refusal of a text at its lowest faulty line, if it has one.
 pub fn check_file(text: &[u8], order: u8) -> Pass
     ensures { λ r. ⌜ r ≡ passOf (hostsFaultAt order (now (text .entry))) none ⌝ }
 {
-    let none = &text[..0];
     let host = Host {
         name: Name::Unknown,
         addr: Addr::Unknown,
+    };
+    let none = Part { place: 0, len: 0 };
+    let nobody = Request {
+        daemon: none,
+        client: host,
+        client_name: none,
+        server: host,
+        server_name: none,
+        user: User::NotFetched,
+        user_name: none,
     };
     pass_file(
         text,
@@ -411,12 +366,7 @@ pub fn check_file(text: &[u8], order: u8) -> Pass
         Verdict::Granted,
         File::Neither,
         false,
-        none,
-        host,
-        none,
-        host,
-        none,
-        User::NotFetched,
-        none,
+        &text[..0],
+        nobody,
     )
 }

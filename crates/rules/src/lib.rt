@@ -1,23 +1,22 @@
 // The checks of the allow and deny files, and the verdict on a request.
 //   decide(allow, deny, ..)  == the verdict, or the refusal of a text or of the request
 //   pass_both(allow, deny, ..) == one pass over both texts: the refusal of one, else what decides
-//   go_on(found, rest)       == that pass, then another
+//   combine(found, rest)       == that pass, then another
 //   ruling_by(pass, sound)   == the ruling by a pass, on a request that is sound or not
-//   part_of(s, part)         == the bytes of a part of s
 //   command_part(allow, deny, answer) == the bytes of the answer's raw command
 pub mod hosts_file;
 
+ghost use mathlib.Core.Option.{some};
 ghost use mathlib.Core.Path.{_≡_};
-ghost use Rattle.patterns.specs.Host.{endpoint};
-ghost use Rattle.elements.specs.Request.{requestOf};
-ghost use Rattle.rules.specs.Search.{decide as decideBy, rulingOf, bytesAt, commandBytes};
-ghost use Rattle.rules.specs.FileCode.{isUnmatched, onward, passBoth, refusingRequest, rulingBy};
-use elements::User;
+ghost use Rattle.elements.specs.Places.{requestAt};
+ghost use Rattle.rules.specs.Search.{decide as decideBy, verdictRuling, commandBytes};
+ghost use Rattle.rules.specs.FileCode.{isUnmatched, combined, passBoth, refusingRequest, rulingBy};
+use elements::request::Request;
 use hosts_file::Pass;
-use patterns::Host;
 use section::Fault;
 use section::Part;
 use section::Refusal;
+use section::part_of;
 
 // The words of the verdict.
 pub enum Verdict {
@@ -58,8 +57,8 @@ fn is_unmatched(pass: Pass) -> bool
 }
 
 // The pass over some lines, then over what follows them.
-pub fn go_on(found: Pass, rest: Pass) -> Pass
-    ensures { λ r. ⌜ r ≡ onward found rest ⌝ }
+pub fn combine(found: Pass, rest: Pass) -> Pass
+    ensures { λ r. ⌜ r ≡ combined found rest ⌝ }
 {
     match found {
         Pass::Faulty(f) => Pass::Faulty(f),
@@ -73,21 +72,11 @@ pub fn go_on(found: Pass, rest: Pass) -> Pass
 }
 
 // The pass over both files: the allow file first, and the deny file's rules only if none of the allow file's matches.
-pub fn pass_both(
-    allow: &[u8],
-    deny: &[u8],
-    daemon: &[u8],
-    client: Host,
-    client_name: &[u8],
-    server: Host,
-    server_name: &[u8],
-    user: User,
-    user_name: &[u8],
-) -> Pass
+pub fn pass_both(allow: &[u8], deny: &[u8], names: &[u8], request: Request) -> Pass
     ensures { λ r.
         ⌜ r
         ≡ passBoth
-        (requestOf (now (daemon .entry)) (endpoint client (now («client_name» .entry))) (endpoint server (now («server_name» .entry))) user (now («user_name» .entry)))
+        (requestAt (now (names .entry)) request)
         (now (allow .entry)) (now (deny .entry)) ⌝ }
 {
     let first = hosts_file::pass_file(
@@ -96,13 +85,8 @@ pub fn pass_both(
         Verdict::Granted,
         File::Allow,
         true,
-        daemon,
-        client,
-        client_name,
-        server,
-        server_name,
-        user,
-        user_name,
+        names,
+        request,
     );
     let rest = hosts_file::pass_file(
         deny,
@@ -110,15 +94,10 @@ pub fn pass_both(
         Verdict::Denied,
         File::Deny,
         is_unmatched(first),
-        daemon,
-        client,
-        client_name,
-        server,
-        server_name,
-        user,
-        user_name,
+        names,
+        request,
     );
-    go_on(first, rest)
+    combine(first, rest)
 }
 
 // The answer, on a request that is sound or not.
@@ -152,22 +131,12 @@ pub fn ruling_by(pass: Pass, sound: bool) -> Ruling
 }
 
 // The verdict on a request by the allow and deny files, or the refusal of a file or of the request.
-pub fn decide(
-    allow: &[u8],
-    deny: &[u8],
-    daemon: &[u8],
-    client: Host,
-    client_name: &[u8],
-    server: Host,
-    server_name: &[u8],
-    user: User,
-    user_name: &[u8],
-) -> Ruling
+pub fn decide(allow: &[u8], deny: &[u8], names: &[u8], request: Request) -> Ruling
     ensures { λ r.
         ⌜ r
-        ≡ rulingOf
+        ≡ verdictRuling
         (decideBy (now (allow .entry)) (now (deny .entry))
-        (requestOf (now (daemon .entry)) (endpoint client (now («client_name» .entry))) (endpoint server (now («server_name» .entry))) user (now («user_name» .entry)))) ⌝ }
+        (some (requestAt (now (names .entry)) request))) ⌝ }
 {
     if section::Allow::over(allow.len()) {
         return Ruling::Refused(section::Allow::refusal(Fault::OverLimit, 0));
@@ -175,45 +144,8 @@ pub fn decide(
     if section::Deny::over(deny.len()) {
         return Ruling::Refused(section::Deny::refusal(Fault::OverLimit, 0));
     }
-    let pass = pass_both(
-        allow,
-        deny,
-        daemon,
-        client,
-        client_name,
-        server,
-        server_name,
-        user,
-        user_name,
-    );
-    ruling_by(
-        pass,
-        elements::element::well_formed(
-            daemon,
-            client,
-            client_name,
-            server,
-            server_name,
-            user,
-            user_name,
-        ),
-    )
-}
-
-// The bytes of a part of s, as far as s goes.
-pub fn part_of(s: &[u8], part: Part) -> &[u8]
-    ensures { λ r. ⌜ now r ≡ bytesAt (now (s .entry)) part ⌝ }
-{
-    let at = part.place;
-    if s.len() <= at {
-        return &s[..0];
-    }
-    let rest = &s[at..];
-    let n = part.len;
-    if rest.len() <= n {
-        return rest;
-    }
-    &rest[..n]
+    let pass = pass_both(allow, deny, names, request);
+    ruling_by(pass, elements::request::fits(names, request))
 }
 
 // The raw command of an answer, out of whichever file decided; empty where there is none.

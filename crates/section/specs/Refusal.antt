@@ -1,8 +1,10 @@
 -- Document 01, "Numbers the gate answers with".
 --   faultNumber f    == the paper's number of a fault
---   lowest cs        == the first fault of cs whose test holds; cs stands in the order of the numbers
+--   lowest cs        == of the faults of cs whose tests hold, the one with the lowest number
 --   Outcome A        == a refusal, or an answer of type A
 --   refusing o a     == the refusal o, else the answer a
+--   o before c       == the refusal o, else the outcome c of what comes next
+--   fitting p o f    == what f answers to the request in o, where its fields are within their sizes; else 13
 --   withinRoom n t   == t as output into n bytes
 --   lentAfter out o  == what the lent output out holds after the outcome o
 -- Assumes nothing: these are definitions.
@@ -36,10 +38,15 @@ faultNumber F.BadEntry = 12
 faultNumber F.BadRequest = 13
 faultNumber F.NoRoom = 14
 
+-- f, unless the other has a lower number
+abbrev pub lowerFault : Fault → Option Fault → Fault
+lowerFault f none = f
+lowerFault f (some g) = if ltb (faultNumber g) (faultNumber f) then g else f
+
 -- "within a line the lowest number"
 unfoldable pub lowest : List (Fault × Bool) → Option Fault
 lowest [] = none
-lowest (c ∷ cs) = if c .1 then some (c .0) else lowest cs
+lowest (c ∷ cs) = if c .1 then some (lowerFault (c .0) (lowest cs)) else lowest cs
 
 -- "A refusal carries number, section (1 to 4, or 0) and line (0 where none; the entry number for 12)"
 abbrev pub refusal : Fault → ℕ → ℕ → Refusal
@@ -67,6 +74,17 @@ answered a >>= f = f a
 abbrev pub refusing : {A : Type 0} → Option Refusal → A → Outcome A
 refusing none a = answered a
 refusing (some r) a = refused r
+
+infixr 15 _before_
+abbrev pub _before_ : {A : Type 0} → Option Refusal → Outcome A → Outcome A
+none before c = c
+some r before c = refused r
+
+-- 13: "a request field outside its size or its kinds": p says whether every field of a request is within its size, and none
+-- stands for a request with a number outside its kinds
+abbrev pub fitting : {A B : Type 0} → (A → Bool) → Option A → (A → Outcome B) → Outcome B
+fitting p none f = refused (placeless F.BadRequest)
+fitting p (some a) f = if p a then f a else refused (placeless F.BadRequest)
 
 -- 14: "the whole output is longer than the lent output"
 abbrev pub withinRoom : ℕ → List ℕ → Outcome (List ℕ)

@@ -1,10 +1,11 @@
 -- Document 01, "The station sheet": the sections, their places and limits.
+--   bytesAt t p   == the bytes of the part p of t
 --   overLimit s t == the refusal of a text t over the limit of its section s
 -- Assumes nothing: these are definitions.
 use Prim.Native.Nat.{ℕ}
 use mathlib.Core.List.{List}
 use mathlib.Core.Option.{Option}
-use lib.ListN.{length}
+use lib.ListN.{length, take, drop}
 use lib.Dec.{ltb}
 use Rattle.text.specs.Basics.{given}
 use Rattle.section.specs.declared.Fault.the-variants as F
@@ -14,6 +15,9 @@ use Rattle.section.specs.Refusal.{refusal}
 
 abbrev pub part : ℕ → ℕ → Part
 part at n = record { place = at; len = n }
+
+abbrev pub bytesAt : List ℕ → Part → List ℕ
+bytesAt t p = take (p .len) (drop (p .place) t)
 
 -- "Each section knows its own limit and its place"
 pub record Section : Type 0 where

@@ -1,5 +1,6 @@
 // What the gate answers with, and the sections of the station sheet.
 //   fault_number(f)      == document 01's number of a fault
+//   part_of(s, p)        == the bytes of the part p of s
 //   Allow, Deny, Byuid, Portacl == the section types: LIMIT, ORDER, and
 //     over(n)            == n bytes are over the section's limit
 //     refusal(f, line)   == the refusal by f at a line of the section
@@ -8,6 +9,7 @@ ghost use mathlib.Core.Path.{_≡_};
 ghost use lib.Dec.{ltb};
 ghost use Rattle.section.specs.Refusal.{faultNumber, refusal, placeless};
 ghost use Rattle.section.specs.Section as S;
+ghost use Rattle.section.specs.Section.{bytesAt};
 ghost use Rattle.section.specs.Code.{cursorAt};
 
 // Why something is refused; faultNumber gives document 01's number.
@@ -39,6 +41,22 @@ pub struct Refusal {
 pub struct Part {
     pub place: usize,
     pub len: usize,
+}
+
+// The bytes of a part of s, as far as s goes.
+pub fn part_of(s: &[u8], part: Part) -> &[u8]
+    ensures { λ r. ⌜ now r ≡ bytesAt (now (s .entry)) part ⌝ }
+{
+    let at = part.place;
+    if s.len() <= at {
+        return &s[..0];
+    }
+    let rest = &s[at..];
+    let n = part.len;
+    if rest.len() <= n {
+        return rest;
+    }
+    &rest[..n]
 }
 
 // What a call that writes into a lent output answers: a refusal, or how many bytes it wrote.

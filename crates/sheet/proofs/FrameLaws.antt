@@ -24,9 +24,9 @@ use Rattle.section.specs.declared.Part.{Part}
 use Rattle.section.specs.declared.Refusal.{Refusal}
 use Rattle.section.specs.Refusal.{Outcome, refused, answered, _>>=_, refusal, placeless, refusing}
 use Rattle.section.specs.Section as S
-use Rattle.section.specs.Section.{Section, part, overLimit}
+use Rattle.section.specs.Section.{bytesAt, Section, part, overLimit}
 use Rattle.sheet.specs.declared.Parts.{Parts}
-use Rattle.sheet.specs.Sheet.{Texts, textAt, textsAt, textsFault, sectionAt, partEnd, frame, unpack, counted, sheetOf, pack}
+use Rattle.sheet.specs.Sheet.{Texts, textsAt, textsFault, sectionAt, partEnd, frame, unpack, counted, sheetOf, pack}
 
 -- ## Outcomes
 
@@ -90,7 +90,13 @@ module _ {s : Section} {at : ℕ} {sheet : List ℕ} {p : Part} (f : SectionAt s
   unfolding sectionAt
   answered-sectionAt =
       let h : 4 + p .len ≤ length (drop at sheet) = simp length-drop (omega arith) in
-      rw (← (f .count), le-ltb (length (drop at sheet)) 4 (omega arith), le-ltb (s .limit) (p .len) (f .limit), le-ltb (length (drop at sheet)) (4 + p .len) h, ← (f .place))
+      rw (
+        ← (f .count),
+        le-ltb (length (drop at sheet)) 4 (omega arith),
+        le-ltb (s .limit) (p .len) (f .limit),
+        le-ltb (length (drop at sheet)) (4 + p .len) h,
+        ← (f .place),
+      )
 
   -- in the sheet cut after the section's end, and before it
   module _ (k : ℕ) (short : k ≤ length sheet) where
@@ -190,8 +196,8 @@ module _ (at : ℕ) (sheet t rest : List ℕ) (here : drop at sheet ≡ counted 
   pub drop-counted : drop (at + 4 + length t) sheet ≡ rest
   drop-counted = sym (drop-drop (length t) (at + 4) sheet) ∙ ap (drop (length t)) after-count ∙ drop-append-seam t rest
 
-  pub textAt-counted : textAt sheet (part (at + 4) (length t)) ≡ t
-  textAt-counted = ap (take (length t)) after-count ∙ take-append-seam t rest
+  pub bytesAt-counted : bytesAt sheet (part (at + 4) (length t)) ≡ t
+  bytesAt-counted = ap (take (length t)) after-count ∙ take-append-seam t rest
 
   pub sectionAt-counted : (s : Section) → length t ≤ s .limit → s .limit < 256 ^ 4 → SectionAt s at sheet (part (at + 4) (length t))
   sectionAt-counted s h fits =
@@ -209,22 +215,22 @@ module _ (at : ℕ) (sheet t rest : List ℕ) (here : drop at sheet ≡ counted 
 
 -- a section's bytes are its count and its text
 module _ {s : Section} {at : ℕ} {sheet : List ℕ} {p : Part} (are-bytes : all (λ b. ltb b 256) sheet ≡ true) (f : SectionAt s at sheet p) where
-  length-textAt : length (textAt sheet p) ≡ p .len
-  length-textAt = length-take-le (p .len) (drop (p .place) sheet) (rw length-drop (omega (arith, f .place, f .within)))
+  length-bytesAt : length (bytesAt sheet p) ≡ p .len
+  length-bytesAt = length-take-le (p .len) (drop (p .place) sheet) (rw length-drop (omega (arith, f .place, f .within)))
 
-  count-textAt : toDigits 256 4 (length (textAt sheet p)) ≡ take 4 (drop at sheet)
-  count-textAt =
+  count-bytesAt : toDigits 256 4 (length (bytesAt sheet p)) ≡ take 4 (drop at sheet)
+  count-bytesAt =
       let four : length (take 4 (drop at sheet)) ≡ 4 = length-take-le 4 (drop at sheet) (rw length-drop (omega (arith, f .within))) in
       let small = all-take (λ b. ltb b 256) 4 (drop at sheet) (all-drop (λ b. ltb b 256) at sheet are-bytes) in
-      ap (toDigits 256 4) (length-textAt ∙ f .count) ∙ (rw four at (toDigits-fromDigits 256 0 (take 4 (drop at sheet)) small))
+      ap (toDigits 256 4) (length-bytesAt ∙ f .count) ∙ (rw four at (toDigits-fromDigits 256 0 (take 4 (drop at sheet)) small))
 
-  after-textAt : textAt sheet p ++ drop (partEnd p) sheet ≡ drop 4 (drop at sheet)
-  after-textAt =
+  after-bytesAt : bytesAt sheet p ++ drop (partEnd p) sheet ≡ drop 4 (drop at sheet)
+  after-bytesAt =
       rw (← (drop-drop (p .len) (p .place) sheet), take-append-drop (p .len) (drop (p .place) sheet), f .place, ← (drop-drop 4 at sheet))
 
-  pub counted-textAt : drop at sheet ≡ counted (textAt sheet p) ++ drop (partEnd p) sheet
-  counted-textAt =
-      rw (count-textAt, append-assoc (take 4 (drop at sheet)) (textAt sheet p) (drop (partEnd p) sheet), after-textAt, take-append-drop 4 (drop at sheet))
+  pub counted-bytesAt : drop at sheet ≡ counted (bytesAt sheet p) ++ drop (partEnd p) sheet
+  counted-bytesAt =
+      rw (count-bytesAt, append-assoc (take 4 (drop at sheet)) (bytesAt sheet p) (drop (partEnd p) sheet), after-bytesAt, take-append-drop 4 (drop at sheet))
 
 -- ## Four texts
 
@@ -293,10 +299,10 @@ module _ (ts : Texts) (sheet : List ℕ) (is : sheet ≡ inTurn ts) where
   pub textsAt-partsOf : textsAt sheet (partsOf ts) ≡ ts
   textsAt-partsOf =
       rw (
-        textAt-counted 0 sheet (ts .allow) _ is,
-        textAt-counted (partEnd (partsOf ts .allow)) sheet (ts .deny) _ at-deny,
-        textAt-counted (partEnd (partsOf ts .deny)) sheet (ts .byuid) _ at-byuid,
-        textAt-counted (partEnd (partsOf ts .byuid)) sheet (ts .portacl) [] at-portacl,
+        bytesAt-counted 0 sheet (ts .allow) _ is,
+        bytesAt-counted (partEnd (partsOf ts .allow)) sheet (ts .deny) _ at-deny,
+        bytesAt-counted (partEnd (partsOf ts .deny)) sheet (ts .byuid) _ at-byuid,
+        bytesAt-counted (partEnd (partsOf ts .byuid)) sheet (ts .portacl) [] at-portacl,
       )
 
 pub sheetOf-textsAt : {sheet : List ℕ} {p : Parts} → all (λ b. ltb b 256) sheet ≡ true → Framed sheet p → sheetOf (textsAt sheet p) ≡ sheet
@@ -304,10 +310,10 @@ sheetOf-textsAt {sheet} {p} e f =
     sheetOf-inTurn (textsAt sheet p)
     ∙ rw (
       ← (drop-of-length-le sheet {i = partEnd (p .portacl)} (omega (arith, f .end))),
-      ← (counted-textAt e (f .portacl)),
-      ← (counted-textAt e (f .byuid)),
-      ← (counted-textAt e (f .deny)),
-      ← (counted-textAt e (f .allow)),
+      ← (counted-bytesAt e (f .portacl)),
+      ← (counted-bytesAt e (f .byuid)),
+      ← (counted-bytesAt e (f .deny)),
+      ← (counted-bytesAt e (f .allow)),
     )
 
 -- ## Unpacking and packing

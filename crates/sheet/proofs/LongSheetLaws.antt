@@ -52,7 +52,14 @@ module _ (sheet : List ℕ) (long : 42001 < length sheet) where
         by true e = rw (count-front, rest-front 4 (omega arith), rest-sheet 4 (omega arith), e)
         by false e =
             let h : count ≤ s .limit = ltb-false (s .limit) count e in
-            rw (count-front, rest-front 4 (omega arith), rest-sheet 4 (omega arith), e, rest-front (4 + count) (omega arith), rest-sheet (4 + count) (omega arith))
+            rw (
+              count-front,
+              rest-front 4 (omega arith),
+              rest-sheet 4 (omega arith),
+              e,
+              rest-front (4 + count) (omega arith),
+              rest-sheet (4 + count) (omega arith),
+            )
 
     -- and what comes after it, where it is found
     section-then : {A : Type 0} (f g : Part → Outcome A) → ((p : Part) → partEnd p ≤ at + 4 + s .limit → f p ≡ g p)
@@ -76,7 +83,18 @@ module _ (sheet : List ℕ) (long : 42001 < length sheet) where
       rw frame-front
       (bind-same (frame sheet) _ _ λ p e.
       let t = frame-answered sheet p e in
-      absurd (omega (arith, t .allow .place, t .allow .limit, t .deny .place, t .deny .limit, t .byuid .place, t .byuid .limit, t .portacl .place, t .portacl .limit, t .end)))
+      absurd (omega (
+        arith,
+        t .allow .place,
+        t .allow .limit,
+        t .deny .place,
+        t .deny .limit,
+        t .byuid .place,
+        t .byuid .limit,
+        t .portacl .place,
+        t .portacl .limit,
+        t .end,
+      )))
 
 pub unpack-take : (sheet : List ℕ) → unpack (take 42001 sheet) ≡ unpack sheet
 unpack-take sheet = by (ltb 42001 (length sheet)) refl

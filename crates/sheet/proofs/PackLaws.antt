@@ -53,7 +53,8 @@ WroteCounted d o t at n = (n ≡ at + 4 + length t) × (o ≡ putAt d at (counte
 pub length-sheetOf : (a d b p : List ℕ) → length (sheetOf (texts a d b p)) ≡ 16 + length a + length d + length b + length p
 unfolding sheetOf
 length-sheetOf a d b p =
-    simp length-append (omega (arith, length-toDigits 256 4 (length a), length-toDigits 256 4 (length d), length-toDigits 256 4 (length b), length-toDigits 256 4 (length p)))
+    simp length-append
+    (omega (arith, length-toDigits 256 4 (length a), length-toDigits 256 4 (length d), length-toDigits 256 4 (length b), length-toDigits 256 4 (length p)))
 
 -- the four texts, one after the other
 module _ (out a d b p : List ℕ) (o₁ o₂ o₃ o₄ : List ℕ) (n₁ n₂ n₃ n₄ : ℕ) where
@@ -66,7 +67,8 @@ module _ (out a d b p : List ℕ) (o₁ o₂ o₃ o₄ : List ℕ) (n₁ n₂ n�
       let l₂ = length-append (counted a) (counted d) in
       let s₃ = put-more out o₂ o₃ (counted a ++ counted d) (counted b) n₂ (w₃ .1) s₂ (omega (arith, w₁ .0, w₂ .0, l₂, length-counted a, length-counted d)) in
       let l₃ = length-append (counted a ++ counted d) (counted b) in
-      let e₃ : n₃ ≡ length (counted a ++ counted d ++ counted b) = omega (arith, w₁ .0, w₂ .0, w₃ .0, l₂, l₃, length-counted a, length-counted d, length-counted b) in
+      let e₃ : n₃
+      ≡ length (counted a ++ counted d ++ counted b) = omega (arith, w₁ .0, w₂ .0, w₃ .0, l₂, l₃, length-counted a, length-counted d, length-counted b) in
       (omega (arith, w₁ .0, w₂ .0, w₃ .0, w₄ .0, length-sheetOf a d b p), put-more out o₃ o₄ (counted a ++ counted d ++ counted b) (counted p) n₃ (w₄ .1) s₃ e₃)
 
 -- ## The answers

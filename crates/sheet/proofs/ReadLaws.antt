@@ -81,7 +81,8 @@ read-found (refused r) p e = let z : _≡_ {A = ℕ} 0 1 = cc in absurd (omega a
 read-found (answered q) p e = cc
 
 -- what was read at a section's cursor
-module _ (s : Section) (at : ℕ) (sheet : List ℕ) {c : Cursor} (is-c : c ≡ cursorAt s at) {x : SectionRead} (is-x : x ≡ sectionReadOf (sectionAt (sectionOf c) (c .at) sheet)) where
+module _ (s : Section) (at : ℕ)
+    (sheet : List ℕ) {c : Cursor} (is-c : c ≡ cursorAt s at) {x : SectionRead} (is-x : x ≡ sectionReadOf (sectionAt (sectionOf c) (c .at) sheet)) where
   is-read : x ≡ sectionReadOf (sectionAt s at sheet)
   is-read = rw is-c at is-x
 

@@ -117,7 +117,8 @@ module _ (a d p : List ℕ) (x : Checked) (is-x : x ≡ checkedOf (hostsFaultAt 
 
 -- ## All
 
-orElse-halves : (a b c d e f g : Option Refusal) → (a orElse b orElse c orElse d orElse e orElse f orElse g) ≡ (a orElse b orElse c orElse d) orElse (e orElse f orElse g)
+orElse-halves : (a b c d e f g : Option Refusal) → (a orElse b orElse c orElse d orElse e orElse f orElse g)
+    ≡ (a orElse b orElse c orElse d) orElse (e orElse f orElse g)
 orElse-halves (some x) b c d e f g = refl
 orElse-halves none (some x) c d e f g = refl
 orElse-halves none none (some x) d e f g = refl
@@ -127,7 +128,8 @@ orElse-halves none none none none e f g = refl
 textsFault-halves : (a d b p : List ℕ) → textsFault (texts a d b p) ≡ limitsFault (texts a d b p) orElse contentsFault a d p
 unfolding textsFault limitsFault contentsFault
 textsFault-halves a d b p =
-    orElse-halves (overLimit S.allow a) (overLimit S.deny d) (overLimit S.byuid b) (overLimit S.portacl p) (hostsFault S.allow a) (hostsFault S.deny d) (portaclFault p)
+    orElse-halves (overLimit S.allow a) (overLimit S.deny d) (overLimit S.byuid b) (overLimit S.portacl p) (hostsFault S.allow a) (hostsFault S.deny d)
+    (portaclFault p)
 
 module _ (a d b p : List ℕ) (x : Checked) (is-x : x ≡ checkedOf (limitsFault (texts a d b p))) where
   pub texts-limits : (g : Refusal) → x ≡ C.Refused g → C.Refused g ≡ checkedOf (textsFault (texts a d b p))

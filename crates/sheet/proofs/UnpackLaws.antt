@@ -6,6 +6,7 @@ use native.Mathlib.Omega.{arith}
 use mathlib.Core.List.{List}
 use mathlib.Core.Option.{Option, none, some}
 use mathlib.Core.Path.{_≡_, refl, sym, _∙_}
+use Rattle.section.specs.Section.{bytesAt}
 use Rattle.section.specs.declared.Refusal.{Refusal}
 use Rattle.section.specs.Refusal.{Outcome, refused, answered, _>>=_, refusing}
 use Rattle.sheet.specs.declared.Parts.{Parts}
@@ -15,7 +16,7 @@ use Rattle.sheet.specs.declared.frame.Framed.{Framed as FramedRead}
 use Rattle.sheet.specs.declared.frame.Framed.the-variants as Fr
 use Rattle.sheet.specs.declared.unpack.Unpacked.{Unpacked}
 use Rattle.sheet.specs.declared.unpack.Unpacked.the-variants as Un
-use Rattle.sheet.specs.Sheet.{texts, textAt, textsAt, textsFault, frame, unpack, unpackedOf}
+use Rattle.sheet.specs.Sheet.{texts, textsAt, textsFault, frame, unpack, unpackedOf}
 use Rattle.sheet.specs.Code.{checkedOf, framedOf}
 
 pub framed-refused : (o : Outcome Parts) (g : Refusal) → framedOf o ≡ Fr.Refused g → o ≡ refused g
@@ -26,8 +27,8 @@ pub framed-parts : (o : Outcome Parts) (p : Parts) → framedOf o ≡ Fr.Parts p
 framed-parts (refused r) p e = let z : _≡_ {A = ℕ} 0 1 = cc in absurd (omega arith)
 framed-parts (answered q) p e = cc
 
-pub texts-in-sheet : (sheet : List ℕ) (p : Parts) (a d b q : List ℕ) → a ≡ textAt sheet (p .allow) → d ≡ textAt sheet (p .deny)
-    → b ≡ textAt sheet (p .byuid) → q ≡ textAt sheet (p .portacl)
+pub texts-in-sheet : (sheet : List ℕ) (p : Parts) (a d b q : List ℕ) → a ≡ bytesAt sheet (p .allow) → d ≡ bytesAt sheet (p .deny)
+    → b ≡ bytesAt sheet (p .byuid) → q ≡ bytesAt sheet (p .portacl)
     → (x : Checked) → x ≡ checkedOf (textsFault (texts a d b q)) → x ≡ checkedOf (textsFault (textsAt sheet p))
 texts-in-sheet sheet p a d b q is-a is-d is-b is-q x is-x = is-x ∙ rw (is-a, is-d, is-b, is-q)
 

@@ -16,7 +16,7 @@ use Rattle.section.specs.declared.Part.{Part}
 use Rattle.section.specs.declared.Refusal.{Refusal}
 use Rattle.section.specs.Refusal.{Outcome, refused, answered, _>>=_, refusal, placeless, refusing, withinRoom}
 use Rattle.section.specs.Section as S
-use Rattle.section.specs.Section.{Section, part, overLimit}
+use Rattle.section.specs.Section.{bytesAt, Section, part, overLimit}
 use Rattle.rules.specs.Check.{hostsFault}
 use Rattle.portacl.specs.Portacl.{portaclFault}
 use Rattle.sheet.specs.declared.Parts.{Parts}
@@ -34,15 +34,12 @@ pub record Texts : Type 0 where
 abbrev pub texts : List ℕ → List ℕ → List ℕ → List ℕ → Texts
 texts a d b p = record { allow = a; deny = d; byuid = b; portacl = p }
 
-abbrev pub textAt : List ℕ → Part → List ℕ
-textAt sheet p = take (p .len) (drop (p .place) sheet)
-
 abbrev pub textsAt : List ℕ → Parts → Texts
 textsAt sheet p = record {
-  allow = textAt sheet (p .allow);
-  deny = textAt sheet (p .deny);
-  byuid = textAt sheet (p .byuid);
-  portacl = textAt sheet (p .portacl);
+  allow = bytesAt sheet (p .allow);
+  deny = bytesAt sheet (p .deny);
+  byuid = bytesAt sheet (p .byuid);
+  portacl = bytesAt sheet (p .portacl);
 }
 
 -- "per section in turn, .. limit (2) ..; then allow, deny and portacl"; "Byuid lines are never refused."

@@ -41,7 +41,8 @@ fn put_counted(out: &mut [u8], at: usize, text: &[u8]) -> usize
 fn put_sheet(out: &mut [u8], allow: &[u8], deny: &[u8], byuid: &[u8], portacl: &[u8]) -> usize
     requires { ⌜ 16 + length (now allow) + length (now deny) + length (now byuid) + length (now portacl) ≤ length (now out) ⌝ }
     ensures count { λ r. ⌜ r ≡ length (sheetOf (texts (now (allow .entry)) (now (deny .entry)) (now (byuid .entry)) (now (portacl .entry)))) ⌝ }
-    ensures written { λ _. ⌜ now (out .exit) ≡ after (sheetOf (texts (now (allow .entry)) (now (deny .entry)) (now (byuid .entry)) (now (portacl .entry)))) (now (out .entry)) ⌝ }
+    ensures written { λ _. ⌜ now (out .exit)
+        ≡ after (sheetOf (texts (now (allow .entry)) (now (deny .entry)) (now (byuid .entry)) (now (portacl .entry)))) (now (out .entry)) ⌝ }
 {
     let at_deny = put_counted(out, 0, allow);
     let at_byuid = put_counted(out, at_deny, deny);
@@ -51,8 +52,11 @@ fn put_sheet(out: &mut [u8], allow: &[u8], deny: &[u8], byuid: &[u8], portacl: &
 
 // Packs four texts into a sheet at the front of out; a refusal leaves out as it was.
 pub fn pack(out: &mut [u8], allow: &[u8], deny: &[u8], byuid: &[u8], portacl: &[u8]) -> Written
-    ensures answer { λ r. ⌜ r ≡ writtenOf (packOf (texts (now (allow .entry)) (now (deny .entry)) (now (byuid .entry)) (now (portacl .entry))) (length (now (out .entry)))) ⌝ }
-    ensures holds { λ _. ⌜ now (out .exit) ≡ lentAfter (now (out .entry)) (packOf (texts (now (allow .entry)) (now (deny .entry)) (now (byuid .entry)) (now (portacl .entry))) (length (now (out .entry)))) ⌝ }
+    ensures answer { λ r. ⌜ r
+        ≡ writtenOf (packOf (texts (now (allow .entry)) (now (deny .entry)) (now (byuid .entry)) (now (portacl .entry))) (length (now (out .entry)))) ⌝ }
+    ensures holds { λ _. ⌜ now (out .exit)
+        ≡ lentAfter (now (out .entry))
+        (packOf (texts (now (allow .entry)) (now (deny .entry)) (now (byuid .entry)) (now (portacl .entry))) (length (now (out .entry)))) ⌝ }
 {
     match crate::texts::check_texts(allow, deny, byuid, portacl) {
         Checked::Refused(refusal) => Written::Refused(refusal),

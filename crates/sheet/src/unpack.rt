@@ -8,8 +8,8 @@ use crate::frame;
 use crate::frame::Framed;
 use crate::texts;
 use crate::texts::Checked;
-use rules::part_of;
 use section::Refusal;
+use section::part_of;
 
 // What unpacking answers.
 pub enum Unpacked {

@@ -6,8 +6,8 @@ use mathlib.Core.List.{List}
 use mathlib.Core.Option.{none}
 use Rattle.elements.specs.Request.{Request, wellFormed}
 use Rattle.rules.specs.declared.Ruling.{Ruling}
-use Rattle.rules.specs.FileCode.{passOf, onward, passBoth, rulingBy}
+use Rattle.rules.specs.FileCode.{passOf, combined, passBoth, rulingBy}
 use Rattle.portacl.specs.Portacl.{portaclFault}
 
 unfoldable pub decidedBy : List ℕ → List ℕ → List ℕ → Request → Ruling
-decidedBy allow deny portacl r = rulingBy (onward (passBoth r allow deny) (passOf (portaclFault portacl) none)) (wellFormed r)
+decidedBy allow deny portacl r = rulingBy (combined (passBoth r allow deny) (passOf (portaclFault portacl) none)) (wellFormed r)

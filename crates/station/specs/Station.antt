@@ -3,21 +3,21 @@
 -- Assumes nothing: these are definitions.
 use Prim.Native.Nat.{ℕ, _+_}
 use mathlib.Core.List.{List}
+use mathlib.Core.Option.{Option}
 use Rattle.section.specs.Refusal.{Outcome, answered, _>>=_}
-use Rattle.section.specs.Section.{part}
-use Rattle.address.specs.declared.Addr.{Addr}
+use Rattle.section.specs.Section.{bytesAt, part}
 use Rattle.elements.specs.Request.{Request}
 use Rattle.rules.specs.declared.Answer.{Answer}
 use Rattle.rules.specs.declared.File.{File}
 use Rattle.rules.specs.declared.File.the-variants.{Neither, Allow, Deny}
 use Rattle.rules.specs.Search.{answer, decide}
 use Rattle.byuid.specs.declared.Decision.{Decision as ByuidDecision}
-use Rattle.byuid.specs.Byuid.{decideByuid}
+use Rattle.byuid.specs.Byuid.{Bind as ByuidBind, decideByuid}
 use Rattle.portacl.specs.declared.Decision.{Decision as PortaclDecision}
 use Rattle.portacl.specs.declared.Settings.{Settings}
-use Rattle.portacl.specs.Portacl.{Bind, decidePortacl}
+use Rattle.portacl.specs.Portacl.{Bind as PortaclBind, decidePortacl}
 use Rattle.sheet.specs.declared.Parts.{Parts}
-use Rattle.sheet.specs.Sheet.{textAt, unpack}
+use Rattle.sheet.specs.Sheet.{unpack}
 
 abbrev pub filePlace : Parts → File → ℕ
 filePlace p Neither = 0
@@ -25,22 +25,22 @@ filePlace p Allow = p .allow .place
 filePlace p Deny = p .deny .place
 
 -- "The verdict hands back the raw command as a part of the allow file or of the deny file": as that part of the sheet, so
--- that its bytes are found by textAt
+-- that its bytes are found by bytesAt
 abbrev pub inSheet : Parts → Answer → Answer
 inSheet p a = answer (a .verdict) (a .file) (a .line) (part (filePlace p (a .file) + a .command .place) (a .command .len))
 
-unfoldable pub decideSheet : List ℕ → Request → Outcome Answer
-decideSheet sheet r = do
+unfoldable pub decideSheet : List ℕ → Option Request → Outcome Answer
+decideSheet sheet o = do
   p ← unpack sheet
-  a ← decide (textAt sheet (p .allow)) (textAt sheet (p .deny)) r
+  a ← decide (bytesAt sheet (p .allow)) (bytesAt sheet (p .deny)) o
   answered (inSheet p a)
 
-unfoldable pub decideByuidSheet : List ℕ → ℕ → Addr → ℕ → Outcome ByuidDecision
-decideByuidSheet sheet port a uid = do
+unfoldable pub decideByuidSheet : List ℕ → Option ByuidBind → Outcome ByuidDecision
+decideByuidSheet sheet o = do
   p ← unpack sheet
-  decideByuid (textAt sheet (p .byuid)) port a uid
+  decideByuid (bytesAt sheet (p .byuid)) o
 
-unfoldable pub decidePortaclSheet : List ℕ → Settings → Bind → Outcome PortaclDecision
-decidePortaclSheet sheet s b = do
+unfoldable pub decidePortaclSheet : List ℕ → Settings → Option PortaclBind → Outcome PortaclDecision
+decidePortaclSheet sheet s o = do
   p ← unpack sheet
-  decidePortacl (textAt sheet (p .portacl)) s b
+  decidePortacl (bytesAt sheet (p .portacl)) s o

@@ -4,27 +4,26 @@
 //   command(sheet, answer)    == the bytes of the answer's raw command
 // For a verdict the frame is read, then allow and deny are checked and searched in one pass.
 ghost use mathlib.Core.Path.{_≡_};
-ghost use mathlib.Core.Option.{none};
+ghost use mathlib.Core.Option.{none, some};
 ghost use Prim.Native.Nat.{_+_, _<_};
 ghost use Rattle.section.specs.Refusal.{answered};
-ghost use Rattle.patterns.specs.Host.{endpoint};
-ghost use Rattle.elements.specs.Request.{requestOf};
-ghost use Rattle.rules.specs.Search.{rulingOf};
+ghost use Rattle.section.specs.Section.{bytesAt};
+ghost use Rattle.elements.specs.Places.{requestAt};
+ghost use Rattle.rules.specs.Search.{verdictRuling};
 ghost use Rattle.rules.specs.FileCode.{passOf};
-ghost use Rattle.byuid.specs.Byuid.{rulingOf as byuidRulingOf};
-ghost use Rattle.portacl.specs.Portacl.{portaclFault, rulingOf as portaclRulingOf};
-ghost use Rattle.sheet.specs.Sheet.{textAt, frame as frameOf};
+ghost use Rattle.byuid.specs.Byuid.{bind as byuidBind, byuidRuling};
+ghost use Rattle.portacl.specs.Portacl.{bind as portaclBind, portaclFault, portaclRuling};
+ghost use Rattle.sheet.specs.Sheet.{frame as frameOf};
 ghost use Rattle.station.specs.Station.{filePlace, inSheet, decideSheet, decideByuidSheet, decidePortaclSheet};
 ghost use Rattle.station.specs.Code.{decidedBy};
 use address::Addr;
-use elements::User;
-use patterns::Host;
+use elements::request::Request;
 use rules::Answer;
 use rules::File;
 use rules::Ruling;
 use rules::hosts_file::Pass;
-use rules::part_of;
 use section::Part;
+use section::part_of;
 use sheet::Parts;
 use sheet::frame;
 use sheet::frame::Framed;
@@ -46,40 +45,17 @@ fn rule_by_texts(
     allow: &[u8],
     deny: &[u8],
     portacl: &[u8],
-    daemon: &[u8],
-    client: Host,
-    client_name: &[u8],
-    server: Host,
-    server_name: &[u8],
-    user: User,
-    user_name: &[u8],
+    names: &[u8],
+    request: Request,
 ) -> Ruling
     ensures { λ r.
         ⌜ r
         ≡ decidedBy (now (allow .entry)) (now (deny .entry)) (now (portacl .entry))
-        (requestOf (now (daemon .entry)) (endpoint client (now («client_name» .entry))) (endpoint server (now («server_name» .entry))) user (now («user_name» .entry))) ⌝ }
+        (requestAt (now (names .entry)) request) ⌝ }
 {
-    let hosts = rules::pass_both(
-        allow,
-        deny,
-        daemon,
-        client,
-        client_name,
-        server,
-        server_name,
-        user,
-        user_name,
-    );
-    let pass = rules::go_on(hosts, pass_portacl(portacl));
-    let sound = elements::element::well_formed(
-        daemon,
-        client,
-        client_name,
-        server,
-        server_name,
-        user,
-        user_name,
-    );
+    let hosts = rules::pass_both(allow, deny, names, request);
+    let pass = rules::combine(hosts, pass_portacl(portacl));
+    let sound = elements::request::fits(names, request);
     rules::ruling_by(pass, sound)
 }
 
@@ -114,66 +90,31 @@ fn in_sheet(parts: Parts, answer: Answer) -> Answer
 }
 
 // The ruling by the texts that stand in a sheet.
-fn rule_by_parts(
-    sheet: &[u8],
-    parts: Parts,
-    daemon: &[u8],
-    client: Host,
-    client_name: &[u8],
-    server: Host,
-    server_name: &[u8],
-    user: User,
-    user_name: &[u8],
-) -> Ruling
+fn rule_by_parts(sheet: &[u8], parts: Parts, names: &[u8], request: Request) -> Ruling
     ensures { λ r.
         ⌜ r
-        ≡ decidedBy (textAt (now (sheet .entry)) (parts .allow)) (textAt (now (sheet .entry)) (parts .deny)) (textAt (now (sheet .entry)) (parts .portacl))
-        (requestOf (now (daemon .entry)) (endpoint client (now («client_name» .entry))) (endpoint server (now («server_name» .entry))) user (now («user_name» .entry))) ⌝ }
+        ≡ decidedBy (bytesAt (now (sheet .entry)) (parts .allow)) (bytesAt (now (sheet .entry)) (parts .deny)) (bytesAt (now (sheet .entry)) (parts .portacl))
+        (requestAt (now (names .entry)) request) ⌝ }
 {
     rule_by_texts(
         part_of(sheet, parts.allow),
         part_of(sheet, parts.deny),
         part_of(sheet, parts.portacl),
-        daemon,
-        client,
-        client_name,
-        server,
-        server_name,
-        user,
-        user_name,
+        names,
+        request,
     )
 }
 
 // The verdict by the parts of a sheet.
-fn decide_by_parts(
-    sheet: &[u8],
-    parts: Parts,
-    daemon: &[u8],
-    client: Host,
-    client_name: &[u8],
-    server: Host,
-    server_name: &[u8],
-    user: User,
-    user_name: &[u8],
-) -> Ruling
+fn decide_by_parts(sheet: &[u8], parts: Parts, names: &[u8], request: Request) -> Ruling
     requires { ⌜ frameOf (now sheet) ≡ answered parts ⌝ }
     ensures { λ r.
         ⌜ r
-        ≡ rulingOf
+        ≡ verdictRuling
         (decideSheet (now (sheet .entry))
-        (requestOf (now (daemon .entry)) (endpoint client (now («client_name» .entry))) (endpoint server (now («server_name» .entry))) user (now («user_name» .entry)))) ⌝ }
+        (some (requestAt (now (names .entry)) request))) ⌝ }
 {
-    let ruling = rule_by_parts(
-        sheet,
-        parts,
-        daemon,
-        client,
-        client_name,
-        server,
-        server_name,
-        user,
-        user_name,
-    );
+    let ruling = rule_by_parts(sheet, parts, names, request);
     match ruling {
         Ruling::Refused(refusal) => Ruling::Refused(refusal),
         Ruling::Answered(answer) => Ruling::Answered(in_sheet(parts, answer)),
@@ -181,48 +122,29 @@ fn decide_by_parts(
 }
 
 // The verdict on a request by a sheet, or the refusal of the sheet or of the request.
-pub fn decide(
-    sheet: &[u8],
-    daemon: &[u8],
-    client: Host,
-    client_name: &[u8],
-    server: Host,
-    server_name: &[u8],
-    user: User,
-    user_name: &[u8],
-) -> Ruling
+pub fn decide(sheet: &[u8], names: &[u8], request: Request) -> Ruling
     ensures { λ r.
         ⌜ r
-        ≡ rulingOf
+        ≡ verdictRuling
         (decideSheet (now (sheet .entry))
-        (requestOf (now (daemon .entry)) (endpoint client (now («client_name» .entry))) (endpoint server (now («server_name» .entry))) user (now («user_name» .entry)))) ⌝ }
+        (some (requestAt (now (names .entry)) request))) ⌝ }
 {
     match frame::frame(sheet) {
         Framed::Refused(refusal) => Ruling::Refused(refusal),
-        Framed::Parts(parts) => decide_by_parts(
-            sheet,
-            parts,
-            daemon,
-            client,
-            client_name,
-            server,
-            server_name,
-            user,
-            user_name,
-        ),
+        Framed::Parts(parts) => decide_by_parts(sheet, parts, names, request),
     }
 }
 
 // The bytes of the answer's raw command.
 pub fn command(sheet: &[u8], answer: Answer) -> &[u8]
-    ensures { λ r. ⌜ now r ≡ textAt (now (sheet .entry)) (answer .command) ⌝ }
+    ensures { λ r. ⌜ now r ≡ bytesAt (now (sheet .entry)) (answer .command) ⌝ }
 {
     part_of(sheet, answer.command)
 }
 
 // Whether a caller may bind a port at an address, by the byuid text of a sheet.
 pub fn decide_byuid(sheet: &[u8], port: u16, addr: Addr, uid: u32) -> byuid::Ruling
-    ensures { λ r. ⌜ r ≡ byuidRulingOf (decideByuidSheet (now (sheet .entry)) port addr uid) ⌝ }
+    ensures { λ r. ⌜ r ≡ byuidRuling (decideByuidSheet (now (sheet .entry)) (some (byuidBind port addr uid))) ⌝ }
 {
     match unpack::unpack(sheet) {
         Unpacked::Refused(refusal) => byuid::Ruling::Refused(refusal),
@@ -239,7 +161,7 @@ pub fn decide_portacl(
     protocol: portacl::Protocol,
     port: u16,
 ) -> portacl::Ruling
-    ensures { λ r. ⌜ r ≡ portaclRulingOf (decidePortaclSheet (now (sheet .entry)) settings (record { uid = uid; groups = now (groups .entry); protocol = protocol; port = port })) ⌝ }
+    ensures { λ r. ⌜ r ≡ portaclRuling (decidePortaclSheet (now (sheet .entry)) settings (some (portaclBind uid (now (groups .entry)) protocol port))) ⌝ }
 {
     match unpack::unpack(sheet) {
         Unpacked::Refused(refusal) => portacl::Ruling::Refused(refusal),

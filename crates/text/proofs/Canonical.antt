@@ -57,7 +57,8 @@ module _ (b : ℕ) (big : 1 < b) (ds : List ℕ) (below : all (λ d. ltb d b) ds
   -- the number before its last digit is below the next lower power
   shorter : (k j : ℕ) → k < length ds → first (suc k) < b ^ suc j → first k < b ^ j
   shorter k j h lt =
-      rw (div-last b (first k) (getD ds k 0) (small k h)) at (div-lt-iff-lt-mul {k = b} {x = first k * b + getD ds k 0} {y = b ^ j} (omega arith) .1 (rw (first-suc k h, pow-suc b j) at lt))
+      rw (div-last b (first k) (getD ds k 0) (small k h)) at
+      (div-lt-iff-lt-mul {k = b} {x = first k * b + getD ds k 0} {y = b ^ j} (omega arith) .1 (rw (first-suc k h, pow-suc b j) at lt))
 
   numeral-take : (k : ℕ) → k < length ds → (j : ℕ) → first (suc k) < b ^ suc j → numeral b (suc j) (first (suc k)) ≡ map digitByte (take (suc k) ds)
   unfolding fromDigits
@@ -92,7 +93,8 @@ fromDigits-lt b n (d ∷ ds) e =
     let p : (ltb d b ≡ true) × (all (λ d. ltb d b) ds ≡ true) = and-true (ltb d b) (all (λ d. ltb d b) ds) e in
     let small : d < b = ltb-true d b (p .0) in
     let h : n * b + d + 1 ≤ (n + 1) * b = rw (add-mul n 1 b) (omega arith) in
-    lt-of-lt-of-le (fromDigits-lt b (n * b + d) ds (p .1)) (rw (pow-succ' b (length ds), ← (mul-assoc (n + 1) b (b ^ length ds))) (mul-le-mul-right (b ^ length ds) h))
+    lt-of-lt-of-le (fromDigits-lt b (n * b + d) ds (p .1))
+    (rw (pow-succ' b (length ds), ← (mul-assoc (n + 1) b (b ^ length ds))) (mul-le-mul-right (b ^ length ds) h))
 
 -- ## Texts of digits
 
@@ -141,7 +143,8 @@ map-digitByte-digitValue (c ∷ t) e =
 pub decimal-value : (t : List ℕ) → Canonical t → value t < 10 ^ 10 → decimal (value t) ≡ t
 decimal-value t c lt =
     numeral-fromDigits 10 (omega arith) (map digitValue t) (digits-below t (c .digits))
-    (λ h. front t (c .some) (all-getD isDigit t 0 0 (c .digits) (c .some)) (c .lead (rw (length-map t digitValue) at h))) 9 (rw (length-map t digitValue) (c .some)) lt
+    (λ h. front t (c .some) (all-getD isDigit t 0 0 (c .digits) (c .some)) (c .lead (rw (length-map t digitValue) at h))) 9
+    (rw (length-map t digitValue) (c .some)) lt
     ∙ map-digitByte-digitValue t (c .digits)
   where
     front : (t : List ℕ) → 0 < length t → isDigit (getD t 0 0) ≡ true → (getD t 0 0 ≡ 48 → ⊥) → 0 < getD (map digitValue t) 0 0
@@ -150,7 +153,8 @@ decimal-value t c lt =
 
 pub value-lt : (t : List ℕ) → all isDigit t ≡ true → length t ≤ 10 → value t < 10 ^ 10
 value-lt t e h =
-    lt-of-lt-of-le (fromDigits-lt 10 0 (map digitValue t) (digits-below t e)) (rw (one-mul, length-map t digitValue) (pow-le-pow-right {n = 10} (omega arith) h))
+    lt-of-lt-of-le (fromDigits-lt 10 0 (map digitValue t) (digits-below t e))
+    (rw (one-mul, length-map t digitValue) (pow-le-pow-right {n = 10} (omega arith) h))
 
 -- ## The text of a number
 
@@ -168,11 +172,16 @@ unfolding numeral
 length-numeral-below b zero k n big lt = omega arith
 length-numeral-below b (suc j) k n big lt = by (ltb n b) refl k lt (λ (k : ℕ) (lt : n / b < b ^ suc k). length-numeral-below b j k (n / b) big lt)
   where
-    by : (t : Bool) → ltb n b ≡ t → (k : ℕ) → n < b ^ suc k → ((k : ℕ) → n / b < b ^ suc k → length (numeral b j (n / b)) ≤ suc k) → length (numeral b (suc j) n) ≤ suc k
+    by : (t : Bool) → ltb n b ≡ t → (k : ℕ) → n < b ^ suc k → ((k : ℕ) → n / b < b ^ suc k → length (numeral b j (n / b)) ≤ suc k)
+        → length (numeral b (suc j) n) ≤ suc k
     by true e k lt ih = let l : n < b = ltb-true n b e in rw (numeral-digit b j n l) (omega arith)
     by false e zero lt ih = let l : n < 1 * b = rw (pow-suc b 0, pow-zero b) at lt in absurd (omega (arith, ltb-false n b e))
     by false e (suc k) lt ih =
-        omega (arith, length-numeral-suc b j n (ltb-false n b e), ih k (div-lt-iff-lt-mul {k = b} {x = n} {y = b ^ suc k} (omega arith) .1 (rw (pow-suc b (suc k)) at lt)))
+        omega (
+          arith,
+          length-numeral-suc b j n (ltb-false n b e),
+          ih k (div-lt-iff-lt-mul {k = b} {x = n} {y = b ^ suc k} (omega arith) .1 (rw (pow-suc b (suc k)) at lt)),
+        )
 
 pub length-numeral-above : (b j k n : ℕ) → 1 < b → b ^ k ≤ n → k < j → k < length (numeral b j n)
 length-numeral-above b zero k n big le h = absurd (omega arith)
@@ -180,7 +189,8 @@ length-numeral-above b (suc j) zero n big le h = length-numeral b (suc j) n .1 (
 length-numeral-above b (suc j) (suc k) n big le h =
     let l : b ^ k * b ≤ n = rw (pow-suc b k) at le in
     let m : b ≤ b ^ k * b = rw (one-mul b) at (mul-le-mul-right b (one-le-pow k b (omega arith))) in
-    let ih : k < length (numeral b j (n / b)) = length-numeral-above b j k (n / b) big (le-div-iff-mul-le {k = b} {x = b ^ k} {y = n} (omega arith) .1 l) (omega arith) in
+    let ih : k < length (numeral b j (n / b)) = length-numeral-above b j k (n / b) big (le-div-iff-mul-le {k = b} {x = b ^ k} {y = n} (omega arith) .1 l)
+    (omega arith) in
     omega (arith, length-numeral-suc b j n (omega arith))
 
 digitByte-pos : (d : ℕ) → 0 < d → digitByte d ≡ 48 → ⊥
@@ -206,7 +216,12 @@ decimal-lead zero lt h = absurd (omega (arith, h))
 decimal-lead (suc n) lt h = numeral-lead 10 10 (suc n) (omega arith) (omega arith) lt
 
 pub canonical-decimal : (n : ℕ) → n < 10 ^ 10 → Canonical (decimal n)
-canonical-decimal n lt = record { some = length-numeral 10 10 n .1 (omega arith); digits = all-numeral isDigit 10 (omega arith) isDigit-digitByte 10 n; lead = decimal-lead n lt }
+canonical-decimal n lt = record {
+  some = length-numeral 10 10 n .1 (omega arith);
+  digits = all-numeral isDigit 10
+      (omega arith) isDigit-digitByte 10 n;
+  lead = decimal-lead n lt;
+}
 
 -- ## Reading
 

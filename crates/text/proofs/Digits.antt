@@ -53,7 +53,13 @@ front b a ds e zero h = refl
 front b a ds e (suc k) h =
     let small : getD ds k 0 < b = ltb-true (getD ds k 0) b (all-getD (λ d. ltb d b) ds k 0 e (omega arith)) in
     let x : ℕ = fromDigits b a (take k ds) in
-    rw (take-suc ds k 0, fromDigits-append b a (take k ds) (getD ds k 0 ∷ []), div-last b x (getD ds k 0), mod-last b x (getD ds k 0), front b a ds e k (omega arith))
+    rw (
+      take-suc ds k 0,
+      fromDigits-append b a (take k ds) (getD ds k 0 ∷ []),
+      div-last b x (getD ds k 0),
+      mod-last b x (getD ds k 0),
+      front b a ds e k (omega arith),
+    )
 
 pub toDigits-fromDigits : (b a : ℕ) (ds : List ℕ) → all (λ d. ltb d b) ds ≡ true → toDigits b (length ds) (fromDigits b a ds) ≡ ds
 toDigits-fromDigits b a ds e = rw (take-all (length ds) ds (omega arith)) at (front b a ds e (length ds) (omega arith))

@@ -163,7 +163,8 @@ parts m (x ∷ t) = by (startsWith m (x ∷ t)) refl (parts m t)
 
     by : (b : Bool) → startsWith m (x ∷ t) ≡ b → Parts m t (splitOnce m t)
         → Parts m (x ∷ t) (if startsWith m (x ∷ t) then some ([], drop (length m) (x ∷ t)) else consFirst x (splitOnce m t))
-    by true e ih = rw e (sym (take-append-drop (length m) (x ∷ t)) ∙ ap (λ (l : List ℕ). l ++ drop (length m) (x ∷ t)) (sym (eq-of-equal m (take (length m) (x ∷ t)) e)))
+    by true e ih = rw e
+        (sym (take-append-drop (length m) (x ∷ t)) ∙ ap (λ (l : List ℕ). l ++ drop (length m) (x ∷ t)) (sym (eq-of-equal m (take (length m) (x ∷ t)) e)))
     by false e ih = rw e (cons (splitOnce m t) ih)
 
 pub splitOnce-some : (m t : List ℕ) (p : List ℕ × List ℕ) → splitOnce m t ≡ some p → t ≡ p .0 ++ (m ++ p .1)
@@ -195,7 +196,8 @@ module _ (c : ℕ) where
       rw (ne-eqb c x (λ q. eqb-false x c (not-true (eqb x c) (a .0)) (sym q)), splitOnce-free m w t (a .1)) (appendFirst-cons x w (splitOnce (c ∷ m) t))
 
   -- one mark before a text u that begins with none
-  splitOnce-lone : (u v t : List ℕ) (y : ℕ) → u ≡ y ∷ v → eqb y c ≡ false → splitOnce (c ∷ c ∷ []) (c ∷ (u ++ t)) ≡ consFirst c (splitOnce (c ∷ c ∷ []) (u ++ t))
+  splitOnce-lone : (u v t : List ℕ) (y : ℕ) → u ≡ y ∷ v → eqb y c ≡ false → splitOnce (c ∷ c ∷ []) (c ∷ (u ++ t))
+      ≡ consFirst c (splitOnce (c ∷ c ∷ []) (u ++ t))
   unfolding splitOnce equal
   splitOnce-lone u v t y e n = rw (e, eq-eqb c c refl, ne-eqb c y (λ q. eqb-false y c n (sym q)))
 

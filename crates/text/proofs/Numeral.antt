@@ -34,7 +34,12 @@ digitValue-digitByte d h =
     (λ (c : ℕ). digitValue c ≡ d)
     d
     (λ k. rw (le-leb 48 (48 + d) (omega arith), le-leb (48 + d) 57 (omega arith)) (omega arith))
-    (λ k. rw (le-leb 48 (97 + (d - 10)) (omega arith), lt-leb (97 + (d - 10)) 57 (omega arith), le-leb 65 (97 + (d - 10)) (omega arith), lt-leb (97 + (d - 10)) 90 (omega arith)) (omega arith))
+    (λ k. rw (
+      le-leb 48 (97 + (d - 10)) (omega arith),
+      lt-leb (97 + (d - 10)) 57 (omega arith),
+      le-leb 65 (97 + (d - 10)) (omega arith),
+      lt-leb (97 + (d - 10)) 90 (omega arith),
+    ) (omega arith))
 
 pub isDigit-digitByte : (d : ℕ) → d < 10 → isDigit (digitByte d) ≡ true
 isDigit-digitByte d h = rw (lt-ltb d 10, le-leb 48 (48 + d) (omega arith), le-leb (48 + d) 57 (omega arith))
@@ -103,5 +108,8 @@ readDecimal-none m t e = by (leb n m && equal t (decimal n)) refl
     n = fromDigits 10 0 (map digitValue t)
 
     by : (x : Bool) → (leb n m && equal t (decimal n)) ≡ x → given x n ≡ none
-    by true f = absurd (true≢false (sym (ap (all isDigit) (eq-of-equal t (decimal n) (and-true (leb n m) (equal t (decimal n)) f .1)) ∙ all-numeral isDigit 10 (omega arith) isDigit-digitByte 10 n) ∙ e))
+    by true f = absurd
+        (true≢false
+        (sym (ap (all isDigit) (eq-of-equal t (decimal n) (and-true (leb n m) (equal t (decimal n)) f .1))
+        ∙ all-numeral isDigit 10 (omega arith) isDigit-digitByte 10 n) ∙ e))
     by false f = refl

@@ -62,7 +62,9 @@ module _ (m : ℕ) (s : List ℕ) (n i : ℕ) (r : Reading m s n i) where
     step = r .rest ∙ rw (drop-cons s i 0, is-digit)
 
     pub read-over : m < n * 10 + (getD s i 0 - 48) → Nothing ≡ asNumber (readDecimal m s)
-    read-over l = sym (ap asNumber (readDecimal-over m s (omega (arith, step, fromDigits-le 10 (n * 10 + (getD s i 0 - 48)) (map digitValue (drop (suc i) s)) (omega arith)))))
+    read-over l = sym
+        (ap asNumber
+        (readDecimal-over m s (omega (arith, step, fromDigits-le 10 (n * 10 + (getD s i 0 - 48)) (map digitValue (drop (suc i) s)) (omega arith)))))
 
     pub reading-step : n * 10 + (getD s i 0 - 48) ≤ m → Reading m s (n * 10 + (getD s i 0 - 48)) (i + 1)
     unfolding all
@@ -73,5 +75,10 @@ module _ (m : ℕ) (s : List ℕ) (n i : ℕ) (r : Reading m s n i) where
   read-done lt some lead h =
       let e : value s ≡ n = r .rest ∙ rw (drop-of-length-le s h) in
       let d : all isDigit s ≡ true = r .digits ∙ rw (drop-of-length-le s h) in
-      let c : Canonical s = record { some = omega arith; digits = d; lead = λ l z. true≢false (sym (rw (eq-eqb (getD s 0 0) 48 z, lt-ltb 1 (length s) l)) ∙ lead) } in
+      let c : Canonical s = record {
+        some = omega arith;
+        digits = d;
+        lead = λ l z. true≢false
+            (sym (rw (eq-eqb (getD s 0 0) 48 z, lt-ltb 1 (length s) l)) ∙ lead);
+      } in
       sym (ap asNumber (readDecimal-some m s c (omega arith) (omega arith)) ∙ ap Value e)

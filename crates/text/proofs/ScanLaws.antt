@@ -63,10 +63,12 @@ unfolding equal equalFold
 equalFold-by = record { ended = refl; more = λ x y s t. refl }
 
 -- the loop of such a comparison, at i
-module _ {e : List ℕ → List ℕ → Bool} {k : ℕ → ℕ} (by : ByBytes e k) (a b : List ℕ) (i : ℕ) (even : length a ≡ length b) (so-far : e a b ≡ e (drop i a) (drop i b)) where
+module _ {e : List ℕ → List ℕ → Bool} {k : ℕ → ℕ} (by : ByBytes e k) (a b : List ℕ) (i : ℕ) (even : length a ≡ length b)
+    (so-far : e a b ≡ e (drop i a) (drop i b)) where
   module _ (h : i < length a) (x y : ℕ) (is-x : x ≡ k (getD a i 0)) (is-y : y ≡ k (getD b i 0)) where
     pub step : e a b ≡ (eqb x y && e (drop (i + 1) a) (drop (i + 1) b))
-    step = let l : i < length b = omega arith in so-far ∙ rw (add-one, drop-cons a i 0, drop-cons b i 0, is-x, is-y) (by .more (getD a i 0) (getD b i 0) (drop (suc i) a) (drop (suc i) b))
+    step = let l : i < length b = omega arith in so-far
+        ∙ rw (add-one, drop-cons a i 0, drop-cons b i 0, is-x, is-y) (by .more (getD a i 0) (getD b i 0) (drop (suc i) a) (drop (suc i) b))
 
     pub differs : (x ≡ y → ⊥) → false ≡ e a b
     differs n = sym (step ∙ rw (ne-eqb x y n))
@@ -134,7 +136,8 @@ module _ (marks : String) (p : ℕ → Bool) (is-p : (x : ℕ) → p x ≡ not (
   split-some [] h = absurd (omega arith)
   split-some (x ∷ s) h = by (among marks x) refl (split-some s)
     where
-      by : (b : Bool) → among marks x ≡ b → (spanLen p s < length s → split marks s ≡ parted s (spanLen p s)) → split marks (x ∷ s) ≡ parted (x ∷ s) (spanLen p (x ∷ s))
+      by : (b : Bool) → among marks x ≡ b → (spanLen p s < length s → split marks s ≡ parted s (spanLen p s)) → split marks (x ∷ s)
+          ≡ parted (x ∷ s) (spanLen p (x ∷ s))
       by true e ih = rw (is-p x, e)
       by false e ih =
           let k : suc (spanLen p s) < length (x ∷ s) = simp (is-p x, e) at h in

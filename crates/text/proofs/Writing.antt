@@ -83,7 +83,8 @@ snoc-inj xs ys a b e =
     (sym (take-at xs (a ∷ []) (length ys) l) ∙ ap (take (length ys)) e ∙ take-at ys (b ∷ []) (length ys) refl, cc)
 
 -- the last digit that is left, and what is left before it
-numeral-split : (f m i : ℕ) (t : List ℕ) → i < length t → numeral 10 (suc f) m ≡ take (suc i) t → (digitByte (m % 10) ≡ getD t i 0) × (0 < i → numeral 10 f (m / 10) ≡ take i t)
+numeral-split : (f m i : ℕ) (t : List ℕ) → i < length t → numeral 10 (suc f) m ≡ take (suc i) t → (digitByte (m % 10) ≡ getD t i 0)
+    × (0 < i → numeral 10 f (m / 10) ≡ take i t)
 unfolding numeral
 numeral-split f m i t h e =
     let s : ((if ltb m 10 then [] else numeral 10 f (m / 10)) ≡ take i t) × (digitByte (m % 10) ≡ getD t i 0) =

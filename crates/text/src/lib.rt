@@ -19,10 +19,10 @@ pub enum NumberRead {
 pub fn lower(b: u8) -> u8
     ensures { λ r. ⌜ r ≡ lowerOf b ⌝ }
 {
-    if b < 65 {
+    if b < b'A' {
         return b;
     }
-    if 90 < b {
+    if b'Z' < b {
         return b;
     }
     b + 32
@@ -32,14 +32,14 @@ pub fn lower(b: u8) -> u8
 pub fn is_digit(b: u8) -> bool
     ensures { λ r. ⌜ r ≡ isDigit b ⌝ }
 {
-    (48 <= b) & (b <= 57)
+    (b'0' <= b) & (b <= b'9')
 }
 
 // Whether b is an ASCII letter.
 pub fn is_letter(b: u8) -> bool
     ensures { λ r. ⌜ r ≡ isLetter b ⌝ }
 {
-    ((65 <= b) & (b <= 90)) | ((97 <= b) & (b <= 122))
+    ((b'A' <= b) & (b <= b'Z')) | ((b'a' <= b) & (b <= b'z'))
 }
 
 // Whether two texts are equal.
@@ -104,7 +104,9 @@ pub fn index_of(s: &[u8], b: u8) -> usize
 
 // Whether s is longer than the suffix and ends in it, ignoring ASCII case.
 pub fn ends_with_fold(s: &[u8], suffix: &[u8]) -> bool
-    ensures { λ r. ⌜ r ≡ (ltb (length (now (suffix .entry))) (length (now (s .entry))) && equalFold (now (suffix .entry)) (drop (length (now (s .entry)) - length (now (suffix .entry))) (now (s .entry)))) ⌝ }
+    ensures { λ r. ⌜ r
+        ≡ (ltb (length (now (suffix .entry))) (length (now (s .entry))) && equalFold (now (suffix .entry))
+        (drop (length (now (s .entry)) - length (now (suffix .entry))) (now (s .entry)))) ⌝ }
 {
     if s.len() <= suffix.len() {
         return false;
@@ -120,7 +122,7 @@ pub fn read_decimal(s: &[u8], max: u32) -> NumberRead
     if s.len() == 0 {
         return NumberRead::Nothing;
     }
-    if (s[0] == 48) & (1 < s.len()) {
+    if (s[0] == b'0') & (1 < s.len()) {
         return NumberRead::Nothing;
     }
     let limit = max as u64;
@@ -128,13 +130,13 @@ pub fn read_decimal(s: &[u8], max: u32) -> NumberRead
     let mut i = 0;
     while i < s.len() {
         let b = s[i];
-        if b < 48 {
+        if b < b'0' {
             return NumberRead::Nothing;
         }
-        if 57 < b {
+        if b'9' < b {
             return NumberRead::Nothing;
         }
-        n = n * 10 + (b - 48) as u64;
+        n = n * 10 + (b - b'0') as u64;
         if limit < n {
             return NumberRead::Nothing;
         }
@@ -182,7 +184,7 @@ pub fn put_decimal(out: &mut [u8], at: usize, n: u32) -> usize
     let mut j = k;
     while 0 < j {
         j -= 1;
-        out[at + j] = 48 + (m % 10) as u8;
+        out[at + j] = b'0' + (m % 10) as u8;
         m = m / 10;
     }
     at + k

@@ -8,7 +8,8 @@ put-requires : tie.Need-put-requires
 put-requires c κs = let a = c .before .before .before .before .before in rw (addrText-unknown (a .args .a) (search needs)) at (a .pre)
 
 put-v4-requires : tie.Need-put-v4-requires
-put-v4-requires c κs = let a = c .before .before .before .before .before in rw (addrText-v4 (a .args .a) (c .before .before .a .given .0 .0) (search needs)) at (a .pre)
+put-v4-requires c κs = let a = c .before .before .before .before .before in
+    rw (addrText-v4 (a .args .a) (c .before .before .a .given .0 .0) (search needs)) at (a .pre)
 
 put-v6-requires : tie.Need-put-v6-requires
 put-v6-requires c κs =
@@ -17,7 +18,8 @@ put-v6-requires c κs =
     rw (addrText-v6 (a .args .a) (g .0) (g .1 .0) (search needs)) at (a .pre)
 
 returns : tie.Need-returns
-returns c = let a = c .before .before .before .before .before .before .before .before in rw (addrText-unknown (a .args .a) (search needs)) (c .before .before .put .ensures)
+returns c = let a = c .before .before .before .before .before .before .before .before in
+    rw (addrText-unknown (a .args .a) (search needs)) (c .before .before .put .ensures)
 
 returns-2 : tie.Need-returns-2
 returns-2 c =

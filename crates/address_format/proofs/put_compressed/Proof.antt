@@ -10,7 +10,8 @@ returns : tie.Need-returns
 returns c =
     let l = c .before .before .before .before .before in
     let a = l .before .before .before in
-    plain-all (a .args .out .now) (a .args .gs .now) (a .args .at) _ (l .longest-run .ensures .0) (a .pre .1) (a .pre .0) (c .before .before .before .before .if1 .taken) _ _ (c .before .before .put-groups .ensures)
+    plain-all (a .args .out .now) (a .args .gs .now) (a .args .at) _ (l .longest-run .ensures .0) (a .pre .1) (a .pre .0)
+    (c .before .before .before .before .if1 .taken) _ _ (c .before .before .put-groups .ensures)
 
 slice-aggregate-put-groups : tie.Need-slice-aggregate-put-groups
 slice-aggregate-put-groups c = sym (length-take-le _ _ (search needs))
@@ -22,7 +23,8 @@ put-groups-requires-3 c κs =
     let e = p .before .before .before in
     let l = e .before in
     let a = l .before .before .before in
-    run-behind-room (a .args .out .now) (a .args .gs .now) (a .args .at) _ (l .longest-run .ensures .0) (a .pre .1) (a .pre .0) (e .if1 .left) _ _ (p .put-groups2 .ensures) _ _ (q .put .ensures)
+    run-behind-room (a .args .out .now) (a .args .gs .now) (a .args .at) _ (l .longest-run .ensures .0) (a .pre .1) (a .pre .0)
+    (e .if1 .left) _ _ (p .put-groups2 .ensures) _ _ (q .put .ensures)
 
 returns-2 : tie.Need-returns-2
 returns-2 c =
@@ -31,7 +33,8 @@ returns-2 c =
     let e = p .before .before .before in
     let l = e .before in
     let a = l .before .before .before in
-    run-all (a .args .out .now) (a .args .gs .now) (a .args .at) _ (l .longest-run .ensures .0) (a .pre .1) (a .pre .0) (e .if1 .left) _ _ (p .put-groups2 .ensures) _ _ (q .put .ensures) _ _ (c .before .before .put-groups3 .ensures)
+    run-all (a .args .out .now) (a .args .gs .now) (a .args .at) _ (l .longest-run .ensures .0) (a .pre .1) (a .pre .0)
+    (e .if1 .left) _ _ (p .put-groups2 .ensures) _ _ (q .put .ensures) _ _ (c .before .before .put-groups3 .ensures)
 
 pub put-compressed-spec : {M : Type 1} → statement M
 put-compressed-spec =

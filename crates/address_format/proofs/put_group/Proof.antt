@@ -8,7 +8,8 @@ put-pair-requires : tie.Need-put-pair-requires
 put-pair-requires c κs = search (group-pair-room, needs)
 
 returns : tie.Need-returns
-returns c = group-pair _ _ _ (c .before .before .before .before .before .before .pre) (c .before .before .before .before .if1 .taken) _ _ (c .before .before .put-pair .ensures)
+returns c = group-pair _ _ _ (c .before .before .before .before .before .before .pre)
+    (c .before .before .before .before .if1 .taken) _ _ (c .before .before .put-pair .ensures)
 
 put-pair-requires-2 : tie.Need-put-pair-requires-2
 put-pair-requires-2 c κs = search (group-room, needs)

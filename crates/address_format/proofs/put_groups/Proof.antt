@@ -12,7 +12,8 @@ returns-2 c =
     let p = c .before .before .before .before .before .before .before in
     let e = p .before .before .before in
     let a = e .before .before .before in
-    hexGroups-all (a .args .out .now) (a .args .gs .now) (a .args .at) (a .pre) (e .if1 .left) _ _ (p .put-group .ensures) _ _ (c .before .before .put-colon-groups .ensures)
+    hexGroups-all (a .args .out .now) (a .args .gs .now) (a .args .at) (a .pre)
+    (e .if1 .left) _ _ (p .put-group .ensures) _ _ (c .before .before .put-colon-groups .ensures)
 
 pub put-groups-spec : {M : Type 1} → statement M
 put-groups-spec =

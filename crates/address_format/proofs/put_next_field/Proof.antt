@@ -14,7 +14,8 @@ same-length : tie.Need-same-length
 same-length c = c .before .before .put-decimal .kept .0 ∙ simp length-set
 
 returns : tie.Need-returns
-returns c = let b = c .before .before .before .before .before in byte-all (b .args .out .now) (decimal (b .args .n)) (b .args .at) 46 (b .pre) _ _ (c .before .before .put-decimal .ensures)
+returns c = let b = c .before .before .before .before .before in
+    byte-all (b .args .out .now) (decimal (b .args .n)) (b .args .at) 46 (b .pre) _ _ (c .before .before .put-decimal .ensures)
 
 pub put-next-field-spec : {M : Type 1} → statement M
 put-next-field-spec = tie.close (tie.spec (λ c. search needs) (λ c. search needs) put-decimal-requires same-length returns)

@@ -14,7 +14,8 @@ same-length : tie.Need-same-length
 same-length c = c .before .before .put-group .kept .0 ∙ simp length-set
 
 returns : tie.Need-returns
-returns c = let b = c .before .before .before .before .before in byte-all (b .args .out .now) (numeral 16 4 (b .args .g)) (b .args .at) 58 (b .pre) _ _ (c .before .before .put-group .ensures)
+returns c = let b = c .before .before .before .before .before in
+    byte-all (b .args .out .now) (numeral 16 4 (b .args .g)) (b .args .at) 58 (b .pre) _ _ (c .before .before .put-group .ensures)
 
 pub put-next-group-spec : {M : Type 1} → statement M
 put-next-group-spec =

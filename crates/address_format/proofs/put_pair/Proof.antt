@@ -8,7 +8,8 @@ put-digit-requires : tie.Need-put-digit-requires
 put-digit-requires c κs = search (pair-room, needs)
 
 returns : tie.Need-returns
-returns c = let b = c .before .before .before .before .before .before in pair-one _ _ _ (b .pre .1) (b .pre .0) (search needs) _ _ (c .before .before .put-digit .ensures)
+returns c = let b = c .before .before .before .before .before .before in
+    pair-one _ _ _ (b .pre .1) (b .pre .0) (search needs) _ _ (c .before .before .put-digit .ensures)
 
 put-digit-requires-2 : tie.Need-put-digit-requires-2
 put-digit-requires-2 c κs = search (pair-room, needs)

@@ -31,7 +31,8 @@ returns c =
     let p2 = p3 .before .before .before .before in
     let p1 = p2 .before .before .before .before in
     let b = p1 .before .before .before in
-    fields-all _ _ _ (search needs) (b .pre) _ _ (p1 .put-decimal .ensures) _ _ (p2 .put-next-field .ensures) _ _ (p3 .put-next-field2 .ensures) _ _ (p4 .put-next-field3 .ensures)
+    fields-all _ _ _ (search needs)
+    (b .pre) _ _ (p1 .put-decimal .ensures) _ _ (p2 .put-next-field .ensures) _ _ (p3 .put-next-field2 .ensures) _ _ (p4 .put-next-field3 .ensures)
 
 pub put-v4-spec : {M : Type 1} → statement M
 put-v4-spec =

@@ -7,7 +7,8 @@ use Rattle.address_format.proofs.put_v6.Statement.{statement}
 use Rattle.address_format.proofs.put_v6.Tie as tie
 
 put-compressed-requires : tie.Need-put-compressed-requires
-put-compressed-requires c κs = let g = c .before .before in (rw (g .groups .ensures) (g .before .before .pre), ap length (g .groups .ensures) ∙ length-toDigits 65536 8 _)
+put-compressed-requires c κs = let g = c .before .before in
+    (rw (g .groups .ensures) (g .before .before .pre), ap length (g .groups .ensures) ∙ length-toDigits 65536 8 _)
 
 returns : tie.Need-returns
 returns c = rw (← (c .before .before .before .before .before .groups .ensures)) (c .before .before .put-compressed .ensures)

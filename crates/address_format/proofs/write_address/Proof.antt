@@ -22,10 +22,15 @@ slice-aggregate-put : tie.Need-slice-aggregate-put
 slice-aggregate-put c = sym (length-take-le _ _ (buffer-within _ _ _ _ (c .before .before .before .before .put-address .ensures) refl))
 
 put-requires : tie.Need-put-requires
-put-requires c κs = omega (arith, length-take-le (c .before .before .before .before .put-address .result) (c .before .before .before .before .put-address .last .0) (buffer-within _ _ _ _ (c .before .before .before .before .put-address .ensures) refl))
+put-requires c κs = omega (
+  arith,
+  length-take-le (c .before .before .before .before .put-address .result) (c .before .before .before .before .put-address .last .0)
+      (buffer-within _ _ _ _ (c .before .before .before .before .put-address .ensures) refl),
+)
 
 returns-2 : tie.Need-returns-2
-returns-2 c = write-count _ _ _ _ (c .before .before .before .before .before .before .before .put-address .ensures) _ (c .before .before .before .before .before .if1 .left) _ _ (c .before .before .put .ensures)
+returns-2 c = write-count _ _ _ _ (c .before .before .before .before .before .before .before .put-address .ensures) _
+    (c .before .before .before .before .before .if1 .left) _ _ (c .before .before .put .ensures)
 
 pub write-address-spec : {M : Type 1} → statement M
 write-address-spec =

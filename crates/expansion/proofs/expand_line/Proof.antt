@@ -14,7 +14,13 @@ expand-line-spec =
     (λ c. search needs)
     (λ c. let j = c .before .before .join-into in sym (length-take-le _ _ (line-within _ _ _ _ (j .ensures .0) (j .ensures .1))))
     (λ c κs. search needs)
-    (λ c κs. let j = c .before .before .before .before .join-into in line-short _ _ _ _ (j .ensures .0) (j .ensures .1) _ (c .before .trim .ensures) (c .before .before .before .before .before .before .before .before .before .before .before .before .pre))
+    (λ c κs. let j = c .before .before .before .before .join-into in
+    line-short _ _ _ _ (j .ensures .0) (j .ensures .1) _ (c .before .trim .ensures)
+    (c .before .before .before .before .before .before .before .before .before .pre))
     (λ c. search needs)
-    (λ c. let j = c .before .before .before .before .before .before .before .join-into in line-gave _ _ _ _ (j .ensures .0) (j .ensures .1) _ (c .before .before .before .before .trim .ensures) _ _ (c .before .before .before .before .before .before .before .before .before .before .before .before .before .before .before .args .out .now) _ _ (c .before .before .expand-trimmed .ensures)) in
+    (λ c. let j = c .before .before .before .before .before .before .before .join-into in
+    line-gave _ _ _ _ (j .ensures .0)
+    (j .ensures .1) _ (c .before .before .before .before .trim .ensures) _ _
+    (c .before .before .before .before .before .before .before .before .before .before .before .before .args .out .now) _ _
+    (c .before .before .expand-trimmed .ensures)) in
     tie.close facts

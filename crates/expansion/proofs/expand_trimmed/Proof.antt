@@ -12,9 +12,13 @@ expand-trimmed-spec =
     (λ c κs. search needs)
     (λ c. percent-refused _ _ _ _ _ (c .before .before .has-bad-percent .ensures) (c .before .if1 .taken) _ (c .placeless .ensures))
     (λ c κs. search needs)
-    (λ c κs. (c .before .before .before .before .before .before .before .before .before .before .before .pre, sym (c .before .before .well-formed .ensures) ∙ c .before .if2 .taken))
+    (λ c κs. (c .before .before .before .before .before .before .before .before .pre, sym (c .before .before .fits2 .ensures) ∙ c .before .if2 .taken))
     (λ c. search needs)
-    (λ c. request-written _ _ _ (c .before .before .before .before .before .before .before .before .before .before .before .before .before .before .args .out .now) _ (c .before .before .before .before .before .before .before .has-bad-percent .ensures) (c .before .before .before .before .before .before .if1 .left) _ (c .before .before .before .before .before .well-formed .ensures) (c .before .before .before .before .if2 .taken) _ _ (c .before .before .expand-request .ensures))
+    (λ c. request-written _ _ _ (c .before .before .before .before .before .before .before .before .before .before .before .args .out .now) _
+    (c .before .before .before .before .before .before .before .has-bad-percent .ensures)
+    (c .before .before .before .before .before .before .if1 .left) _ (c .before .before .before .before .before .fits2 .ensures)
+    (c .before .before .before .before .if2 .taken) _ _ (c .before .before .expand-request .ensures))
     (λ c κs. search needs)
-    (λ c. request-refused _ _ _ _ _ (c .before .before .before .before .has-bad-percent .ensures) (c .before .before .before .if1 .left) _ (c .before .before .well-formed .ensures) (c .before .if2 .left) _ (c .placeless2 .ensures)) in
+    (λ c. request-refused _ _ _ _ _ (c .before .before .before .before .has-bad-percent .ensures)
+    (c .before .before .before .if1 .left) _ (c .before .before .fits2 .ensures) (c .before .if2 .left) _ (c .placeless2 .ensures)) in
     tie.close facts

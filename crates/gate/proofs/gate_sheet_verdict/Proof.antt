@@ -8,8 +8,9 @@ pub gate-sheet-verdict-spec : {M : Type 1} → statement M
 gate-sheet-verdict-spec =
     tie.close
     (tie.spec
+    (λ c. search needs)
     (λ c κs. search needs)
-    (λ c κs. search needs)
+    (λ c. search needs)
     (λ c κs. search needs)
     (λ c κs. search needs)
     (λ c. search (sheet-verdict-by, needs)))

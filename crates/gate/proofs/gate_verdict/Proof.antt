@@ -8,8 +8,9 @@ pub gate-verdict-spec : {M : Type 1} → statement M
 gate-verdict-spec =
     tie.close
     (tie.spec
+    (λ c. search needs)
     (λ c κs. search needs)
-    (λ c κs. search needs)
+    (λ c. search needs)
     (λ c κs. search needs)
     (λ c κs. search needs)
     (λ c. search (verdict-by, needs)))

@@ -2,7 +2,7 @@
 -- The measure is what is left of the length, and one for the entry that ends there. Assumes nothing.
 use Prim.Native.Nat.{_+_, _-_}
 use lib.ListN.{length}
-use Rattle.portacl.specs.Code.{bind}
+use Rattle.portacl.specs.Portacl.{bind}
 use Rattle.portacl.proofs.WalkLaws.{Walking, walk-empty, walking-start, walking-end, walking-bad, walking-on}
 use borrow.Author.Needs.{needs}
 use Rattle.portacl.proofs.walk_entries.Statement.{statement}

@@ -14,4 +14,6 @@ abbrev μ-loop : tie.MeasureT-loop
 
 pub decimal-len-spec : {M : Type 1} → statement M
 decimal-len-spec =
-    tie.close (tie.spec Inv-loop μ-loop (λ c. search (measured-start, needs)) (λ c. search needs) (λ c. search needs) (λ c. search needs) (λ c. search (measured-step, needs)) (λ c. search (measured-end, needs)))
+    tie.close
+    (tie.spec Inv-loop μ-loop (λ c. search (measured-start, needs)) (λ c. search needs) (λ c. search needs) (λ c. search needs)
+    (λ c. search (measured-step, needs)) (λ c. search (measured-end, needs)))

@@ -1,7 +1,7 @@
 -- Each answer by the tests that led there. Assumes nothing.
 use borrow.Author.Needs.{needs}
 use borrow.Author.Tests.{lt-ltb, le-ltb}
-use Rattle.codes.specs.Requests.{addressBy}
+use Rattle.codes.specs.Code.{addressBy}
 use Rattle.codes.proofs.request.address_by.Statement.{statement}
 use Rattle.codes.proofs.request.address_by.Tie as tie
 

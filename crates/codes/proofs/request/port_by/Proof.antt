@@ -1,7 +1,7 @@
 -- Each answer by the tests that led there. Assumes nothing.
 use borrow.Author.Needs.{needs}
 use borrow.Author.Tests.{lt-ltb, le-ltb}
-use Rattle.codes.specs.Requests.{portBy}
+use Rattle.codes.specs.Code.{portBy}
 use Rattle.codes.proofs.request.port_by.Statement.{statement}
 use Rattle.codes.proofs.request.port_by.Tie as tie
 

@@ -12,6 +12,7 @@ inserted-length-spec =
     (λ c κs. search needs)
     (λ c. search needs)
     (λ c. search needs)
-    (λ c. let b = c .before .before in length-joined _ _ _ (b .before .directive-text .ensures) _ (b .has-at .ensures) (search needs) (c .before .if1 .taken) _ (c .name-before .ensures))
+    (λ c. let b = c .before .before in
+    length-joined _ _ _ (b .before .directive-text .ensures) _ (b .has-at .ensures) (search needs) (c .before .if1 .taken) _ (c .name-before .ensures))
     (λ c. let b = c .before in length-alone _ _ _ (b .before .directive-text .ensures) _ (b .has-at .ensures) (search needs) (c .if1 .left)) in
     tie.close facts

@@ -3,17 +3,17 @@
 use Prim.Native.Nat.{_-_, _+_}
 use borrow.Author.Needs.{needs}
 use lib.ListN.{length}
-use Rattle.expansion.specs.Code.{texts}
+use Rattle.expansion.specs.Code.{textsAt}
 use Rattle.expansion.proofs.PieceLaws.{Measured, measured-start, measured-literal, measured-directive, measured-end}
 use Rattle.expansion.proofs.write.expansion_length.Statement.{statement}
 use Rattle.expansion.proofs.write.expansion_length.Tie as tie
 
 abbrev Inv-loop : tie.InvT-loop
-Inv-loop t client-address client-name client-host server-address server-name server-host user-known user server-known daemon process percent n₀ i₀ n i =
-    Measured (texts client-address client-name client-host server-address server-name server-host user-known user server-known daemon process percent) t n i
+Inv-loop t names block g n₀ i₀ n i =
+    Measured (textsAt names block g) t n i
 
 abbrev μ-loop : tie.MeasureT-loop
-μ-loop t client-address client-name client-host server-address server-name server-host user-known user server-known daemon process percent n₀ i₀ n i = length t + 1 - i
+μ-loop t names block g n₀ i₀ n i = length t + 1 - i
 
 pub expansion-length-spec : {M : Type 1} → statement M
 expansion-length-spec =
@@ -29,7 +29,8 @@ expansion-length-spec =
     (λ c. search needs)
     (λ c. search needs)
     (λ c. let l = c .before .before .before .before .before in
-    measured-directive _ _ _ _ (l .loop .inv) (c .before .before .before .before .loop-test .taken) (c .before .before .if1 .taken) _ (c .before .byte-at .ensures) _ (c .inserted-length .ensures .0) (c .inserted-length .ensures .1))
+    measured-directive _ _ _ _ (l .loop .inv) (c .before .before .before .before .loop-test .taken)
+    (c .before .before .if1 .taken) _ (c .before .byte-at .ensures) _ (c .inserted-length .ensures .0) (c .inserted-length .ensures .1))
     (λ c. search needs)
     (λ c. search needs)
     (λ c. search needs)

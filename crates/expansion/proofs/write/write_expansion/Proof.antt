@@ -10,8 +10,11 @@ write-expansion-spec =
     let facts = tie.spec
     (λ c κs. search needs)
     (λ c κs. search needs)
-    (λ c. room-refused _ _ (c .before .before .before .before .before .before .before .before .before .before .before .before .before .before .before .args .out .now) _ (c .before .before .expansion-length .ensures) (omega (arith, c .before .if1 .taken)) _ (c .placeless .ensures))
+    (λ c. room-refused _ _ (c .before .before .before .before .before .before .before .args .out .now) _ (c .before .before .expansion-length .ensures)
+    (omega (arith, c .before .if1 .taken)) _ (c .placeless .ensures))
     (λ c κs. search needs)
     (λ c. search needs)
-    (λ c. room-count _ _ (c .before .before .before .before .before .before .before .before .before .before .before .before .before .before .before .before .before .before .args .out .now) _ (c .before .before .before .before .before .expansion-length .ensures) (omega (arith, c .before .before .before .before .if1 .left)) _ _ (c .before .before .put-expansion .ensures)) in
+    (λ c. room-count _ _ (c .before .before .before .before .before .before .before .before .before .before .args .out .now) _
+    (c .before .before .before .before .before .expansion-length .ensures)
+    (omega (arith, c .before .before .before .before .if1 .left)) _ _ (c .before .before .put-expansion .ensures)) in
     tie.close facts

@@ -9,16 +9,17 @@ use lib.ListN.{length}
 use Rattle.lines.proofs.RuleLaws.{rest-shorter}
 use Rattle.lines.proofs.rule.after_element.Reads as after-element
 use Rattle.lines.proofs.rule.element.Reads as element
-use Rattle.lines.proofs.rule.element_span.Reads as element-span
 use Rattle.lines.proofs.rule.is_except.Reads as is-except
 use Rattle.patterns.specs.Host.{endpoint}
+use Rattle.classes.proofs.ClassLaws.{element-place, element-described}
+use Rattle.classes.proofs.element_at.Reads as element-at
 use Rattle.elements.proofs.element.client_found.Reads as client-found
 use Rattle.lists.specs.Walk.{included, excluded}
 use Rattle.lists.specs.ListCode.{clientFinds}
 use Rattle.lists.proofs.WalkLaws.{Walked, walked-none, walked-shorter}
 use Rattle.lists.proofs.WalkLaws.{included-none, included-except, included-yes, included-no, included-ask}
 use Rattle.lists.proofs.WalkLaws.{excluded-none, excluded-except, excluded-more}
-use Rattle.lists.proofs.walk.turned.Reads as turned
+use Rattle.lists.proofs.walk.negated.Reads as negated
 use Rattle.lists.proofs.walk.clients_excluded.Reads as clients-excluded
 use Rattle.lists.proofs.walk.clients_excluded.Kinds as clients-excluded-kinds
 use Rattle.lists.proofs.walk.+clients_excluded+clients_included.Lts-clients_excluded as clients-excluded-lts
@@ -28,41 +29,43 @@ use Rattle.lists.proofs.walk.+clients_excluded+clients_included.Lts-cli
 use Rattle.lists.proofs.walk.+clients_excluded+clients_included.{statement}
 use Rattle.lists.proofs.walk.+clients_excluded+clients_included.Tie.{close}
 
-abbrev μ-clients-excluded : Measures 3 clients-excluded-kinds.ps ℕ
-μ-clients-excluded κs a = length (a .0 .now)
+abbrev μ-clients-excluded : Measures 4 clients-excluded-kinds.ps ℕ
+μ-clients-excluded κs a = length (a .1 .0 .now)
 
-abbrev μ-clients-included : Measures 3 clients-included-kinds.ps ℕ
-μ-clients-included κs a = length (a .0 .now)
+abbrev μ-clients-included : Measures 4 clients-included-kinds.ps ℕ
+μ-clients-included κs a = length (a .1 .0 .now)
 
-abbrev clients-excluded-at : ℕ → In 3 clients-excluded-kinds.ps
-clients-excluded-at t = and 3 clients-excluded-kinds.ps (is 3 clients-excluded-kinds.ps μ-clients-excluded t) clients-excluded.Pre
+abbrev clients-excluded-at : ℕ → In 4 clients-excluded-kinds.ps
+clients-excluded-at t = and 4 clients-excluded-kinds.ps (is 4 clients-excluded-kinds.ps μ-clients-excluded t) clients-excluded.Pre
 
-abbrev clients-excluded-below : ℕ → In 3 clients-excluded-kinds.ps
-clients-excluded-below t = and 3 clients-excluded-kinds.ps (falls 3 clients-excluded-kinds.ps _<_ μ-clients-excluded t) clients-excluded.Pre
+abbrev clients-excluded-below : ℕ → In 4 clients-excluded-kinds.ps
+clients-excluded-below t = and 4 clients-excluded-kinds.ps (falls 4 clients-excluded-kinds.ps _<_ μ-clients-excluded t) clients-excluded.Pre
 
-abbrev clients-included-at : ℕ → In 3 clients-included-kinds.ps
-clients-included-at t = and 3 clients-included-kinds.ps (is 3 clients-included-kinds.ps μ-clients-included t) clients-included.Pre
+abbrev clients-included-at : ℕ → In 4 clients-included-kinds.ps
+clients-included-at t = and 4 clients-included-kinds.ps (is 4 clients-included-kinds.ps μ-clients-included t) clients-included.Pre
 
-abbrev clients-included-below : ℕ → In 3 clients-included-kinds.ps
-clients-included-below t = and 3 clients-included-kinds.ps (falls 3 clients-included-kinds.ps _<_ μ-clients-included t) clients-included.Pre
+abbrev clients-included-below : ℕ → In 4 clients-included-kinds.ps
+clients-included-below t = and 4 clients-included-kinds.ps (falls 4 clients-included-kinds.ps _<_ μ-clients-included t) clients-included.Pre
 
 abbrev clients-excluded-Inv-loop : clients-excluded-lts.InvT-loop
-clients-excluded-Inv-loop s client client-name user user-name rest₀ rest = Walked (excluded (clientFinds (endpoint client client-name) user user-name)) s rest
+clients-excluded-Inv-loop class s client client-name user user-name rest₀ rest = Walked
+    (excluded (clientFinds (endpoint client client-name) user user-name)) s rest
 
 abbrev clients-excluded-μ-loop : clients-excluded-lts.MeasureT-loop
-clients-excluded-μ-loop s client client-name user user-name rest₀ rest = length rest
+clients-excluded-μ-loop class s client client-name user user-name rest₀ rest = length rest
 
 abbrev clients-included-Inv-loop : clients-included-lts.InvT-loop
-clients-included-Inv-loop s client client-name user user-name rest₀ rest = Walked (included (clientFinds (endpoint client client-name) user user-name)) s rest
+clients-included-Inv-loop class s client client-name user user-name rest₀ rest = Walked
+    (included (clientFinds (endpoint client client-name) user user-name)) s rest
 
 abbrev clients-included-μ-loop : clients-included-lts.MeasureT-loop
-clients-included-μ-loop s client client-name user user-name rest₀ rest = length rest
+clients-included-μ-loop class s client client-name user user-name rest₀ rest = length rest
 
 pub +clients-excluded+clients-included-spec : {M : Type 1} → statement M
 +clients-excluded+clients-included-spec =
     close μ-clients-excluded μ-clients-included (λ t. clients-excluded-lts.spec (
-      element-span.Asked,
-      element-span.Learnt,
+      element-at.Asked,
+      element-at.Learnt,
       element.Asked,
       element.Learnt,
       after-element.Asked,
@@ -71,8 +74,8 @@ pub +clients-excluded+clients-included-spec : {M : Type 1} → statement M
       is-except.Learnt,
       clients-included-below t,
       clients-included.Post,
-      turned.Asked,
-      turned.Learnt,
+      negated.Asked,
+      negated.Learnt,
     )
     (clients-excluded-at t)
     clients-excluded.Post
@@ -80,18 +83,18 @@ pub +clients-excluded+clients-included-spec : {M : Type 1} → statement M
     clients-excluded-μ-loop
     (λ c. search (walked-none, needs))
     (λ c κs. search needs)
-    (λ c κs. search needs)
+    (λ c κs. search (element-place, needs))
     (λ c. search (excluded-none, needs))
+    (λ c κs. search (element-place, needs))
     (λ c κs. search needs)
-    (λ c κs. search needs)
-    (λ c κs. (search (walked-shorter, needs), tt))
+    (λ c κs. (search (walked-shorter, needs), search needs))
     (λ c κs. search needs)
     (λ c. search (excluded-except, needs))
     (λ c. search (rest-shorter, needs))
     (λ c. search (excluded-more, needs)))
     λ t. clients-included-lts.spec (
-      element-span.Asked,
-      element-span.Learnt,
+      element-at.Asked,
+      element-at.Learnt,
       element.Asked,
       element.Learnt,
       is-except.Asked,
@@ -109,14 +112,14 @@ pub +clients-excluded+clients-included-spec : {M : Type 1} → statement M
     clients-included-μ-loop
     (λ c. search (walked-none, needs))
     (λ c κs. search needs)
-    (λ c κs. search needs)
+    (λ c κs. search (element-place, needs))
     (λ c. search (included-none, needs))
     (λ c κs. search needs)
     (λ c. search (included-except, needs))
-    (λ c κs. search needs)
-    (λ c κs. search needs)
+    (λ c κs. search (element-place, needs))
+    (λ c κs. search (element-described, needs))
     (λ c. search needs)
-    (λ c κs. (search (walked-shorter, needs), tt))
+    (λ c κs. (search (walked-shorter, needs), search needs))
     (λ c. search (included-yes, needs))
     (λ c. search needs)
     (λ c. search needs)

@@ -9,16 +9,17 @@ use lib.ListN.{length}
 use Rattle.lines.proofs.RuleLaws.{rest-shorter}
 use Rattle.lines.proofs.rule.after_element.Reads as after-element
 use Rattle.lines.proofs.rule.element.Reads as element
-use Rattle.lines.proofs.rule.element_span.Reads as element-span
 use Rattle.lines.proofs.rule.is_except.Reads as is-except
 use Rattle.patterns.specs.Host.{endpoint}
+use Rattle.classes.proofs.ClassLaws.{element-place, element-described}
+use Rattle.classes.proofs.element_at.Reads as element-at
 use Rattle.elements.proofs.element.daemon_found.Reads as daemon-found
 use Rattle.lists.specs.Walk.{included, excluded}
 use Rattle.lists.specs.ListCode.{daemonFinds}
 use Rattle.lists.proofs.WalkLaws.{Walked, walked-none, walked-shorter}
 use Rattle.lists.proofs.WalkLaws.{included-none, included-except, included-yes, included-no, included-ask}
 use Rattle.lists.proofs.WalkLaws.{excluded-none, excluded-except, excluded-more}
-use Rattle.lists.proofs.walk.turned.Reads as turned
+use Rattle.lists.proofs.walk.negated.Reads as negated
 use Rattle.lists.proofs.walk.daemons_excluded.Reads as daemons-excluded
 use Rattle.lists.proofs.walk.daemons_excluded.Kinds as daemons-excluded-kinds
 use Rattle.lists.proofs.walk.+daemons_excluded+daemons_included.Lts-daemons_excluded as daemons-excluded-lts
@@ -28,41 +29,41 @@ use Rattle.lists.proofs.walk.+daemons_excluded+daemons_included.Lts-dae
 use Rattle.lists.proofs.walk.+daemons_excluded+daemons_included.{statement}
 use Rattle.lists.proofs.walk.+daemons_excluded+daemons_included.Tie.{close}
 
-abbrev μ-daemons-excluded : Measures 3 daemons-excluded-kinds.ps ℕ
-μ-daemons-excluded κs a = length (a .0 .now)
+abbrev μ-daemons-excluded : Measures 4 daemons-excluded-kinds.ps ℕ
+μ-daemons-excluded κs a = length (a .1 .0 .now)
 
-abbrev μ-daemons-included : Measures 3 daemons-included-kinds.ps ℕ
-μ-daemons-included κs a = length (a .0 .now)
+abbrev μ-daemons-included : Measures 4 daemons-included-kinds.ps ℕ
+μ-daemons-included κs a = length (a .1 .0 .now)
 
-abbrev daemons-excluded-at : ℕ → In 3 daemons-excluded-kinds.ps
-daemons-excluded-at t = and 3 daemons-excluded-kinds.ps (is 3 daemons-excluded-kinds.ps μ-daemons-excluded t) daemons-excluded.Pre
+abbrev daemons-excluded-at : ℕ → In 4 daemons-excluded-kinds.ps
+daemons-excluded-at t = and 4 daemons-excluded-kinds.ps (is 4 daemons-excluded-kinds.ps μ-daemons-excluded t) daemons-excluded.Pre
 
-abbrev daemons-excluded-below : ℕ → In 3 daemons-excluded-kinds.ps
-daemons-excluded-below t = and 3 daemons-excluded-kinds.ps (falls 3 daemons-excluded-kinds.ps _<_ μ-daemons-excluded t) daemons-excluded.Pre
+abbrev daemons-excluded-below : ℕ → In 4 daemons-excluded-kinds.ps
+daemons-excluded-below t = and 4 daemons-excluded-kinds.ps (falls 4 daemons-excluded-kinds.ps _<_ μ-daemons-excluded t) daemons-excluded.Pre
 
-abbrev daemons-included-at : ℕ → In 3 daemons-included-kinds.ps
-daemons-included-at t = and 3 daemons-included-kinds.ps (is 3 daemons-included-kinds.ps μ-daemons-included t) daemons-included.Pre
+abbrev daemons-included-at : ℕ → In 4 daemons-included-kinds.ps
+daemons-included-at t = and 4 daemons-included-kinds.ps (is 4 daemons-included-kinds.ps μ-daemons-included t) daemons-included.Pre
 
-abbrev daemons-included-below : ℕ → In 3 daemons-included-kinds.ps
-daemons-included-below t = and 3 daemons-included-kinds.ps (falls 3 daemons-included-kinds.ps _<_ μ-daemons-included t) daemons-included.Pre
+abbrev daemons-included-below : ℕ → In 4 daemons-included-kinds.ps
+daemons-included-below t = and 4 daemons-included-kinds.ps (falls 4 daemons-included-kinds.ps _<_ μ-daemons-included t) daemons-included.Pre
 
 abbrev daemons-excluded-Inv-loop : daemons-excluded-lts.InvT-loop
-daemons-excluded-Inv-loop s daemon server server-name rest₀ rest = Walked (excluded (daemonFinds daemon (endpoint server server-name))) s rest
+daemons-excluded-Inv-loop class s daemon server server-name rest₀ rest = Walked (excluded (daemonFinds daemon (endpoint server server-name))) s rest
 
 abbrev daemons-excluded-μ-loop : daemons-excluded-lts.MeasureT-loop
-daemons-excluded-μ-loop s daemon server server-name rest₀ rest = length rest
+daemons-excluded-μ-loop class s daemon server server-name rest₀ rest = length rest
 
 abbrev daemons-included-Inv-loop : daemons-included-lts.InvT-loop
-daemons-included-Inv-loop s daemon server server-name rest₀ rest = Walked (included (daemonFinds daemon (endpoint server server-name))) s rest
+daemons-included-Inv-loop class s daemon server server-name rest₀ rest = Walked (included (daemonFinds daemon (endpoint server server-name))) s rest
 
 abbrev daemons-included-μ-loop : daemons-included-lts.MeasureT-loop
-daemons-included-μ-loop s daemon server server-name rest₀ rest = length rest
+daemons-included-μ-loop class s daemon server server-name rest₀ rest = length rest
 
 pub +daemons-excluded+daemons-included-spec : {M : Type 1} → statement M
 +daemons-excluded+daemons-included-spec =
     close μ-daemons-excluded μ-daemons-included (λ t. daemons-excluded-lts.spec (
-      element-span.Asked,
-      element-span.Learnt,
+      element-at.Asked,
+      element-at.Learnt,
       element.Asked,
       element.Learnt,
       after-element.Asked,
@@ -71,8 +72,8 @@ pub +daemons-excluded+daemons-included-spec : {M : Type 1} → statement M
       is-except.Learnt,
       daemons-included-below t,
       daemons-included.Post,
-      turned.Asked,
-      turned.Learnt,
+      negated.Asked,
+      negated.Learnt,
     )
     (daemons-excluded-at t)
     daemons-excluded.Post
@@ -80,18 +81,18 @@ pub +daemons-excluded+daemons-included-spec : {M : Type 1} → statement M
     daemons-excluded-μ-loop
     (λ c. search (walked-none, needs))
     (λ c κs. search needs)
-    (λ c κs. search needs)
+    (λ c κs. search (element-place, needs))
     (λ c. search (excluded-none, needs))
+    (λ c κs. search (element-place, needs))
     (λ c κs. search needs)
-    (λ c κs. search needs)
-    (λ c κs. (search (walked-shorter, needs), tt))
+    (λ c κs. (search (walked-shorter, needs), search needs))
     (λ c κs. search needs)
     (λ c. search (excluded-except, needs))
     (λ c. search (rest-shorter, needs))
     (λ c. search (excluded-more, needs)))
     λ t. daemons-included-lts.spec (
-      element-span.Asked,
-      element-span.Learnt,
+      element-at.Asked,
+      element-at.Learnt,
       element.Asked,
       element.Learnt,
       is-except.Asked,
@@ -109,14 +110,14 @@ pub +daemons-excluded+daemons-included-spec : {M : Type 1} → statement M
     daemons-included-μ-loop
     (λ c. search (walked-none, needs))
     (λ c κs. search needs)
-    (λ c κs. search needs)
+    (λ c κs. search (element-place, needs))
     (λ c. search (included-none, needs))
     (λ c κs. search needs)
     (λ c. search (included-except, needs))
-    (λ c κs. search needs)
-    (λ c κs. search needs)
+    (λ c κs. search (element-place, needs))
+    (λ c κs. search (element-described, needs))
     (λ c. search needs)
-    (λ c κs. (search (walked-shorter, needs), tt))
+    (λ c κs. (search (walked-shorter, needs), search needs))
     (λ c. search (included-yes, needs))
     (λ c. search needs)
     (λ c. search needs)

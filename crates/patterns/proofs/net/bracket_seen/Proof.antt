@@ -7,11 +7,11 @@ use Rattle.patterns.proofs.net.bracket_seen.Tie as tie
 
 pub bracket-seen-spec : {M : Type 1} → statement M
 bracket-seen-spec =
-    tie.close
-    (tie.spec
+    let facts = tie.spec
     (λ c κs. search needs)
     (λ c. search needs)
     (λ c. search needs)
     (λ c κs. search (bracketPrefix-fits, needs))
     (λ c. search (bracket-unread, needs))
-    (λ c. search (bracket-read, needs)))
+    (λ c. search (bracket-read, needs)) in
+    tie.close facts

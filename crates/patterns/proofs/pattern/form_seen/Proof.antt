@@ -6,8 +6,7 @@ use Rattle.patterns.proofs.pattern.form_seen.Tie as tie
 
 pub form-seen-spec : {M : Type 1} → statement M
 form-seen-spec =
-    tie.close
-    (tie.spec
+    let facts = tie.spec
     (λ c κs. search needs)
     (λ c. search needs)
     (λ c κs. search needs)
@@ -22,4 +21,5 @@ form-seen-spec =
     (λ c. search (seen-domain, needs))
     (λ c. search (seen-bracket, needs))
     (λ c. search (seen-dotted, needs))
-    (λ c. search (seen-plain, needs)))
+    (λ c. search (seen-plain, needs)) in
+    tie.close facts

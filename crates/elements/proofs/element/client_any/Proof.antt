@@ -1,0 +1,16 @@
+-- `element::client_any` meets its contract. Assumes nothing.
+use borrow.Author.Needs.{needs}
+use Rattle.elements.specs.Element.{clientElement}
+use Rattle.elements.proofs.SeenLaws.{elementSeen-is}
+use Rattle.elements.proofs.element.client_any.Statement.{statement}
+use Rattle.elements.proofs.element.client_any.Tie as tie
+
+pub client-any-spec : {M : Type 1} → statement M
+client-any-spec =
+    let facts = tie.spec
+    (λ c κs. search needs)
+    (λ c κs. search needs)
+    (λ c κs. search needs)
+    (λ c κs. search needs)
+    (λ c. search (elementSeen-is, needs)) in
+    tie.close facts

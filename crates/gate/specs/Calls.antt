@@ -1,0 +1,90 @@
+-- What each exported call answers, by the bytes and numbers that C hands over: one definition for each, which its promise and the claims cite.
+--   wrote out o, wroteCommand out o == what a call with the outcome o answers, and what the lent output out holds afterwards
+-- Assumes nothing: these are definitions.
+use Prim.Native.Nat.{ℕ}
+use mathlib.Core.List.{List}
+use lib.ListN.{length}
+use Rattle.section.specs.Refusal.{Outcome, answered, _>>=_, lentAfter}
+use Rattle.section.specs.Section.{bytesAt}
+use Rattle.address.specs.Address.{readAddress}
+use Rattle.rules.specs.Search.{decide, commandBytes}
+use Rattle.expansion.specs.Expand.{expand}
+use Rattle.byuid.specs.Byuid.{decideByuid}
+use Rattle.portacl.specs.declared.Settings.{Settings}
+use Rattle.portacl.specs.Portacl.{decidePortacl}
+use Rattle.sheet.specs.Sheet as Sheet
+use Rattle.sheet.specs.Sheet.{Texts}
+use Rattle.station.specs.Station.{decideSheet, decideByuidSheet, decidePortaclSheet}
+use Rattle.codes.specs.declared.GateAddress.{GateAddress}
+use Rattle.codes.specs.declared.GateAnswer.{GateAnswer}
+use Rattle.codes.specs.declared.GateCheck.{GateCheck}
+use Rattle.codes.specs.declared.GateCommand.{GateCommand}
+use Rattle.codes.specs.declared.GateParts.{GateParts}
+use Rattle.codes.specs.declared.GateWritten.{GateWritten}
+use Rattle.codes.specs.Requests.{RequestNumbers, request, byuidBind, portaclBind, writeBy}
+use Rattle.codes.specs.Answers.{verdictAnswer, byuidAnswer, portaclAnswer, checkAnswer, partsAnswer, writtenAnswer, addressAnswer, Command, together, commandAnswer}
+
+-- ## Decisions
+
+abbrev pub gateVerdict : List ℕ → List ℕ → RequestNumbers → GateAnswer
+gateVerdict allow deny n = verdictAnswer (decide allow deny (request n))
+
+abbrev pub gateSheetVerdict : List ℕ → RequestNumbers → GateAnswer
+gateSheetVerdict sheet n = verdictAnswer (decideSheet sheet (request n))
+
+abbrev pub gateByuid : List ℕ → ℕ → ℕ → ℕ → ℕ → ℕ → GateAnswer
+gateByuid text port kind high low uid = byuidAnswer (decideByuid text (byuidBind port kind high low uid))
+
+abbrev pub gateSheetByuid : List ℕ → ℕ → ℕ → ℕ → ℕ → ℕ → GateAnswer
+gateSheetByuid sheet port kind high low uid = byuidAnswer (decideByuidSheet sheet (byuidBind port kind high low uid))
+
+abbrev pub gatePortacl : List ℕ → Settings → ℕ → List ℕ → ℕ → ℕ → GateAnswer
+gatePortacl text s uid groups protocol port = portaclAnswer (decidePortacl text s (portaclBind uid groups protocol port))
+
+abbrev pub gateSheetPortacl : List ℕ → Settings → ℕ → List ℕ → ℕ → ℕ → GateAnswer
+gateSheetPortacl sheet s uid groups protocol port = portaclAnswer (decidePortaclSheet sheet s (portaclBind uid groups protocol port))
+
+-- ## Sheets and addresses
+
+abbrev pub gateCheck : List ℕ → GateCheck
+gateCheck sheet = checkAnswer (Sheet.unpack sheet)
+
+abbrev pub gateUnpack : List ℕ → GateParts
+gateUnpack sheet = partsAnswer (Sheet.unpack sheet)
+
+abbrev pub gateReadAddress : List ℕ → GateAddress
+gateReadAddress text = addressAnswer (readAddress text)
+
+-- ## Calls that write
+
+pub record Wrote : Type 0 where
+  pub answer : GateWritten
+  pub out : List ℕ
+
+abbrev pub wrote : List ℕ → Outcome (List ℕ) → Wrote
+wrote out o = record { answer = writtenAnswer o; out = lentAfter out o }
+
+abbrev pub gatePack : Texts → List ℕ → Wrote
+gatePack ts out = wrote out (Sheet.pack ts (length out))
+
+abbrev pub gateExpand : List ℕ → RequestNumbers → ℕ → List ℕ → Wrote
+gateExpand command n process out = wrote out (expand command (request n) process (length out))
+
+-- "The verdict hands back the raw command", and the same call expands it for the same request: by two texts, and by a sheet
+pub record WroteCommand : Type 0 where
+  pub answer : GateCommand
+  pub out : List ℕ
+
+abbrev pub wroteCommand : List ℕ → Outcome Command → WroteCommand
+wroteCommand out o = record { answer = commandAnswer o; out = lentAfter out (o >>= λ c. answered (c .text)) }
+
+abbrev pub gateCommand : List ℕ → List ℕ → RequestNumbers → ℕ → List ℕ → WroteCommand
+gateCommand allow deny n process out =
+    wroteCommand out (together (decide allow deny (request n)) (λ a. expand (commandBytes allow deny a) (request n) process (length out)))
+
+abbrev pub gateSheetCommand : List ℕ → RequestNumbers → ℕ → List ℕ → WroteCommand
+gateSheetCommand sheet n process out =
+    wroteCommand out (together (decideSheet sheet (request n)) (λ a. expand (bytesAt sheet (a .command)) (request n) process (length out)))
+
+abbrev pub gateWriteAddress : ℕ → ℕ → ℕ → List ℕ → Wrote
+gateWriteAddress kind high low out = wrote out (writeBy kind high low (length out))

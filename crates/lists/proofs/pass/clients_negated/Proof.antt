@@ -1,0 +1,23 @@
+-- `pass::clients_negated` meets its contract, side by side. Assumes nothing.
+use borrow.Author.Needs.{needs}
+use Rattle.lists.proofs.PassLaws.{negated-looking, negated-matched, negated-no, negated-yes, negated-ask}
+use Rattle.lists.proofs.pass.clients_negated.Statement.{statement}
+use Rattle.lists.proofs.pass.clients_negated.Tie as tie
+
+pub clients-negated-spec : {M : Type 1} → statement M
+clients-negated-spec =
+    let facts = tie.spec
+    (λ c. search needs)
+    (λ c. search needs)
+    (λ c κs. search needs)
+    (λ c κs. search needs)
+    (λ c κs. search needs)
+    (λ c. search needs)
+    (λ c. search needs)
+    (λ c. search needs)
+    (λ c. search (negated-looking, needs))
+    (λ c. search (negated-matched, needs))
+    (λ c. search (negated-no, needs))
+    (λ c. search (negated-yes, needs))
+    (λ c. search (negated-ask, needs)) in
+    tie.close facts
