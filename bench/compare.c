@@ -27,6 +27,7 @@ struct recipe {
 
 #define PLAIN "sshd: .depot%u.example, van%u.x.example, 10.%u.%u.\n"
 #define BRACKETED "sshd: [2001:db8:%x::]/48, [2001:db8:1:%x::2], [fe80::%x:0:%x]/64\n"
+#define PREFIXES "sshd: [2001:db8:ffff:%x::]/64, [2001:db8:ffff::%x]/127, [2001:db8:ffff:0:1:%x::]/96\n" /* each differs in its last word */
 #define BYUID_FORMS "10.%u.0.0/16,80\n10.1.0.0-10.1.%u.255,1-1023\n10.0.%u.0/24:1,1023\n2001:db8:%x::/48,80\n"
 #define PORTACL_ENTRY "gid:%u:tcp:10001,"
 
@@ -38,6 +39,7 @@ static const struct recipe plain_8 = {.form = PLAIN, .from = 100, .size = 8192};
 static const struct recipe plain = {.form = PLAIN, .from = 100, .size = GATE_DENY_LIMIT};
 static const struct recipe plain_after_match = {.first = "sshd: pump.example\n", .form = PLAIN, .from = 100, .size = GATE_ALLOW_LIMIT};
 static const struct recipe bracketed = {.form = BRACKETED, .from = 0x100, .size = GATE_DENY_LIMIT};
+static const struct recipe prefixes = {.form = PREFIXES, .from = 0x100, .size = GATE_DENY_LIMIT};
 static const struct recipe all = {.first = "ALL: ALL\n"};
 static const struct recipe byuid_lines = {.form = BYUID_FORMS, .from = 100, .size = GATE_BYUID_LIMIT};
 static const struct recipe portacl_entries = {.form = PORTACL_ENTRY, .from = 1000000000, .lines = 41};
@@ -70,6 +72,7 @@ static const struct test_case cases[] = {
     {"300 rules, by sheet", SHEET_VERDICT, .deny = &rules, NONE_MATCHES},
     {"both files full", VERDICT, .allow = &plain, .deny = &plain, NONE_MATCHES},
     {"both files full, IPv6", VERDICT, .allow = &bracketed, .deny = &bracketed, .client = V6, NONE_MATCHES},
+    {"both full, IPv6 prefixes", VERDICT, .allow = &prefixes, .deny = &prefixes, .client = V6, NONE_MATCHES},
     {"growth: 2 KiB", VERDICT, .deny = &plain_2, NONE_MATCHES},
     {"growth: 4 KiB", VERDICT, .deny = &plain_4, NONE_MATCHES},
     {"growth: 8 KiB", VERDICT, .deny = &plain_8, NONE_MATCHES},

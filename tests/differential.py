@@ -278,6 +278,15 @@ def request(rng):
     return dict(daemon=daemon, client=host(rng), server=host(rng), user=user)
 
 
+def near_prefix(rng, width):
+    """an address of a net, an address that differs from it at some bit first, and a length that ends there or next to it"""
+    half = width // 2
+    at = rng.choice([0, 1, half - 1, half, half + 1, width - 1, width, rng.randrange(width), rng.randrange(width)])
+    net, last = rng.getrandbits(width), width - 1 - at
+    address = net if at == width else net ^ 1 << last ^ rng.getrandbits(last)
+    return net, address, min(max(at + rng.choice([-1, 0, 1, 1]), 0), width)
+
+
 def byuid_text(rng):
     def address():
         return rng.choice([b"10.0.0.0", b"10.0.0.0", b"10.0.0.1", b"0.0.0.0", b"0.0.0.0", b"::", b"::", b"255.255.255.255", b"::", b"::1", b"3ffe:505:2:1::9", b"3ffe:505:2:1::",
@@ -457,6 +466,17 @@ def main():
         compare("verdict", verdict(rng, lib.gate_verdict, [allow, deny], [b"", allow, deny], r), expected, allow, deny, r)
         command_case("command", lib.gate_command, [allow, deny], [b"", allow, deny], expected, r)
 
+    def prefix_cases():
+        net, address, length = near_prefix(rng, 128)
+        allow, deny, r = b"ALL: [%s]/%d\n" % (ref.address_text(("6", net)), length), b"ALL: ALL\n", dict(request(rng), client=(None, ("6", address)))
+        expected = ref.verdict(allow, deny, r)
+        compare("verdict", verdict(rng, lib.gate_verdict, [allow, deny], [b"", allow, deny], r), expected, allow, r)
+        kind, width = rng.choice([("4", 32), ("6", 128)])
+        net, address, length = near_prefix(rng, width)
+        beyond = rng.choice([net % 2 ** (width - length)] * 3 + [0])
+        case = b"%s/%d,80" % (ref.address_text((kind, net - beyond)), length), 80, (kind, address), 432
+        compare("byuid", byuid(rng, lib.gate_byuid, *case), ref.byuid(*case), *case)
+
     def byuid_request():
         address = rng.choice([host(rng)[1], ("4", 0x0a000000 + rng.randrange(3)), ("6", rng.randrange(3))])
         port = BAD if rng.random() < 0.02 else rng.choice([0, 1, 80, 80, 80, 80, 80, 512, 1023, 1024])
@@ -511,6 +531,7 @@ def main():
 
     for _ in range(cases):
         hosts_case()
+        prefix_cases()
         port_cases()
         sheet_cases()
         expand_case()

@@ -1,4 +1,5 @@
-"""Document 01 once more, in Python, written from the paper alone: what the exported functions are compared with.
+"""Document 01, and the requests of document 02 that are met, once more in Python, written from the papers alone: what the exported
+functions are compared with.
 
 It shares nothing with the definitions in crates/*/specs and favours the plainest way to say a thing.
 Hosts are pairs (name, address): name is None (unknown), False (paranoid) or bytes; address is None, ("4", n) or ("6", n).
@@ -84,6 +85,11 @@ def address_text(address):
     if length < 2:
         return b":".join(text)
     return b":".join(text[:best]) + b"::" + b":".join(text[best + length:])
+
+
+def same_bits(width, length, a, b):
+    """the first bits of two numbers of so many bits, compared one by one (document 02, request 5)"""
+    return all(a >> place & 1 == b >> place & 1 for place in range(width - 1, width - 1 - length, -1))
 
 
 def within(room, text):
@@ -203,7 +209,7 @@ def pattern(e):
             bits = None
         if net is None or bits is None:
             return None
-        return lambda h: h[1] is not None and h[1][0] == "6" and (h[1][1] ^ net) >> (128 - bits) == 0
+        return lambda h: h[1] is not None and h[1][0] == "6" and same_bits(128, bits, h[1][1], net)
     if e and all(b in b"0123456789./" for b in e):
         test = None
         if read4(e) is not None:

@@ -10,7 +10,7 @@ use lib.Dec.{eqb}
 use lib.Bits.{bitAnd, and-mask, and-high}
 use lib.Pow.{pow-pos, pow-add, ones-lt, ones-split, high, low, shl-shr, shr-shr, shr-mod, shr-lt, mod-pow-add}
 use Rattle.address.specs.Address.{samePrefix}
-use Rattle.address.specs.Code.{bitAt, sameBits}
+use Rattle.address.specs.Bits.{bitAt, sameBits}
 
 -- two tests that hold at the same time
 pub eqb-iff : (a b c d : ℕ) → (a ≡ b → c ≡ d) → (c ≡ d → a ≡ b) → eqb a b ≡ eqb c d

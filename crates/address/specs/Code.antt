@@ -1,7 +1,5 @@
 -- What the contracts inside the crate, and those of what other crates call, are written in. Nothing here needs to be believed for the meaning
 -- of document 01: the calls are stated over Address alone.
---   bitAt w i a       == the bit of a, a number of w bits, at place i from the most significant
---   sameBits w n a b  == the first n bits of a and b are equal, compared one by one; samePrefix is proved equal to it
 --   firstGroup t      == what the code finds at the front of a text with colons
 --   numberOf w        == the number of two words, and wordsOf n the words of a number
 --   hexValue b        == the value of a hex digit, 16 where b is none
@@ -9,7 +7,7 @@
 --   groupsFrom k n gs == the code's answer about k groups that make n, with the groups gs after them, at most eight
 --   asV6 o            == o as the code answers it
 -- Assumes nothing: these are definitions.
-use Prim.Native.Nat.{ℕ, zero, suc, _+_, _-_, _*_, _/_, _%_, _^_}
+use Prim.Native.Nat.{ℕ, suc, _+_, _*_, _/_, _%_, _^_}
 use mathlib.Core.Bool.{Bool, true, false, _&&_, _||_}
 use mathlib.Core.List.{List, [], _∷_, map}
 use mathlib.Core.Option.{Option, none, some}
@@ -27,17 +25,6 @@ use Rattle.address.specs.declared.read.GroupsRead.the-variants as R
 use Rattle.address.specs.declared.read.Words.{Words}
 use Rattle.address.specs.declared.read.V6Read.{V6Read}
 use Rattle.address.specs.declared.read.V6Read.the-variants as S
-
--- ## Leading bits
-
-abbrev pub bitAt : ℕ → ℕ → ℕ → ℕ
-bitAt w i a = a / 2 ^ (w - suc i) % 2
-
-unfoldable pub sameBits : ℕ → ℕ → ℕ → ℕ → Bool
-sameBits w zero a b = true
-sameBits w (suc n) a b = sameBits w n a b && eqb (bitAt w n a) (bitAt w n b)
-
--- ## Reading
 
 abbrev pub numberOf : Words → ℕ
 numberOf w = w .high * 2 ^ 64 + w .low

@@ -8,7 +8,7 @@ ghost use lib.Dec.{eqb};
 ghost use lib.Bits.{bitAnd};
 ghost use Rattle.address.specs.Address.{samePrefix};
 
-// The word whose bits beyond the first n are ones.
+// The word whose bits beyond the first n are ones. No shift is by the whole width.
 fn mask_beyond(n: u32) -> u64
     requires { ⌜ n ≤ 64 ⌝ }
     ensures { λ r. ⌜ r ≡ 2 ^ (64 - n) - 1 ⌝ }
@@ -50,7 +50,7 @@ pub fn same_prefix_v6(a_high: u64, a_low: u64, b_high: u64, b_low: u64, n: u32) 
     same_word(a_low, b_low, n - 64)
 }
 
-// The word of 32 bits whose bits beyond the first n are ones.
+// The word of 32 bits whose bits beyond the first n are ones. No shift is by the whole width.
 fn mask_beyond_v4(n: u32) -> u32
     requires { ⌜ n ≤ 32 ⌝ }
     ensures { λ r. ⌜ r ≡ 2 ^ (32 - n) - 1 ⌝ }

@@ -1,4 +1,4 @@
--- Reading what was written gives the address back.
+-- Reading what was written gives the address back; leading bits are compared as one by one.
 -- Assumes nothing.
 use Prim.Native.Nat.{ℕ, _<_, _^_}
 use mathlib.Core.Bool.{Bool, true, false}
@@ -14,12 +14,13 @@ use Rattle.section.specs.Refusal.{placeless}
 use Rattle.address.specs.declared.Addr.{Addr}
 use Rattle.address.specs.declared.Addr.the-variants as A
 use Rattle.address.specs.Address.{addrText, readAddress, writeAddress}
+use Rattle.address.proofs.PrefixLaws.{samePrefix-bits}
 use Rattle.address.proofs.ReadText.{readAddress-addrText-v4, readAddress-addrText-v6}
 use Rattle.sheet.proofs.FrameLaws.{refusing-answered}
 use Rattle.codes.specs.Requests.{addressOf, writeBy}
 use Rattle.codes.specs.Answers.{writtenAnswer, addressWith, addressAnswer}
 use Rattle.gate.specs.Calls.{wrote}
-use Rattle.claims.specs.Claims.{front, ReadWritten}
+use Rattle.claims.specs.Claims.{front, ReadWritten, BitByBit}
 use Rattle.claims.proofs.AnswerLaws.{written-answered}
 
 address-written : (a : Addr) (out : List ℕ) → writtenAnswer (writeAddress a (length out)) .number ≡ 0 → front (wrote out (writeAddress a (length out)))
@@ -73,3 +74,6 @@ v6 high low out h k e =
 
 pub read-written : ReadWritten
 read-written = record { v4 = v4; v6 = v6 }
+
+pub bit-by-bit : BitByBit
+bit-by-bit = samePrefix-bits

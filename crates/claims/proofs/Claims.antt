@@ -4,7 +4,7 @@ use Rattle.claims.specs.Claims.{Claims}
 use Rattle.claims.proofs.ExampleClaims.{examples}
 use Rattle.claims.proofs.AnswerLaws.{refusal-writes-nothing, every-decision, every-number}
 use Rattle.claims.proofs.SheetClaims.{cut-short, longest, unpack-pack, pack-unpack, sheet-as-texts}
-use Rattle.claims.proofs.AddressClaims.{read-written}
+use Rattle.claims.proofs.AddressClaims.{read-written, bit-by-bit}
 use Rattle.claims.proofs.CommandClaims.{command-in-turn}
 use Rattle.claims.proofs.UserClaims.{ask-only-unfetched, name-cannot-matter}
 
@@ -23,4 +23,5 @@ claims = record {
   command-in-turn = command-in-turn;
   ask-only-unfetched = ask-only-unfetched;
   name-cannot-matter = name-cannot-matter;
+  bit-by-bit = bit-by-bit;
 }

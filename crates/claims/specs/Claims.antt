@@ -13,6 +13,8 @@ use Rattle.section.specs.declared.Refusal.{Refusal}
 use Rattle.section.specs.Section as S
 use Rattle.section.specs.Section.{part, bytesAt}
 use Rattle.section.specs.Refusal.{refusal}
+use Rattle.address.specs.Address.{samePrefix}
+use Rattle.address.specs.Bits.{sameBits}
 use Rattle.expansion.specs.Expand.{usesUser}
 use Rattle.portacl.specs.declared.Settings.{Settings}
 use Rattle.sheet.specs.Sheet.{Texts, texts}
@@ -206,6 +208,13 @@ pub record NameCannotMatter : Type 0 where
       → (user : ℕ) (name : List ℕ) → Permitted user name
       → SameFor (gateSheetVerdict sheet) (commandIn sheet (gateSheetVerdict sheet n)) n user name
 
+-- ## Document 02
+
+-- request 5: comparing whole words, and "only the last word under a mask", is "equal to a comparison bit by bit at every length": of
+-- addresses of any width w, so of 32 bits (same_prefix_v4) and of 128 (same_prefix_v6, by which `[v6]/m` matches) alike
+abbrev pub BitByBit : Type 0
+BitByBit = (w m a b : ℕ) → m ≤ w → a < 2 ^ w → b < 2 ^ w → samePrefix w m a b ≡ sameBits w m a b
+
 -- ## All
 
 pub record Claims : Type 0 where
@@ -222,3 +231,4 @@ pub record Claims : Type 0 where
   pub command-in-turn : CommandInTurn
   pub ask-only-unfetched : AskOnlyUnfetched
   pub name-cannot-matter : NameCannotMatter
+  pub bit-by-bit : BitByBit
