@@ -45,9 +45,9 @@ static const struct {
     {"An element, or what follows its @, begins with @ or /. Netgroups and files of patterns are not read here.", "hosts.allow",
      "sshd: @vans", "Write the hosts themselves."},
     {"An element is none of these: ALL, LOCAL, KNOWN, UNKNOWN, PARANOID, a name, .domain, an IPv4 address, the first fields of one with a "
-     "dot behind each (10.20.), net/mask with four fields each, [IPv6] or [IPv6]/length; or one of them behind user@ (of a client) or "
+     "dot behind each (10.20.), net/mask with four fields each, net/length with a length of 0 to 32, [IPv6] or [IPv6]/length; or one of them behind user@ (of a client) or "
      "daemon@ (of a daemon). A daemon alone is ALL or a name.",
-     "hosts.allow", "sshd: 10.20.30.400", "Write it as one of these. 10.20.0.0/16 is written 10.20.0.0/255.255.0.0."},
+     "hosts.allow", "sshd: 10.20.30.400", "Write it as one of these."},
     {"In a command, % is last or stands before a byte that it does not take.", "hosts.allow", "sshd: ALL: /usr/bin/logger 100%",
      "Write one of a A n N h H u c d s p behind it, or %% for a percent sign."},
     {"An entry of portacl is not uid:NUMBER:tcp:PORT (or gid, or udp), in lower case and fewest digits, with nothing but a comma to the next. "

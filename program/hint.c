@@ -34,27 +34,9 @@ static const char *byte_hint(const uint8_t *bytes, size_t len) {
     return text;
 }
 
-/* A net and a length in digits: the same with its mask. */
-static const char *mask_hint(const uint8_t *bytes, size_t len) {
-    static char text[96];
-    const char *slash = memchr(bytes, '/', len);
-    size_t net = slash ? (size_t)(slash - (const char *)bytes) : len;
-    struct gate_host host;
-    uint32_t bits;
-    if (!slash || gate_host_read(&host, (const char *)bytes, net) != GATE_ANSWERED || !read_decimal(slash + 1, len - net - 1, 32, &bits))
-        return NULL;
-    uint32_t mask = bits ? UINT32_MAX << (32 - bits) : 0;
-    snprintf(text, sizeof text, "a length is not read here; write the mask: %.*s/%u.%u.%u.%u", (int)net, (const char *)bytes, mask >> 24,
-             mask >> 16 & 255, mask >> 8 & 255, mask & 255);
-    return text;
-}
-
 static const char *dotted_hint(const uint8_t *bytes, size_t len) {
-    const char *mask = mask_hint(bytes, len);
-    if (mask)
-        return mask;
     if (has(bytes, len, '/'))
-        return "write net and mask with four fields each, of 0 to 255 in fewest digits";
+        return "write a net of four fields, each 0 to 255 in fewest digits, and behind the slash a mask of four fields or a length of 0 to 32";
     return "write four fields of 0 to 255 in fewest digits, or one to three, each followed by a dot";
 }
 

@@ -7,6 +7,7 @@
 #include "excerpt.h"
 #include "fault.h"
 #include "message.h"
+#include "reading.h"
 #include "warning.h"
 
 /* A rule that is looked at, and the last line before it, if any, that leaves nothing over. */
@@ -83,15 +84,30 @@ static void warn_of_colons(struct scene *s) {
              shown_bytes(s->joined.bytes + found.from, found.to - found.from));
 }
 
+/* A mask as an address or by its length. */
+static bool read_mask(const char *text, size_t len, uint32_t *mask) {
+    struct gate_host host;
+    uint32_t ones;
+    if (read_decimal(text, len, 32, &ones)) {
+        *mask = ones ? UINT32_MAX << (32 - ones) : 0;
+        return true;
+    }
+    if (gate_host_read(&host, text, len))
+        return false;
+    *mask = (uint32_t)host.low;
+    return true;
+}
+
 /* net/mask with a bit of net outside mask. */
 static void warn_of_mask(struct scene *s, struct span word) {
     const char *text = (const char *)s->joined.bytes + word.from, *at = memchr(text, '@', word.to - word.from);
     const char *host = at ? at + 1 : text, *end = (const char *)s->joined.bytes + word.to, *slash = memchr(host, '/', (size_t)(end - host));
-    struct gate_host net, mask;
-    if (!slash || gate_host_read(&net, host, (size_t)(slash - host)) || gate_host_read(&mask, slash + 1, (size_t)(end - slash - 1)))
+    struct gate_host net;
+    uint32_t mask;
+    if (!slash || gate_host_read(&net, host, (size_t)(slash - host)) || !read_mask(slash + 1, (size_t)(end - slash - 1), &mask))
         return;
-    if (net.low & ~mask.low) {
-        net.low &= mask.low;
+    if (net.low & ~(uint64_t)mask) {
+        net.low &= mask;
         uint8_t written[GATE_ADDRESS_ROOM];
         struct gate_written len = gate_host_write(written, sizeof written, &net);
         warn(s, word, "matches no address: the net has bits outside its mask; the net of this mask is %s",

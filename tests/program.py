@@ -184,10 +184,10 @@ def test_answers(folder):
 
 MARKED = b"""\
 hosts.allow:1: no element kind fits [10]
-    1 | sshd: 10.20.30.400, ok, 10.20.0.0/16
+    1 | sshd: 10.20.30.400, ok, 10.20.0.0/33
       |       ^~~~~~~~~~~~      ^~~~~~~~~~~~
       = write four fields of 0 to 255 in fewest digits, or one to three, each followed by a dot
-      = a length is not read here; write the mask: 10.20.0.0/255.255.0.0
+      = write a net of four fields, each 0 to 255 in fewest digits, and behind the slash a mask of four fields or a length of 0 to 32
 hosts.allow:2: EXCEPT not between two elements [8]
     3 |   EXCEPT b
       |   ^~~~~~
@@ -221,7 +221,7 @@ portacl:1: entry 3: not a portacl entry [12]
       |              ^~~~~~~~~~~
       = the list has no newline, not at its end either (truncate -s -1 takes the last byte away)
 """
-MARKED_ALLOW = b"sshd: 10.20.30.400, ok, 10.20.0.0/16\nALL: \\\n  EXCEPT b\n# x\nsshd: ::1\nALL: ALL: %% %z %\nsshd: ALL\r\nx"
+MARKED_ALLOW = b"sshd: 10.20.30.400, ok, 10.20.0.0/33\nALL: \\\n  EXCEPT b\n# x\nsshd: ::1\nALL: ALL: %% %z %\nsshd: ALL\r\nx"
 
 # A line of hosts.allow, and the marks under it
 MARKS = [

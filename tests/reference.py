@@ -217,7 +217,9 @@ def pattern(e):
             test = lambda a: a == n
         elif b"/" in e:
             left, right = e.split(b"/", 1)
-            net, mask = read4(left), read4(right)
+            net, mask, ones = read4(left), read4(right), decimal(right, 32)
+            if mask is None and ones is not None:  # document 02, request 2
+                mask = int("1" * ones + "0" * (32 - ones), 2)
             if net is not None and mask is not None:
                 test = lambda a: a & mask == net
         elif e.endswith(b"."):

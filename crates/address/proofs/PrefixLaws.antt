@@ -47,6 +47,10 @@ module _ (w n m : ℕ) (h : n ≤ w) (is-m : m ≡ 2 ^ (w - n) - 1) where
       ap₂ eqb (and-leading a k) (and-leading b l)
       ∙ eqb-iff (a / p * p) (b / p * p) (a / p) (b / p) (shl-inj (w - n) (a / p) (b / p)) (ap (λ (x : ℕ). x * p))
 
+  -- the mask of a length: its leading ones
+  pub leading-ones : (2 ^ w - 1) - m ≡ 2 ^ w - 2 ^ (w - n)
+  leading-ones = omega (arith, is-m, pow-pos (w - n))
+
   pub clear-mask : (a : ℕ) → eqb (bitAnd a m) 0 ≡ eqb (a % 2 ^ (w - n)) 0
   clear-mask a = ap (λ (x : ℕ). eqb x 0) (ap (bitAnd a) is-m ∙ and-mask a (w - n))
 

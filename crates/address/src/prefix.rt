@@ -61,6 +61,14 @@ fn mask_beyond_v4(n: u32) -> u32
     4294967295 >> n
 }
 
+// The word of 32 bits whose first n bits are ones: the mask of that length.
+pub fn leading_ones_v4(n: u32) -> u32
+    requires { ⌜ n ≤ 32 ⌝ }
+    ensures { λ r. ⌜ r ≡ 2 ^ 32 - 2 ^ (32 - n) ⌝ }
+{
+    !mask_beyond_v4(n)
+}
+
 // Whether two IPv4 addresses agree in their first n bits.
 pub fn same_prefix_v4(a: u32, b: u32, n: u32) -> bool
     requires { ⌜ n ≤ 32 ⌝ }

@@ -1,7 +1,7 @@
 -- All claims hold.
 -- Assumes nothing.
 use Rattle.claims.specs.Claims.{Claims}
-use Rattle.claims.proofs.ExampleClaims.{examples}
+use Rattle.claims.proofs.ExampleClaims.{examples, mask-lengths}
 use Rattle.claims.proofs.AnswerLaws.{refusal-writes-nothing, every-decision, every-number}
 use Rattle.claims.proofs.SheetClaims.{cut-short, longest, unpack-pack, pack-unpack, sheet-as-texts}
 use Rattle.claims.proofs.AddressClaims.{read-written, bit-by-bit}
@@ -11,6 +11,7 @@ use Rattle.claims.proofs.UserClaims.{ask-only-unfetched, name-cannot-ma
 pub claims : Claims
 claims = record {
   examples = examples;
+  mask-lengths = mask-lengths;
   cut-short = cut-short;
   longest = longest;
   refusal-writes-nothing = refusal-writes-nothing;

@@ -23,6 +23,7 @@ use Rattle.byuid.specs.Byuid as Byuid
 use Rattle.portacl.specs.Portacl as Portacl
 use Rattle.sheet.specs.Sheet as Sheet
 use Rattle.claims.specs.Examples.{Examples}
+use Rattle.claims.specs.MaskExamples.{MaskExamples}
 
 pub examples : Examples
 unfolding
@@ -36,7 +37,7 @@ unfolding
     Rule.splitSeparator Rule.nonEmpty Rule.elements Rule.parseRule
     Command.skipBlanks Command.trimmed Command.pieces Command.hasBadPercent
     Request.wellFormed
-    Pattern.wildcard Pattern.isNameByte Pattern.domainPattern Pattern.bracketPattern Pattern.leadingFields Pattern.netMask Pattern.dottedPattern
+    Pattern.wildcard Pattern.isNameByte Pattern.domainPattern Pattern.bracketPattern Pattern.leadingFields Pattern.readMask Pattern.netMask Pattern.dottedPattern
     Pattern.namePattern Pattern.hostPattern
     Element.halves Element.reservedStart Element.isPlainName Element.daemonName Element.userHalf Element.daemonParts Element.clientParts
     Element.daemonElement Element.clientElement
@@ -66,4 +67,40 @@ examples = record {
   p11-accepted = refl;
   p11-short = refl;
   p11-long = refl;
+}
+
+-- Document 02, request 2
+pub mask-lengths : MaskExamples
+unfolding
+    Basics.any Basics.all Basics.first Basics.each
+    Text.equal Text.splitOnce Text.split Text.intercalate Text.lower Text.equalFold
+    Number.fromDigits Number.toDigits Number.numeral Number.readDecimal
+    Refusal.lowest
+    Address.samePrefix Address.readV4 Address.readGroup Address.readLastGroup Address.readGroups Address.readCompressed Address.readV6
+    Address.compress Address.addrText Address.readAddress Address.writeAddress
+    Line.join Line.logicalLines Line.lines Line.hasBadByte
+    Rule.splitSeparator Rule.nonEmpty Rule.elements Rule.parseRule
+    Command.skipBlanks Command.trimmed Command.pieces Command.hasBadPercent
+    Request.wellFormed
+    Pattern.wildcard Pattern.isNameByte Pattern.domainPattern Pattern.bracketPattern Pattern.leadingFields Pattern.readMask Pattern.netMask Pattern.dottedPattern
+    Pattern.namePattern Pattern.hostPattern
+    Element.halves Element.reservedStart Element.isPlainName Element.daemonName Element.userHalf Element.daemonParts Element.clientParts
+    Element.daemonElement Element.clientElement
+    ListCheck.withoutExcept ListCheck.exceptMisplaced ListCheck.ruleFault Walk.included Walk.excluded Walk.ruleFound
+    Check.lineFault Check.hostsFault Search.lineAnswer Search.search Search.decide
+    Expand.inserted Expand.safeByte Expand.pieceText Expand.expansion Expand.expand
+    Byuid.readRange Byuid.readNet Byuid.readCommaForm Byuid.readColonForm Byuid.lineGrants Byuid.byuidDecision Byuid.decideByuid
+    Portacl.readEntry Portacl.entries Portacl.entryFault Portacl.portaclFault Portacl.portaclDecision Portacl.decidePortacl
+    Sheet.textsFault Sheet.sectionAt Sheet.frame Sheet.unpack
+    flatMap
+mask-lengths = record {
+  inside = refl;
+  outside = refl;
+  no-ones = refl;
+  all-ones = refl;
+  net-bits = refl;
+  net-bits-of-none = refl;
+  over = refl;
+  more-digits = refl;
+  fewer-fields = refl;
 }

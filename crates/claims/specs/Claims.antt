@@ -28,6 +28,7 @@ use Rattle.gate.specs.Calls.{gateVerdict, gateSheetVerdict, gateByuid, gateShee
 use Rattle.gate.specs.Calls.{gateCheck, gateUnpack, gateReadAddress, Wrote, gatePack, gateExpand, gateWriteAddress}
 use Rattle.gate.specs.Calls.{WroteCommand, gateCommand, gateSheetCommand}
 use Rattle.claims.specs.Examples.{Examples}
+use Rattle.claims.specs.MaskExamples.{MaskExamples}
 
 -- numbers that fit a byte
 abbrev pub AreBytes : List ℕ → Type 0
@@ -219,6 +220,7 @@ BitByBit = (w m a b : ℕ) → m ≤ w → a < 2 ^ w → b < 2 ^ w → samePrefi
 
 pub record Claims : Type 0 where
   pub examples : Examples
+  pub mask-lengths : MaskExamples
   pub cut-short : CutShort
   pub longest : Longest
   pub refusal-writes-nothing : RefusalWritesNothing

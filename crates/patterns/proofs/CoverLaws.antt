@@ -24,7 +24,7 @@ use Rattle.address.specs.declared.Addr.the-variants as A
 use Rattle.address.proofs.PrefixLaws.{eqb-iff, and-leading}
 use Rattle.address.proofs.ReadLaws.{readDecimal-le}
 use Rattle.patterns.specs.Host.{Endpoint}
-use Rattle.patterns.specs.Pattern.{Pattern, bracketPattern, leadingFields, netMask, dottedPattern}
+use Rattle.patterns.specs.Pattern.{Pattern, bracketPattern, leadingFields, readMask, netMask, dottedPattern}
 use Rattle.patterns.specs.Code.{asNet, leadingNet, dottedFields, fieldsNet, maskNet, dottedNet, matchesPattern, netCovers, dottedTest, dottedCovers}
 use Rattle.patterns.specs.Code.{asPrefix, bracketPrefix, prefixLength, prefixCovers, bracketCovers}
 use Rattle.patterns.specs.declared.net.NetRead.{NetRead}
@@ -149,10 +149,10 @@ module _ (p : (ℕ → Bool) → Bool) (q : ℕ × ℕ → Bool) (like : Alike p
         both (some n) none = (refl, refl)
         both (some n) (some m) = (refl, like .masked n m)
 
-        by : (o : Option (List ℕ × List ℕ)) → Same (o >>= λ t. readV4 (t .0) >>= λ n. readV4 (t .1) >>= λ m. some (λ a. eqb n (bitAnd a m)))
-            (o >>= λ t. readV4 (t .0) >>= λ n. readV4 (t .1) >>= λ m. some (n, m))
+        by : (o : Option (List ℕ × List ℕ)) → Same (o >>= λ t. readV4 (t .0) >>= λ n. readMask (t .1) >>= λ m. some (λ a. eqb n (bitAnd a m)))
+            (o >>= λ t. readV4 (t .0) >>= λ n. readMask (t .1) >>= λ m. some (n, m))
         by none = (refl, refl)
-        by (some t) = both (readV4 (t .0)) (readV4 (t .1))
+        by (some t) = both (readV4 (t .0)) (readMask (t .1))
 
     dottedNet-alike : holds p (dottedTest e) ≡ holds q (dottedNet e)
     unfolding dottedTest dottedNet

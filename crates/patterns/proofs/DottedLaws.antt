@@ -27,6 +27,7 @@ use Rattle.address.specs.declared.fields.Step.{Step}
 use Rattle.address.specs.declared.fields.Step.the-variants as S
 use Rattle.address.proofs.FieldLaws.{eachFrom, split-cons, each-split, each-pos, dot-after, digit-after}
 use Rattle.address.proofs.FieldLaws.{Follows, Landed, run-failed, run-at, follows-address, address-start, address-end, address-stops}
+use Rattle.patterns.specs.Pattern.{readMask}
 use Rattle.patterns.specs.Code.{asNet, leadingNet, dottedFields, fieldsNet, pairNet, maskNet, dottedNet}
 use Rattle.patterns.specs.Dotted.{runDotted, leadingFrom, maskAfter, maskFrom, endedNet}
 use Rattle.patterns.specs.declared.net.NetRead.{NetRead}
@@ -240,7 +241,7 @@ dotted-start : (e : List ℕ) → dottedNet e ≡ netOf (addressFrom 0 0 0 false
 unfolding dottedNet maskNet maskFrom
 dotted-start e = rw (address-start e, leading-start e) (ap (netOf (addressFrom 0 0 0 false e) (leadingFrom 0 0 0 false e)) (by (splitOnce (bytes "/") e)))
   where
-    by : (o : Option (List ℕ × List ℕ)) → (o >>= λ p. readV4 (p .0) >>= λ n. readV4 (p .1) >>= λ m. some (n, m))
+    by : (o : Option (List ℕ × List ℕ)) → (o >>= λ p. readV4 (p .0) >>= λ n. readMask (p .1) >>= λ m. some (n, m))
         ≡ (o >>= λ p. maskAfter (addressFrom 0 0 0 false (p .0)) (p .1))
     by none = refl
     by (some p) = ap (λ (a : Option ℕ). maskAfter a (p .1)) (address-start (p .0))
@@ -307,12 +308,12 @@ module _ (e : List ℕ) (r : Run) (is-r : r ≡ runFrom 0 0 0 0 false e) where
       dotted-stopped z = sym (ap asNet (dotted-stop ∙ mask-stops n k v d (getD e i 0) (drop (suc i) e) z (state .stops h)))
 
       pub dotted-slash : getD e i 0 ≡ 47 → (x y : NumberRead) → x ≡ asNumber (endedAddress n k v d)
-          → y ≡ asNumber (readV4 (take (length e - (i + 1)) (drop (i + 1) e))) → (p : NetRead) → p ≡ pairNet x y → p ≡ asNet (dottedNet e)
+          → y ≡ asNumber (readMask (take (length e - (i + 1)) (drop (i + 1) e))) → (p : NetRead) → p ≡ pairNet x y → p ≡ asNet (dottedNet e)
       dotted-slash z x y is-x is-y p is-p =
           let m : dottedNet e ≡ maskAfter (endedAddress n k v d) (drop (suc i) e) =
           dotted-stop ∙ ap (λ (b : ℕ). maskFrom n k v d (b ∷ drop (suc i) e)) z ∙ mask-slash n k v d (drop (suc i) e) in
-          is-p ∙ ap₂ pairNet is-x (is-y ∙ ap (λ (t : List ℕ). asNumber (readV4 t)) (take-rest e (i + 1)))
-          ∙ pairNet-read (endedAddress n k v d) (readV4 (drop (i + 1) e))
+          is-p ∙ ap₂ pairNet is-x (is-y ∙ ap (λ (t : List ℕ). asNumber (readMask t)) (take-rest e (i + 1)))
+          ∙ pairNet-read (endedAddress n k v d) (readMask (drop (i + 1) e))
           ∙ ap (λ (t : List ℕ). asNet (maskAfter (endedAddress n k v d) t)) (ap (λ (j : ℕ). drop j e) (add-one i))
           ∙ sym (ap asNet m)
 

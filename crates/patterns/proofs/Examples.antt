@@ -11,7 +11,7 @@ use Rattle.address.specs.declared.Addr.the-variants.{Unknown, V4, V6}
 use Rattle.address.specs.Address.{samePrefix, readV4, readGroup, readLastGroup, readGroups, readCompressed, readV6}
 use Rattle.patterns.specs.declared.Name.the-variants as N
 use Rattle.patterns.specs.Host.{Endpoint, endpoint}
-use Rattle.patterns.specs.Pattern.{wildcard, isNameByte, domainPattern, bracketPattern, leadingFields, netMask, dottedPattern}
+use Rattle.patterns.specs.Pattern.{wildcard, isNameByte, domainPattern, bracketPattern, leadingFields, readMask, netMask, dottedPattern}
 use Rattle.patterns.specs.Code.{matchesPattern}
 
 abbrev pub known : String → Addr → Endpoint
@@ -30,5 +30,5 @@ pub record Examples : Type 0 where
 pub examples : Examples
 unfolding any all first each equal splitOnce split lower equalFold fromDigits numeral readDecimal
     samePrefix readV4 readGroup readLastGroup readGroups readCompressed readV6
-    wildcard isNameByte domainPattern bracketPattern leadingFields netMask dottedPattern
+    wildcard isNameByte domainPattern bracketPattern leadingFields readMask netMask dottedPattern
 examples = record { unknown-local = refl; domain-itself = refl; bit-beyond = refl; net-with-a-bit = refl }

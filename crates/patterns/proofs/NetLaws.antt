@@ -9,14 +9,16 @@ use native.Mathlib.Nat.{mod-eq-of-lt}
 use native.Mathlib.Omega.{arith}
 use borrow.Author.Tests.{eq-eqb, ne-eqb}
 use lib.ListN.{length, take, drop, getD}
-use Rattle.text.specs.Basics.{_>>=_, any}
+use Rattle.text.specs.Basics.{_>>=_, _orElse_, any}
 use Rattle.text.specs.Text.{splitOnce}
 use Rattle.text.specs.Number.{readDecimal}
 use Rattle.text.specs.Scan.{indexOf, asNumber}
 use Rattle.text.specs.declared.NumberRead.{NumberRead}
 use Rattle.text.specs.declared.NumberRead.the-variants as T
 use Rattle.text.proofs.ScanLaws.{take-rest, splitOnce-mark, splitOnce-no-mark}
-use Rattle.address.specs.Address.{readV6}
+use Rattle.address.specs.Address.{readV4, readV6}
+use Rattle.address.proofs.ReadLaws.{readDecimal-le}
+use Rattle.patterns.specs.Pattern.{lengthMask, readMask}
 use Rattle.patterns.specs.declared.net.NetRead.the-variants as R
 use Rattle.patterns.specs.Code.{asNet, leadingNet, pairNet}
 use Rattle.patterns.specs.Code.{asPrefix, prefixWith, prefixLength, bracketPrefix}
@@ -44,6 +46,48 @@ pub pairNet-read : (o p : Option ℕ) → pairNet (asNumber o) (asNumber p) ≡ 
 pairNet-read none p = refl
 pairNet-read (some n) none = refl
 pairNet-read (some n) (some m) = refl
+
+-- ## A mask, as an address or by its length
+
+module _ (s : List ℕ) (x : NumberRead) (is-x : x ≡ asNumber (readV4 s)) where
+  pub mask-written : (m : ℕ) → x ≡ T.Value m → T.Value m ≡ asNumber (readMask s)
+  unfolding readMask
+  mask-written m e = by (readV4 s) (sym is-x ∙ e)
+    where
+      by : (o : Option ℕ) → asNumber o ≡ T.Value m → T.Value m ≡ asNumber (o orElse (readDecimal 32 s >>= λ k. some (lengthMask k)))
+      by none k = let z : _≡_ {A = ℕ} 0 1 = cc in absurd (omega arith)
+      by (some n) k = sym k
+
+  module _ (e : x ≡ T.Nothing) (y : NumberRead) (is-y : y ≡ asNumber (readDecimal 32 s)) where
+    by-length : asNumber (readDecimal 32 s >>= λ k. some (lengthMask k)) ≡ asNumber (readMask s)
+    unfolding readMask
+    by-length = by (readV4 s) (sym is-x ∙ e)
+      where
+        by : (o : Option ℕ) → asNumber o ≡ T.Nothing
+            → asNumber (readDecimal 32 s >>= λ k. some (lengthMask k)) ≡ asNumber (o orElse (readDecimal 32 s >>= λ k. some (lengthMask k)))
+        by none k = refl
+        by (some n) k = let z : _≡_ {A = ℕ} 0 1 = cc in absurd (omega arith)
+
+    pub mask-none : y ≡ T.Nothing → T.Nothing ≡ asNumber (readMask s)
+    mask-none f = by (readDecimal 32 s) (sym is-y ∙ f) ∙ by-length
+      where
+        by : (o : Option ℕ) → asNumber o ≡ T.Nothing → T.Nothing ≡ asNumber (o >>= λ k. some (lengthMask k))
+        by none k = refl
+        by (some n) k = let z : _≡_ {A = ℕ} 0 1 = cc in absurd (omega arith)
+
+    module _ (m : ℕ) (f : y ≡ T.Value m) where
+      is-length : readDecimal 32 s ≡ some m
+      is-length = by (readDecimal 32 s) (sym is-y ∙ f)
+        where
+          by : (o : Option ℕ) → asNumber o ≡ T.Value m → o ≡ some m
+          by none k = let z : _≡_ {A = ℕ} 0 1 = cc in absurd (omega arith)
+          by (some n) k = cc
+
+      pub mask-length : m ≤ 32
+      mask-length = readDecimal-le 32 m s is-length
+
+      pub mask-ones : (r : ℕ) → r ≡ lengthMask m → T.Value r ≡ asNumber (readMask s)
+      mask-ones r is-r = ap T.Value is-r ∙ ap (λ (o : Option ℕ). asNumber (o >>= λ k. some (lengthMask k))) (sym is-length) ∙ by-length
 
 -- ## A bracketed pattern
 

@@ -32,7 +32,7 @@ use Rattle.patterns.specs.declared.net.NetRead.the-variants as R
 use Rattle.patterns.specs.declared.net.PrefixRead.{PrefixRead}
 use Rattle.patterns.specs.declared.net.PrefixRead.the-variants as P
 use Rattle.patterns.specs.Host.{Endpoint, nameCase, nameKnown, addrKnown}
-use Rattle.patterns.specs.Pattern.{Pattern, isNameByte, domainPattern, leadingFields, netMask, bracketPattern, dottedPattern, namePattern, hostPattern}
+use Rattle.patterns.specs.Pattern.{Pattern, isNameByte, domainPattern, leadingFields, readMask, netMask, bracketPattern, dottedPattern, namePattern, hostPattern}
 
 -- ## Wildcards and forms
 
@@ -132,7 +132,7 @@ unfoldable pub maskNet : List ℕ → Option (ℕ × ℕ)
 maskNet e = do
   p ← splitOnce (bytes "/") e
   net ← readV4 (p .0)
-  mask ← readV4 (p .1)
+  mask ← readMask (p .1)
   some (net, mask)
 
 unfoldable pub dottedNet : List ℕ → Option (ℕ × ℕ)

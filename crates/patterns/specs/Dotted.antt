@@ -14,8 +14,8 @@ use lib.ListN.{length}
 use Rattle.text.specs.Basics.{if_then_else_, _>>=_, given}
 use Rattle.text.specs.Text.{bytes, splitOnce}
 use Rattle.text.specs.Number.{fromDigits}
-use Rattle.address.specs.Address.{readV4}
 use Rattle.address.specs.Fields.{fieldMore, fieldFits, addressFrom, endedAddress}
+use Rattle.patterns.specs.Pattern.{readMask}
 use Rattle.patterns.specs.Code.{leadingNet}
 
 unfoldable pub runDotted : ℕ → Bool → List ℕ → Option (List ℕ)
@@ -28,9 +28,9 @@ runDotted v d (b ∷ t) =
 abbrev pub leadingFrom : ℕ → ℕ → ℕ → Bool → List ℕ → Option (ℕ × ℕ)
 leadingFrom n k v d t = runDotted v d t >>= λ fs. given (leb (k + length fs) 3 && leb 1 (k + length fs)) (leadingNet (k + length fs) (fromDigits 256 n fs))
 
--- what stands before a slash is an address, and so is what follows it
+-- what stands before a slash is an address, and what follows it a mask
 abbrev pub maskAfter : Option ℕ → List ℕ → Option (ℕ × ℕ)
-maskAfter net t = net >>= λ n. readV4 t >>= λ m. some (n, m)
+maskAfter net t = net >>= λ n. readMask t >>= λ m. some (n, m)
 
 unfoldable pub maskFrom : ℕ → ℕ → ℕ → Bool → List ℕ → Option (ℕ × ℕ)
 maskFrom n k v d t = splitOnce (bytes "/") t >>= λ p. maskAfter (addressFrom n k v d (p .0)) (p .1)

@@ -1,7 +1,7 @@
 -- Document 01, "Elements": host patterns. A pattern is what it matches, none where it is of no kind.
 --   hostPattern e == the pattern that e writes
 -- Assumes nothing: these are definitions.
-use Prim.Native.Nat.{ℕ, _-_}
+use Prim.Native.Nat.{ℕ, _-_, _^_}
 use Prim.Native.String.{String}
 use mathlib.Core.Bool.{Bool, true, false, not, _&&_, _||_}
 use mathlib.Core.List.{List, [], _∷_}
@@ -59,12 +59,20 @@ leadingFields e = do
   fs ← each (readDecimal 255) (split "." (take (length e - 1) e))
   given (lastAmong "." e && leb (length fs) 3) λ a. startsWith fs (toDigits 256 4 a)
 
--- "net/mask, matched when `net` equals the bitwise AND of the address and the mask"
+-- Document 02, request 2: "a length of 0 to 32, in fewest digits, .. meaning the mask with that many leading ones"
+abbrev pub lengthMask : ℕ → ℕ
+lengthMask m = 2 ^ 32 - 2 ^ (32 - m)
+
+unfoldable pub readMask : List ℕ → Option ℕ
+readMask t = readV4 t orElse (readDecimal 32 t >>= λ m. some (lengthMask m))
+
+-- "net/mask, matched when `net` equals the bitwise AND of the address and the mask"; request 2: "after a four-field net", "Net bits
+-- outside the mask still match nothing."
 unfoldable pub netMask : List ℕ → Option (ℕ → Bool)
 netMask e = do
   p ← splitOnce (bytes "/") e
   net ← readV4 (p .0)
-  mask ← readV4 (p .1)
+  mask ← readMask (p .1)
   some λ a. eqb net (bitAnd a mask)
 
 -- "Only digits, dots, slashes: `n.n.n.n`; one to three fields ..; or net/mask .. These match IPv4 addresses only, never a name."

@@ -7,6 +7,7 @@ use address::fields::Run;
 use address::fields::ended_address;
 use address::fields::run_over;
 use address::prefix::in_net;
+use address::prefix::leading_ones_v4;
 use address::prefix::same_prefix_v6;
 use address::read::V6Read;
 use address::read::read_v4;
@@ -18,7 +19,7 @@ ghost use mathlib.Core.Option.{some};
 ghost use Prim.Native.Nat.{_+_, _*_, _^_, _<_, _≤_};
 ghost use Rattle.text.specs.Basics.{isSome};
 ghost use Rattle.text.specs.Scan.{asNumber};
-ghost use Rattle.patterns.specs.Pattern.{bracketPattern, dottedPattern};
+ghost use Rattle.patterns.specs.Pattern.{bracketPattern, readMask, dottedPattern};
 ghost use Rattle.patterns.specs.Code.{hostSeen, asNet, leadingNet, pairNet, dottedNet, netSound, netCovers, dottedCovers};
 ghost use Rattle.patterns.specs.Dotted.{endedNet};
 ghost use Rattle.patterns.specs.Code.{prefixLength, asPrefix, prefixWith, bracketPrefix, prefixHolds, prefixCovers, bracketCovers};
@@ -33,6 +34,19 @@ enum NetRead {
 enum PrefixRead {
     Nothing,
     Prefix(u64, u64, u32),
+}
+
+// A mask: as an address, or as the number of its leading ones.
+fn read_mask(s: &[u8]) -> NumberRead
+    ensures { λ r. ⌜ r ≡ asNumber (readMask (now (s .entry))) ⌝ }
+{
+    match read_v4(s) {
+        NumberRead::Value(mask) => NumberRead::Value(mask),
+        NumberRead::Nothing => match text::read_decimal(s, 32) {
+            NumberRead::Nothing => NumberRead::Nothing,
+            NumberRead::Value(m) => NumberRead::Value(leading_ones_v4(m)),
+        },
+    }
 }
 
 // The net of count leading fields, which write n.
@@ -89,7 +103,7 @@ fn read_dotted(e: &[u8]) -> NetRead
                 return NetRead::Nothing;
             }
             let after = j + 1;
-            pair_net(ended_address(n, k, v, begun), read_v4(&e[after..]))
+            pair_net(ended_address(n, k, v, begun), read_mask(&e[after..]))
         }
     }
 }
