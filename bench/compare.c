@@ -155,7 +155,7 @@ static struct outcome by_gate(const struct library *g) {
     case SHEET_VERDICT:
         return outcome_of(g->sheet_verdict(TEXT(sheet), FROM(CLIENT_V4)));
     case BYUID:
-        return outcome_of(g->byuid(TEXT(byuid), 80, CLIENT_V4, 1000));
+        return outcome_of(g->byuid(TEXT(byuid), GATE_PLAIN_FILE, 80, CLIENT_V4, 1000));
     case PORTACL:
         return outcome_of(g->portacl(TEXT(portacl), 1, 65535, 1, 1, 1000, groups, 16, GATE_TCP, 10001));
     case CHECK:

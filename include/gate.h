@@ -37,7 +37,7 @@
 extern "C" {
 #endif
 
-#define GATE_VERSION "1.1.0"
+#define GATE_VERSION "2.0.0"
 
 /* Numbers: of an answer, or of a refusal. */
 enum gate_number {
@@ -128,6 +128,12 @@ enum gate_kind {
     GATE_IPV4 = 4,            /* the 32 bits in low; high is not looked at */
     GATE_IPV6 = 6,            /* the first 64 bits in high, the last 64 in low */
     GATE_NO_ADDRESS = 255     /* what a text that is no address is read as; every call that takes an address refuses it by 13 */
+};
+
+/* The byuid file that a text comes from: authbind has two for an account, byuid/432 and byuid/!432. */
+enum gate_mark {
+    GATE_PLAIN_FILE = 0, /* grants ports 1 to 511 only; the byuid section of a sheet is this one */
+    GATE_MARKED_FILE = 1 /* with a ! before its leaf name: grants ports 512 to 1023 only */
 };
 
 /* Protocols of a bind, as IP numbers them. */
@@ -225,11 +231,13 @@ struct gate_command_answer gate_sheet_command(uint8_t *out, size_t out_len, cons
                                               const uint8_t *server_name, size_t server_name_len,
                                               uint32_t user, const uint8_t *user_name, size_t user_name_len, uint32_t process);
 
-/* May uid bind this port (0 to 65535) at this address, by authbind(1)'s byuid file: GATE_GRANTED, GATE_NO_LINE, or GATE_NOT_RULED.
- * An unknown address is refused by 13. */
-struct gate_answer gate_byuid(const uint8_t *text, size_t text_len, uint32_t port, uint32_t kind, uint64_t high, uint64_t low,
-                              uint32_t uid);
+/* May uid bind this port (0 to 65535) at this address, by authbind(1)'s byuid file: GATE_GRANTED, GATE_NO_LINE, or GATE_NOT_RULED,
+ * which is what root and ports outside 1 to 1023 get by either file. mark says which file the text comes from (enum gate_mark); a port of
+ * the other file's span gets GATE_NO_LINE. An unknown address is refused by 13, and so is a mark of neither kind. */
+struct gate_answer gate_byuid(const uint8_t *text, size_t text_len, uint32_t mark, uint32_t port, uint32_t kind, uint64_t high,
+                              uint64_t low, uint32_t uid);
 
+/* The same by a sheet, whose byuid section is the plain file: it grants no port over 511. */
 struct gate_answer gate_sheet_byuid(const uint8_t *sheet, size_t sheet_len, uint32_t port, uint32_t kind, uint64_t high,
                                     uint64_t low, uint32_t uid);
 
@@ -455,9 +463,9 @@ static inline struct gate_written gate_expand_for(void *out, size_t out_len, con
 }
 
 /* gate_byuid and gate_sheet_byuid at a host's address; its name is not looked at. */
-static inline struct gate_answer gate_byuid_for(const void *text, size_t text_len, const struct gate_host *at, uint32_t port,
-                                                uint32_t uid) {
-    return gate_byuid(gate_bytes(text, text_len), text_len, port, at->kind, at->high, at->low, uid);
+static inline struct gate_answer gate_byuid_for(const void *text, size_t text_len, uint32_t mark, const struct gate_host *at,
+                                                uint32_t port, uint32_t uid) {
+    return gate_byuid(gate_bytes(text, text_len), text_len, mark, port, at->kind, at->high, at->low, uid);
 }
 static inline struct gate_answer gate_sheet_byuid_for(const void *sheet, size_t sheet_len, const struct gate_host *at, uint32_t port,
                                                       uint32_t uid) {

@@ -31,7 +31,7 @@ void write_source(char *text, size_t room, const struct reply *reply) {
     if (reply->section == GATE_PORTACL)
         snprintf(text, room, "portacl entry %llu", line);
     else if (reply->section)
-        snprintf(text, room, "%s:%llu", section_file(reply->section), line);
+        snprintf(text, room, "%s:%llu", reply->marked_path ? "marked" : section_file(reply->section), line);
     else
         snprintf(text, room, "%s", "");
 }
@@ -48,11 +48,13 @@ static void show_text(const uint8_t *bytes, size_t len) {
 }
 
 static void show_rule(const struct station *station, const struct reply *reply) {
+    const char *path = reply->marked_path ? reply->marked_path : section_path(station, reply->section);
+    const struct text *text = reply->marked_path ? &reply->marked : section_text(station, reply->section);
     if (reply->section == GATE_PORTACL)
-        printf("rule      %s entry %llu\n", section_path(station, reply->section), (unsigned long long)reply->line);
+        printf("rule      %s entry %llu\n", path, (unsigned long long)reply->line);
     else
-        printf("rule      %s:%llu\n", section_path(station, reply->section), (unsigned long long)reply->line);
-    show_text(section_text(station, reply->section)->bytes + reply->place, reply->len);
+        printf("rule      %s:%llu\n", path, (unsigned long long)reply->line);
+    show_text(text->bytes + reply->place, reply->len);
 }
 
 static void show_command(const struct station *station, const struct reply *reply) {

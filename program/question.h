@@ -13,6 +13,8 @@ struct question {
     struct gate_settings settings;
     uint32_t groups[GATE_GROUPS_LIMIT];
     struct gate_bind bind;
+    const char *marked_path;     /* of byuid: the marked file, or NULL where none is given */
+    struct text marked;
 };
 
 /* The rule, line or entry that decided: section 0 where there is none. */
@@ -21,6 +23,9 @@ struct reply {
     uint32_t section;
     uint64_t line;         /* of the rule, or of byuid; the entry of portacl */
     size_t place, len;     /* in the section's text: the line without its newline, or the entry */
+    const char *marked_path; /* of byuid: the marked file where its text is the one that granted, else NULL */
+    struct text marked;
+    bool wants_marked;     /* of byuid: no file for this port was given */
     size_t command_place, command_len; /* in the sheet, raw */
     uint8_t expanded[GATE_EXPANSION_ROOM];
     size_t expanded_len;
@@ -46,7 +51,7 @@ enum status run_query(const struct query *query, const struct arguments *argumen
 /* The exit status of an answer. */
 enum status reply_status(const struct reply *reply);
 
-/* Where an answer comes from: `hosts.allow:3`, `byuid:1`, `portacl entry 2`; empty where no rule decided. */
+/* Where an answer comes from: `hosts.allow:3`, `byuid:1`, `marked:1`, `portacl entry 2`; empty where no rule decided. */
 void write_source(char *text, size_t room, const struct reply *reply);
 
 #endif

@@ -43,14 +43,14 @@ static struct piece last_port(const struct attempt *a) {
     return first.to < a->len ? (struct piece){first.to + 1, a->len} : first;
 }
 
-/* A line that grants anything grants its first address and its first port; port 0 is never ruled. */
+/* A line that grants anything grants its first address and its first port; port 0 is never ruled. A station's file is the plain one. */
 static bool grants(const struct attempt *a) {
     struct piece address = until(a, 0, "-/,"), port_text = first_port(a);
     struct gate_host host;
     uint32_t port;
     if (gate_host_read(&host, a->text, address.to) != GATE_ANSWERED || !read_piece(a, port_text, &port))
         return false;
-    return gate_byuid_for(a->text, a->len, &host, port ? port : 1, 1).word == GATE_GRANTED;
+    return gate_byuid_for(a->text, a->len, GATE_PLAIN_FILE, &host, port ? port : 1, 1).word == GATE_GRANTED;
 }
 
 /* Repairs: each changes the attempt, or leaves it as it is where it has no such fault */
@@ -159,6 +159,8 @@ static const char *plain_reason(const struct attempt *a) {
         return "ports from 1024 up are not ruled";
     if (last == 0)
         return "port 0 is not ruled";
+    if (port > 511)
+        return "ports 512 to 1023 are granted by the marked file only, and a station has the plain one";
     return "it is not of the form ADDRESS[/LENGTH],PORT[-PORT] or ADDRESS-ADDRESS,PORT[-PORT]";
 }
 

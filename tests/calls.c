@@ -157,12 +157,29 @@ static void sheet_commands(void) {
 
 static void byuid(void) {
     begin(), lend();
-    expect("byuid grants", word(gate_byuid(TEXT(byuid), 80, GATE_IPV4, 0, 0x0aff0001, 432), GATE_GRANTED));
-    expect("byuid, another port", word(gate_byuid(TEXT(byuid), 81, GATE_IPV4, 0, 0x0aff0001, 432), GATE_NO_LINE));
-    expect("byuid, port 1024", word(gate_byuid(TEXT(byuid), 1024, GATE_IPV4, 0, 0x0aff0001, 432), GATE_NOT_RULED));
-    expect("byuid, unknown address", refused(gate_byuid(TEXT(byuid), 80, GATE_ADDRESS_UNKNOWN, 0, 0, 432), GATE_BAD_REQUEST, 0, 0));
-    expect("byuid, IPv4 over 32 bits", refused(gate_byuid(TEXT(byuid), 80, GATE_IPV4, 0, 1ULL << 32, 432), GATE_BAD_REQUEST, 0, 0));
-    expect("byuid, port over 16 bits", refused(gate_byuid(TEXT(byuid), 65536, GATE_IPV4, 0, 1, 432), GATE_BAD_REQUEST, 0, 0));
+    expect("byuid grants", word(gate_byuid(TEXT(byuid), GATE_PLAIN_FILE, 80, GATE_IPV4, 0, 0x0aff0001, 432), GATE_GRANTED));
+    expect("byuid, another port", word(gate_byuid(TEXT(byuid), GATE_PLAIN_FILE, 81, GATE_IPV4, 0, 0x0aff0001, 432), GATE_NO_LINE));
+    expect("byuid, port 1024", word(gate_byuid(TEXT(byuid), GATE_PLAIN_FILE, 1024, GATE_IPV4, 0, 0x0aff0001, 432), GATE_NOT_RULED));
+    expect("byuid, unknown address", refused(gate_byuid(TEXT(byuid), GATE_PLAIN_FILE, 80, GATE_ADDRESS_UNKNOWN, 0, 0, 432), GATE_BAD_REQUEST, 0, 0));
+    expect("byuid, IPv4 over 32 bits", refused(gate_byuid(TEXT(byuid), GATE_PLAIN_FILE, 80, GATE_IPV4, 0, 1ULL << 32, 432), GATE_BAD_REQUEST, 0, 0));
+    expect("byuid, port over 16 bits", refused(gate_byuid(TEXT(byuid), GATE_PLAIN_FILE, 65536, GATE_IPV4, 0, 1, 432), GATE_BAD_REQUEST, 0, 0));
+}
+
+/* Each file grants its own span, root and other ports are not ruled, and a mark is one of two. */
+static void files(void) {
+    static const uint32_t ports[] = {0, 1, 511, 512, 1023, 1024};
+    static const uint32_t words[][2] = {{GATE_NOT_RULED, GATE_NOT_RULED}, {GATE_GRANTED, GATE_NO_LINE}, {GATE_GRANTED, GATE_NO_LINE},
+                                        {GATE_NO_LINE, GATE_GRANTED},     {GATE_NO_LINE, GATE_GRANTED}, {GATE_NOT_RULED, GATE_NOT_RULED}};
+    begin();
+    SET(byuid, "0.0.0.0/0,0-65535\n"), lend();
+    for (size_t i = 0; i < sizeof ports / sizeof *ports; i++) {
+        for (uint32_t mark = GATE_PLAIN_FILE; mark <= GATE_MARKED_FILE; mark++) {
+            expect("byuid, a file's span", word(gate_byuid(TEXT(byuid), mark, ports[i], GATE_IPV4, 0, 1, 432), words[i][mark]));
+            expect("byuid, root", word(gate_byuid(TEXT(byuid), mark, ports[i], GATE_IPV4, 0, 1, 0), GATE_NOT_RULED));
+        }
+        expect("byuid, neither file", refused(gate_byuid(TEXT(byuid), 2, ports[i], GATE_IPV4, 0, 1, 432), GATE_BAD_REQUEST, 0, 0));
+        expect("byuid, no file at all", refused(gate_byuid(TEXT(byuid), UINT32_MAX, ports[i], GATE_IPV6, 1, 1, 0), GATE_BAD_REQUEST, 0, 0));
+    }
 }
 
 static void portacl(void) {
@@ -243,7 +260,7 @@ static void addresses(void) {
 static void no_address(void) {
     begin(), lend();
     expect("no address to write", unwritten(gate_write_address(OUT(100), GATE_NO_ADDRESS, 0, 0), GATE_BAD_REQUEST, 0, 0));
-    expect("no address to bind", refused(gate_byuid(TEXT(byuid), 80, GATE_NO_ADDRESS, 0, 0, 432), GATE_BAD_REQUEST, 0, 0));
+    expect("no address to bind", refused(gate_byuid(TEXT(byuid), GATE_PLAIN_FILE, 80, GATE_NO_ADDRESS, 0, 0, 432), GATE_BAD_REQUEST, 0, 0));
     expect("the same by a sheet", refused(gate_sheet_byuid(TEXT(sheet), 80, GATE_NO_ADDRESS, 0, 0, 432), GATE_BAD_REQUEST, 0, 0));
     for (int end = 0; end < 2; end++) {
         uint32_t client = end ? GATE_IPV4 : GATE_NO_ADDRESS, server = end ? GATE_NO_ADDRESS : GATE_IPV6;
@@ -296,7 +313,7 @@ static void call_all(struct answers *a, uint32_t state) {
     a->sheet_verdict = gate_sheet_verdict(GIVEN(SHEET), GIVEN_REQUEST(state));
     a->command = gate_command(GIVEN_OUT, GIVEN(ALLOW), GIVEN(DENY), GIVEN_REQUEST(state), 7);
     a->sheet_command = gate_sheet_command(GIVEN_OUT, GIVEN(SHEET), GIVEN_REQUEST(state), 7);
-    a->byuid = gate_byuid(GIVEN(BYUID), 80, GATE_IPV4, 0, 0x0aff0001, 432);
+    a->byuid = gate_byuid(GIVEN(BYUID), GATE_PLAIN_FILE, 80, GATE_IPV4, 0, 0x0aff0001, 432);
     a->sheet_byuid = gate_sheet_byuid(GIVEN(SHEET), 80, GATE_IPV4, 0, 0x0aff0001, 432);
     a->portacl = gate_portacl(GIVEN(PORTACL), GIVEN_BIND);
     a->sheet_portacl = gate_sheet_portacl(GIVEN(SHEET), GIVEN_BIND);
@@ -420,6 +437,7 @@ int main(void) {
     commands();
     sheet_commands();
     byuid();
+    files();
     portacl();
     by_sheet();
     sheets();

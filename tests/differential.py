@@ -36,12 +36,12 @@ def load(path):
     text, out = [U8P, SIZE], [ctypes.c_void_p, SIZE]
     host = [U32, U32, U64, U64] + text
     request = text + host * 2 + [U32] + text
-    byuid = text + [U32, U32, U64, U64, U32]
+    bind = [U32, U32, U64, U64, U32]
     portacl = text + [U32] * 5 + [ctypes.POINTER(U32), SIZE] + [U32, U32]
     for name, arguments, answer in (
             ("verdict", text * 2 + request, Answer), ("sheet_verdict", text + request, Answer),
             ("command", out + text * 2 + request + [U32], Command), ("sheet_command", out + text + request + [U32], Command),
-            ("byuid", byuid, Answer), ("sheet_byuid", byuid, Answer),
+            ("byuid", text + [U32] + bind, Answer), ("sheet_byuid", text + bind, Answer),
             ("portacl", portacl, Answer), ("sheet_portacl", portacl, Answer),
             ("check", text, Check), ("unpack", text, Parts), ("pack", out + text * 4, Written),
             ("expand", out + text + request + [U32], Written),
@@ -132,8 +132,13 @@ def word(a):
     return ("more than a word", rest) if any(rest) else WORDS[a.word]
 
 
-def byuid(rng, call, text, port, address, uid):
-    return word(call(*sized(text), port_arg(rng, port), *address_args(rng, address), uid))
+def byuid(rng, call, text, mark, port, address, uid):
+    number = rng.choice([2, 3, 2 ** 31, 2 ** 32 - 1]) if mark == BAD else ["plain", "marked"].index(mark)
+    return word(call(*sized(text), number, port_arg(rng, port), *address_args(rng, address), uid))
+
+
+def sheet_byuid(rng, call, sheet, port, address, uid):
+    return word(call(*sized(sheet), port_arg(rng, port), *address_args(rng, address), uid))
 
 
 def portacl(rng, call, text, settings, uid, groups, protocol, port):
@@ -293,7 +298,7 @@ def byuid_text(rng):
                            b"010.0.0.1", b"10.0", b"::ffff:10.0.0.1", ref.address_text(("4", rng.getrandbits(32))), ref.address_text(("6", rng.getrandbits(128)))])
 
     def port():
-        return rng.choice([b"80", b"80", b"80", b"0", b"1", b"1023", b"65535", b"65536", b"080", b"", b"512", b"%d" % rng.randrange(1200)])
+        return rng.choice([b"80", b"80", b"80", b"0", b"1", b"1023", b"65535", b"65536", b"080", b"", b"511", b"512", b"1023", b"%d" % rng.randrange(1200)])
 
     def line():
         kind = rng.randrange(8)
@@ -474,12 +479,12 @@ def main():
         kind, width = rng.choice([("4", 32), ("6", 128)])
         net, address, length = near_prefix(rng, width)
         beyond = rng.choice([net % 2 ** (width - length)] * 3 + [0])
-        case = b"%s/%d,80" % (ref.address_text((kind, net - beyond)), length), 80, (kind, address), 432
+        case = b"%s/%d,80" % (ref.address_text((kind, net - beyond)), length), "plain", 80, (kind, address), 432
         compare("byuid", byuid(rng, lib.gate_byuid, *case), ref.byuid(*case), *case)
 
     def byuid_request():
         address = rng.choice([host(rng)[1], ("4", 0x0a000000 + rng.randrange(3)), ("6", rng.randrange(3))])
-        port = BAD if rng.random() < 0.02 else rng.choice([0, 1, 80, 80, 80, 80, 80, 512, 1023, 1024])
+        port = BAD if rng.random() < 0.02 else rng.choice([0, 1, 80, 80, 80, 80, 511, 512, 512, 1023, 1024])
         return port, address, rng.choice([0, 1, 432, 432, 432])
 
     def portacl_request():
@@ -490,7 +495,8 @@ def main():
         return settings, rng.choice([0, 80, 432]), groups, protocol, BAD if rng.random() < 0.02 else rng.choice([0, 80, 1023, 65535])
 
     def port_cases():
-        case = (byuid_text(rng), *byuid_request())
+        mark = BAD if rng.random() < 0.02 else rng.choice(["plain", "plain", "marked"])
+        case = (byuid_text(rng), mark, *byuid_request())
         compare("byuid", byuid(rng, lib.gate_byuid, *case), ref.byuid(*case), *case)
         case = (portacl_text(rng), *portacl_request())
         compare("portacl", portacl(rng, lib.gate_portacl, *case), ref.portacl(*case), *case)
@@ -506,7 +512,7 @@ def main():
         compare("sheet_verdict", verdict(rng, lib.gate_sheet_verdict, [sheet], [sheet] * 3, r), expected, sheet, r)
         command_case("sheet_command", lib.gate_sheet_command, [sheet], [sheet] * 3, expected, r)
         case = byuid_request()
-        compare("sheet_byuid", byuid(rng, lib.gate_sheet_byuid, sheet, *case), ref.sheet_byuid(sheet, *case), sheet, case)
+        compare("sheet_byuid", sheet_byuid(rng, lib.gate_sheet_byuid, sheet, *case), ref.sheet_byuid(sheet, *case), sheet, case)
         case = portacl_request()
         compare("sheet_portacl", portacl(rng, lib.gate_sheet_portacl, sheet, *case), ref.sheet_portacl(sheet, *case), sheet, case)
         if rng.random() < 0.01:

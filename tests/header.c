@@ -11,6 +11,7 @@
 static const char allow[] = "sshd: .vans.example: log %h\nconsole: fitter@10.0.0.1\nweb@192.0.2.1: ALL\nlock: PARANOID\n";
 static const char deny[] = "ALL: ALL\n";
 static const char byuid[] = "10.0.0.0/8,80\n";
+static const char upper[] = "10.0.0.0/8,600\n";
 static const char portacl[] = "uid:80:tcp:80,gid:20:udp:53";
 static uint8_t sheet[GATE_SHEET_LIMIT];
 static size_t sheet_len;
@@ -183,8 +184,13 @@ static void ports(void) {
     bind.uid = 80;
     bind.protocol = GATE_TCP;
     bind.port = 80;
-    expect("byuid", gate_byuid_for(byuid, sizeof byuid - 1, &at, 80, 432).word == GATE_GRANTED &&
-           gate_sheet_byuid_for(sheet, sheet_len, &at, 80, 432).word == GATE_GRANTED && gate_byuid_for(NULL, 0, &at, 80, 432).word == GATE_NO_LINE);
+    expect("byuid", gate_byuid_for(byuid, sizeof byuid - 1, GATE_PLAIN_FILE, &at, 80, 432).word == GATE_GRANTED &&
+           gate_sheet_byuid_for(sheet, sheet_len, &at, 80, 432).word == GATE_GRANTED &&
+           gate_byuid_for(NULL, 0, GATE_PLAIN_FILE, &at, 80, 432).word == GATE_NO_LINE);
+    expect("the other file", gate_byuid_for(byuid, sizeof byuid - 1, GATE_MARKED_FILE, &at, 80, 432).word == GATE_NO_LINE &&
+           gate_byuid_for(upper, sizeof upper - 1, GATE_MARKED_FILE, &at, 600, 432).word == GATE_GRANTED &&
+           gate_byuid_for(upper, sizeof upper - 1, GATE_PLAIN_FILE, &at, 600, 432).word == GATE_NO_LINE &&
+           gate_byuid_for(upper, sizeof upper - 1, 2, &at, 600, 432).number == GATE_BAD_REQUEST);
     expect("portacl", gate_portacl_for(portacl, sizeof portacl - 1, &settings, &bind).word == GATE_GRANTED &&
            gate_sheet_portacl_for(sheet, sheet_len, &settings, &bind).word == GATE_GRANTED &&
            gate_portacl_for(NULL, 0, &settings, &bind).word == GATE_DENIED);

@@ -137,6 +137,8 @@ def numbers(text):
     for function, prefix in (("nameState", "NAME_"), ("userState", "USER_"), ("protocolOf", "")):
         for case, number in kinds(text[REQUESTS], function):
             told["GATE_" + prefix + snake(case).upper()] = int(number)
+    for case, number in kinds(text[REQUESTS], "markOf"):
+        told["GATE_" + snake(case).upper() + "_FILE"] = int(number)
     for case, number in kinds(text[REQUESTS], "addressOf"):
         told["GATE_" + {"Unknown": "ADDRESS_UNKNOWN", "V4": "IPV4", "V6": "IPV6"}[case]] = int(number)
     return told
@@ -244,6 +246,8 @@ PLANTED = [
     (HEADER, "GATE_NO_ROOM = 14 ", "GATE_NO_ROOM = 14, GATE_LATER = 15 "),
     (HEADER, "GATE_ASK = 3,", "GATE_ASK = 7,"),
     (HEADER, "GATE_UDP = 17", "GATE_UDP = 16"),
+    (HEADER, "GATE_MARKED_FILE = 1", "GATE_MARKED_FILE = 2"),
+    (HEADER, "uint32_t mark, uint32_t port, uint32_t kind", "uint32_t port, uint32_t mark, uint32_t kind"),
     (HEADER, "GATE_USER_NOT_FETCHED = 0", "GATE_USER_NOT_FETCHED = 1"),
     (HEADER, "GATE_BYUID_LIMIT 8192", "GATE_BYUID_LIMIT 8193"),
     (HEADER, "GATE_NAME_LIMIT 255", "GATE_NAME_LIMIT 256"),
@@ -264,6 +268,7 @@ PLANTED = [
     (HEADER, "GATE_EXEMPT: return \"exempt\"", "GATE_EXEMPT: return \"granted\""),
     (SECTIONS, "order = 4; limit = 1024", "order = 4; limit = 4096"),
     (REQUESTS, "given (eqb n 2) U.Known", "given (eqb n 3) U.Known"),
+    (REQUESTS, "given (eqb n 1) Marked", "given (eqb n 33) Marked"),
     (LINES, "ltb 2047", "ltb 2048"),
     (GROUPS, "(length (b .groups)) 16", "(length (b .groups)) 17"),
 ]

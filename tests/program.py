@@ -91,6 +91,9 @@ MISREAD = {
         *(["432", what] for what in ("10.20.1.2,80x", "10.20.1.2,65536", "10.20.1.2,http", "10.20.1.2:80", "unknown,80", ",80", "10.20.1.2,",
                                      "10.20.1.2,080", "10.20.1.400,80", "10.20.1.2", "10.20.1.2,80,81", "10.20.1.2,-1", "[::1],80", "10.20.0.0/16,80")),
         ["432"], ["432", "10.20.1.2,80", "x"], ["432", "10.20.1.2,80", "--groups", "1"],
+        *(["432", "10.20.1.2,600", *options] for options in (
+            ["--marked"], ["--marked", ""], ["--marked", "-"], ["--marked", SAMPLE], ["--marked", SAMPLE + "/none"],
+            ["--marked", SAMPLE + "/byuid", "--marked", SAMPLE + "/byuid"], ["--marked=" + SAMPLE + "/none"], ["--mark", SAMPLE + "/byuid"])),
     ],
     "portacl": [
         *([uid, "tcp:80"] for uid in ("www-data", "-1", "4294967296", "00", "")),
@@ -124,6 +127,8 @@ def test_read():
             ("an unknown address", ["match", SAMPLE, "sshd@unknown", "unknown"], 1),
             ("the largest uid", ["byuid", SAMPLE, "4294967295", "::1,123"], 0),
             ("port 65535", ["byuid", SAMPLE, "1", "::1,65535"], 4),
+            ("the plain file for a marked one, port 123", ["byuid", SAMPLE, "1", "::1,123", "--marked", SAMPLE + "/byuid"], 0),
+            ("the plain file for a marked one, port 600", ["byuid", SAMPLE, "1", "::1,600", "--marked=" + SAMPLE + "/byuid"], 1),
             ("port 0", ["portacl", SAMPLE, "1", "tcp:0"], 0),
             ("sixteen groups", ["portacl", SAMPLE, "1", "udp:123", "--groups", ",".join(["1"] * 15 + ["20"])], 0),
             ("settings", ["portacl", SAMPLE, "0", "udp:124", "--suser-exempt", "0"], 1),
@@ -251,7 +256,8 @@ WARNINGS = {
         (b"10.0.0.1/8,80", "perhaps: 10.0.0.0/8,80"), (b"3ffe::1/16,80", "perhaps: 3ffe::/16,80"), (b"10.0.0.9-10.0.0.1,80", "perhaps: 10.0.0.1-10.0.0.9,80"),
         (b"10.0.0.0/8,90-80", "perhaps: 10.0.0.0/8,80-90"), (b"10.0.0.0/8:90,80", "perhaps: 10.0.0.0/8:80,90"), (b"10.0.0.0/8,1024", "not ruled"),
         (b"10.0.0.0/8,0", "not ruled"), (b"10.0.0.0/8", "no comma"), (b"10.0.0.0/33,80", "not of the form"), (b"10.0.0,80", "not of the form"),
-        (b"10.0.0.0/8,080", "fewest digits"), (b"x" * 300, "no comma"), (b"10.0.0.0/8,80", None), (b"10.0.0.0/8,0-80", None), (b"10.0.0.0/8,1023-2000", None),
+        (b"10.0.0.0/8,080", "fewest digits"), (b"x" * 300, "no comma"), (b"10.0.0.0/8,80", None), (b"10.0.0.0/8,0-80", None), (b"10.0.0.0/8,511-2000", None),
+        (b"10.0.0.0/8,512", "granted by the marked file only"), (b"10.0.0.0/8,1023-2000", "granted by the marked file only"), (b"10.0.0.0/8:512,600", "marked"),
         (b"::/0,80", None), (b"10.0.0.1-10.0.0.9,80-90", None), (b"10.0.0.0/8:80,90", None), (b"# x", None), (b"", None), (b"  \r", None),
         (b"3FFE:0505::/32,80", None), (b"::ffff:10.0.0.0/128,80", None)],
 }
@@ -294,6 +300,33 @@ def test_checks(folder):
     for size in (16384, 16385, 65535, 65536, 65537):
         expect(f"one line of {size} bytes", gate("check", "-W", station(folder + "/line", b"x" * size, b"\\\n" * (size // 2))), 1, " faults\n", "[4]"
                if size <= 65536 else "[2]")
+
+
+def test_marked(folder):
+    """the marked file, by its name, beside the station's plain one"""
+    marked, long = folder + "/!432", folder + "/long"
+    pathlib.Path(marked).write_bytes(b"# x\n10.20.0.0/16,80-600\n")
+    pathlib.Path(long).write_bytes(b"\n" * 8193)
+    both = station(folder + "/both", byuid=b"10.20.0.0/16,500-600\n")
+    rule = "granted\nrule      %s:%d\ntext      %s\n"
+    for what, arguments, status, out in (
+            ("port 600 by the marked file", ["432", "10.20.1.2,600", "--marked", marked], 0, rule % (marked, 2, "10.20.0.0/16,80-600")),
+            ("port 512 by the marked file", ["432", "10.20.1.2,512", "--marked", marked], 0, rule % (marked, 2, "10.20.0.0/16,80-600")),
+            ("port 511 by the plain file", ["432", "10.20.1.2,511", "--marked", marked], 0, rule % (both + "/byuid", 1, "10.20.0.0/16,500-600")),
+            ("port 499 by neither", ["432", "10.20.1.2,499", "--marked", marked], 1, "no line\n"),
+            ("port 601 by neither", ["432", "10.20.1.2,601", "--marked", marked], 1, "no line\n"),
+            ("port 600 without a marked file", ["432", "10.20.1.2,600"], 1, "no line\nwhy       the plain file grants ports 1 to 511; give the marked one"),
+            ("root", ["0", "10.20.1.2,600", "--marked", marked], 4, "not ruled\n"), ("port 1024", ["432", "10.20.1.2,1024", "--marked", marked], 4, "not ruled\n"),
+            ("quiet", ["432", "10.20.1.2,600", "-q", "--marked", marked], 0, b"")):
+        expect("byuid: " + what, gate("byuid", both, *arguments), status, out, b"")
+    expect("a marked file over its limit", gate("byuid", both, "432", "10.20.1.2,80", "--marked", long), 2, b"", "long: refused: longer than its section may be [2]")
+    expect("a marked file that is not there", gate("byuid", both, "432", "10.20.1.2,80", "--marked", folder + "/none"), 2, b"", "No such file")
+    requests = folder + "/requests"
+    pathlib.Path(requests).write_text(f"byuid 432 10.20.1.2,600 --marked {marked} => granted marked:2\nbyuid 432 10.20.1.2,511 --marked {marked} => granted byuid:1\n"
+                                      "byuid 432 10.20.1.2,600 => no line\n")
+    expect("marked files in requests", gate("test", both, requests), 0, "3 requests, all as expected", b"")
+    pathlib.Path(requests).write_text("byuid 432 10.20.1.2,600 --marked none => granted\n")
+    expect("a missing marked file in requests", gate("test", both, requests), 2, "1 not read", "none: No such file")
 
 
 def test_explain(folder):
@@ -616,10 +649,10 @@ def match_answer(texts, r):
 
 def byuid_case(rng, texts):
     address = rng.choice([("4", rng.choice(gen.SMALL)), ("6", rng.choice(gen.WIDE)), ("4", 0x0a000000), ("6", 1)])
-    port, uid = rng.choice([0, 1, 80, 80, 80, 512, 1023, 1024]), rng.choice([0, 432, 432, 432])
-    answer = ref.byuid(texts[2], port, address, uid)
+    port, uid = rng.choice([0, 1, 80, 80, 80, 511, 512, 1023, 1024]), rng.choice([0, 432, 432, 432])
+    answer = ref.byuid(texts[2], "plain", port, address, uid)
     if answer == "granted":
-        lines = [ref.byuid(line, port, address, uid) for line in texts[2].split(b"\n")]
+        lines = [ref.byuid(line, "plain", port, address, uid) for line in texts[2].split(b"\n")]
         answer += " byuid:%d" % (lines.index("granted") + 1)
     return [b"byuid", b"%d" % uid, b"%s,%d" % (ref.address_text(address), port)], answer.encode()
 
@@ -675,7 +708,7 @@ def run_all():
     os.chmod(SCRATCH, 0o755)
     test_misread()
     test_read()
-    for test in (test_answers, test_checks, test_explain, test_requests, test_reading, test_pack, test_unpack, test_faults, test_full_disk):
+    for test in (test_answers, test_checks, test_marked, test_explain, test_requests, test_reading, test_pack, test_unpack, test_faults, test_full_disk):
         with tempfile.TemporaryDirectory(dir=SCRATCH) as folder:
             test(folder)
     for test in (test_generated_checks, test_generated_answers):

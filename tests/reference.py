@@ -425,13 +425,19 @@ def byuid_line(line):
     return None
 
 
-def byuid(text, port, address, uid):
+SPANS = {"plain": range(1, 512), "marked": range(512, 1024)}
+
+
+def byuid(text, mark, port, address, uid):
+    """mark: the file that the text comes from, "plain" or "marked" """
     if over(3, text):
         return over(3, text)
-    if address is None or address == BAD or port == BAD:
+    if address is None or BAD in (address, mark, port):
         return (13, 0, 0)
     if not 1 <= port <= 1023 or uid == 0:
         return "not ruled"
+    if port not in SPANS[mark]:
+        return "no line"
     for line in text.split(b"\n"):
         form = byuid_line(line)
         if form and form[0] == address[0] and form[1] <= address[1] <= form[2] and form[3] <= port <= form[4]:
@@ -596,7 +602,7 @@ def sheet_verdict(sheet, r):
 
 
 def sheet_byuid(sheet, *request):
-    return of_sheet(lambda parts, texts: byuid(texts[2], *request), sheet)
+    return of_sheet(lambda parts, texts: byuid(texts[2], "plain", *request), sheet)
 
 
 def sheet_portacl(sheet, *request):

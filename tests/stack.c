@@ -94,8 +94,8 @@ static uint32_t with_command(void) {
     return gate_command_for(out, sizeof out, allow.bytes, allow.len, deny.bytes, deny.len, &request, 4294967295u).number;
 }
 static uint32_t sheet_command(void) { return gate_sheet_command_for(out, sizeof out, sheet, sheet_len, &request, 4294967295u).number; }
-static uint32_t by_uid(void) { return gate_byuid_for(byuid.bytes, byuid.len, &at, 1023, 432).number; }
-static uint32_t sheet_byuid(void) { return gate_sheet_byuid_for(sheet, sheet_len, &at, 1023, 432).number; }
+static uint32_t by_uid(void) { return gate_byuid_for(byuid.bytes, byuid.len, GATE_PLAIN_FILE, &at, 511, 432).number; }
+static uint32_t sheet_byuid(void) { return gate_sheet_byuid_for(sheet, sheet_len, &at, 511, 432).number; }
 static uint32_t port_acl(void) { return gate_portacl_for(portacl.bytes, portacl.len, &settings, &bound).number; }
 static uint32_t sheet_portacl(void) { return gate_sheet_portacl_for(sheet, sheet_len, &settings, &bound).number; }
 static uint32_t check(void) { return gate_check(sheet, sheet_len).number; }

@@ -83,8 +83,12 @@ def port_of(n):
     return n if n < 65536 else BAD
 
 
-def byuid(decide, port, at, uid, text):
-    return shown(decide(text, port_of(port), address(at), uid))
+def byuid(port, at, uid, mark, text):
+    return shown(ref.byuid(text, {0: "plain", 1: "marked"}.get(mark, BAD), port_of(port), address(at), uid))
+
+
+def sheet_byuid(port, at, uid, sheet):
+    return shown(ref.sheet_byuid(sheet, port_of(port), address(at), uid))
 
 
 def portacl(decide, enabled, port_high, suser_exempt, autoport_exempt, uid, protocol, port, text, *groups):
@@ -138,10 +142,10 @@ def expand(*fields):
 # Each call with the kinds of its fields: t a text, n a number, N any number of numbers.
 CALLS = {
     b"verdict": ("tttttttt", lambda *f: ruling(ref.verdict(*f[6:], request(*f[:6])))),
-    b"byuid": ("ntnt", lambda *f: byuid(ref.byuid, *f)),
+    b"byuid": ("ntnnt", byuid),
     b"portacl": ("nnnnnnntN", lambda *f: portacl(ref.portacl, *f)),
     b"sheet_verdict": ("ttttttt", lambda *f: ruling(ref.sheet_verdict(f[6], request(*f[:6])))),
-    b"sheet_byuid": ("ntnt", lambda *f: byuid(ref.sheet_byuid, *f)),
+    b"sheet_byuid": ("ntnt", sheet_byuid),
     b"sheet_portacl": ("nnnnnnntN", lambda *f: portacl(ref.sheet_portacl, *f)),
     b"check": ("t", lambda sheet: shown(ref.check(sheet))),
     b"unpack": ("t", unpack),

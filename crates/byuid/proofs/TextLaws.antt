@@ -19,9 +19,11 @@ use Rattle.section.specs.declared.Refusal.{Refusal}
 use Rattle.section.specs.Refusal.{refusal, placeless}
 use Rattle.address.specs.declared.Addr.{Addr}
 use Rattle.address.specs.declared.Addr.the-variants as A
-use Rattle.byuid.specs.Byuid.{lineGrants, byuidDecision, bind, decideByuid, byuidRuling}
+use Rattle.byuid.specs.Byuid.{lineGrants, isRuled, inSpan, byuidDecision, bind, fileBind, decideByuid, byuidRuling}
 use Rattle.byuid.specs.declared.Decision.{Decision}
 use Rattle.byuid.specs.declared.Decision.the-variants.{NotRuled, Granted, NoLine}
+use Rattle.byuid.specs.declared.Mark.{Mark}
+use Rattle.byuid.specs.declared.Mark.the-variants.{Plain, Marked}
 use Rattle.byuid.specs.declared.Ruling.the-variants as R
 use Rattle.byuid.proofs.LineLaws.{grants-nil}
 
@@ -80,36 +82,56 @@ module _ (addr : Addr) (port : ℕ) where
 
 -- ## The decision
 
-module _ (t : List ℕ) (p : ℕ) (addr : Addr) (uid : ℕ) where
-  pub not-ruled : (not (inRange 1 1023 p) || eqb uid 0) ≡ true → NotRuled ≡ byuidDecision t p addr uid
+not-true : (b : Bool) → not b ≡ true → b ≡ false
+not-true true e = sym e
+not-true false e = refl
+
+not-false : (b : Bool) → not b ≡ false → b ≡ true
+not-false true e = refl
+not-false false e = sym e
+
+pub plain-span : (m : Mark) (p : ℕ) → m ≡ Plain → inRange 1 511 p ≡ inSpan m p
+plain-span m p e = rw e
+
+pub marked-span : (m : Mark) (p : ℕ) → m ≡ Marked → inRange 512 1023 p ≡ inSpan m p
+marked-span m p e = rw e
+
+module _ (t : List ℕ) (m : Mark) (p : ℕ) (addr : Addr) (uid : ℕ) where
+  pub not-ruled : (z : Bool) → z ≡ isRuled p uid → not z ≡ true → NotRuled ≡ byuidDecision t m p addr uid
   unfolding byuidDecision
-  not-ruled e = rw e
+  not-ruled z is-z e = rw (← is-z, e)
 
-  module _ (e : (not (inRange 1 1023 p) || eqb uid 0) ≡ false) (x : Bool) (is-x : x ≡ some-line addr p t) where
-    pub granted : x ≡ true → Granted ≡ byuidDecision t p addr uid
+  module _ (z : Bool) (is-z : z ≡ isRuled p uid) (e : not z ≡ false) (y : Bool) (is-y : y ≡ inSpan m p) where
+    pub other-span : not y ≡ true → NoLine ≡ byuidDecision t m p addr uid
     unfolding byuidDecision
-    granted f = rw (e, ← is-x, f)
+    other-span f = rw (← is-z, e, ← is-y, not-true y f)
 
-    pub no-line : x ≡ false → NoLine ≡ byuidDecision t p addr uid
-    unfolding byuidDecision
-    no-line f = rw (e, ← is-x, f)
+    module _ (g : not y ≡ false) (x : Bool) (is-x : x ≡ some-line addr p t) where
+      pub granted : x ≡ true → Granted ≡ byuidDecision t m p addr uid
+      unfolding byuidDecision
+      granted f = rw (← is-z, e, ← is-y, not-false y g, ← is-x, f)
+
+      pub no-line : x ≡ false → NoLine ≡ byuidDecision t m p addr uid
+      unfolding byuidDecision
+      no-line f = rw (← is-z, e, ← is-y, not-false y g, ← is-x, f)
 
   module _ (x : Bool) (is-x : x ≡ ltb 8192 (length t)) where
-    pub over-limit : x ≡ true → (r : Refusal) → r ≡ refusal F.OverLimit 3 0 → R.Refused r ≡ byuidRuling (decideByuid t (some (bind p addr uid)))
+    pub over-limit : x ≡ true → (r : Refusal) → r ≡ refusal F.OverLimit 3 0 → R.Refused r ≡ byuidRuling (decideByuid t (some (fileBind m (bind p addr uid))))
     unfolding decideByuid
     over-limit f r e = rw (← is-x, f, e)
 
     module _ (f : x ≡ false) where
-      pub unknown-address : addr ≡ A.Unknown → (r : Refusal) → r ≡ placeless F.BadRequest → R.Refused r ≡ byuidRuling (decideByuid t (some (bind p addr uid)))
+      pub unknown-address : addr ≡ A.Unknown → (r : Refusal) → r ≡ placeless F.BadRequest
+          → R.Refused r ≡ byuidRuling (decideByuid t (some (fileBind m (bind p addr uid))))
       unfolding decideByuid
       unknown-address g r e = rw (← is-x, f, g, e)
 
-      pub answered-v4 : (n : ℕ) → addr ≡ A.V4 n → (d : Decision) → d ≡ byuidDecision t p addr uid → R.Answered d
-          ≡ byuidRuling (decideByuid t (some (bind p addr uid)))
+      pub answered-v4 : (n : ℕ) → addr ≡ A.V4 n → (d : Decision) → d ≡ byuidDecision t m p addr uid
+          → R.Answered d ≡ byuidRuling (decideByuid t (some (fileBind m (bind p addr uid))))
       unfolding decideByuid
       answered-v4 n g d e = rw (e, ← is-x, f, g)
 
-      pub answered-v6 : (a b : ℕ) → addr ≡ A.V6 a b → (d : Decision) → d ≡ byuidDecision t p addr uid → R.Answered d
-          ≡ byuidRuling (decideByuid t (some (bind p addr uid)))
+      pub answered-v6 : (a b : ℕ) → addr ≡ A.V6 a b → (d : Decision) → d ≡ byuidDecision t m p addr uid
+          → R.Answered d ≡ byuidRuling (decideByuid t (some (fileBind m (bind p addr uid))))
       unfolding decideByuid
       answered-v6 a b g d e = rw (e, ← is-x, f, g)

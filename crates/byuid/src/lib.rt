@@ -1,5 +1,5 @@
 // The decision by an authbind byuid file.
-//   decide(text, port, addr, uid) == the call: every check, then the decision
+//   decide(text, mark, port, addr, uid) == the call: every check, then the decision
 use address::Addr;
 use section::Fault;
 use section::Refusal;
@@ -7,13 +7,19 @@ ghost use mathlib.Core.Option.{some};
 ghost use mathlib.Core.Path.{_≡_};
 ghost use Rattle.text.specs.Basics.{any};
 ghost use Rattle.text.specs.Text.{split};
-ghost use Rattle.byuid.specs.Byuid.{lineGrants, byuidDecision, bind, decideByuid, byuidRuling};
+ghost use Rattle.byuid.specs.Byuid.{lineGrants, isRuled, inSpan, byuidDecision, bind, fileBind, decideByuid, byuidRuling};
 
 // The words of the decision.
 pub enum Decision {
     NotRuled,
     Granted,
     NoLine,
+}
+
+// The file that a text comes from: the plain one, or the one with a `!` before its leaf name.
+pub enum Mark {
+    Plain,
+    Marked,
 }
 
 // What the call answers: a refusal, or the decision.
@@ -40,12 +46,32 @@ fn any_grants(s: &[u8], addr: Addr, port: u16) -> bool
     false
 }
 
-// The decision, the checks passed.
-fn decide_by_lines(text: &[u8], port: u16, addr: Addr, uid: u32) -> Decision
-    ensures { λ r. ⌜ r ≡ byuidDecision (now (text .entry)) port addr uid ⌝ }
+// Whether the lines rule the bind of a port by a caller.
+fn is_ruled(port: u16, uid: u32) -> bool
+    ensures { λ r. ⌜ r ≡ isRuled port uid ⌝ }
 {
-    if !((1 <= port) & (port <= 1023)) | (uid == 0) {
+    (1 <= port) & (port <= 1023) & (uid != 0)
+}
+
+// Whether the file may grant the port.
+fn in_span(mark: Mark, port: u16) -> bool
+    ensures { λ r. ⌜ r ≡ inSpan mark port ⌝ }
+{
+    match mark {
+        Mark::Plain => (1 <= port) & (port <= 511),
+        Mark::Marked => (512 <= port) & (port <= 1023),
+    }
+}
+
+// The decision, the checks passed.
+fn decide_by_lines(text: &[u8], mark: Mark, port: u16, addr: Addr, uid: u32) -> Decision
+    ensures { λ r. ⌜ r ≡ byuidDecision (now (text .entry)) mark port addr uid ⌝ }
+{
+    if !is_ruled(port, uid) {
         return Decision::NotRuled;
+    }
+    if !in_span(mark, port) {
+        return Decision::NoLine;
     }
     if any_grants(text, addr, port) {
         Decision::Granted
@@ -54,16 +80,16 @@ fn decide_by_lines(text: &[u8], port: u16, addr: Addr, uid: u32) -> Decision
     }
 }
 
-// Whether a caller may bind a port at an address, by the lines of the text.
-pub fn decide(text: &[u8], port: u16, addr: Addr, uid: u32) -> Ruling
-    ensures { λ r. ⌜ r ≡ byuidRuling (decideByuid (now (text .entry)) (some (bind port addr uid))) ⌝ }
+// Whether a caller may bind a port at an address, by the lines of a text from one of the two files.
+pub fn decide(text: &[u8], mark: Mark, port: u16, addr: Addr, uid: u32) -> Ruling
+    ensures { λ r. ⌜ r ≡ byuidRuling (decideByuid (now (text .entry)) (some (fileBind mark (bind port addr uid)))) ⌝ }
 {
     if section::Byuid::over(text.len()) {
         return Ruling::Refused(section::Byuid::refusal(Fault::OverLimit, 0));
     }
     match addr {
         Addr::Unknown => Ruling::Refused(section::placeless(Fault::BadRequest)),
-        Addr::V4(_) => Ruling::Answered(decide_by_lines(text, port, addr, uid)),
-        Addr::V6(_, _) => Ruling::Answered(decide_by_lines(text, port, addr, uid)),
+        Addr::V4(_) => Ruling::Answered(decide_by_lines(text, mark, port, addr, uid)),
+        Addr::V6(_, _) => Ruling::Answered(decide_by_lines(text, mark, port, addr, uid)),
     }
 }

@@ -29,7 +29,7 @@ use Rattle.sheet.specs.declared.Parts.{Parts}
 use Rattle.sheet.specs.Sheet.{unpack, pack}
 use Rattle.station.specs.Station.{decideSheet, decideByuidSheet, decidePortaclSheet}
 use Rattle.codes.specs.declared.GateCheck.{GateCheck}
-use Rattle.codes.specs.Requests.{request, byuidBind, portaclBind, writeBy}
+use Rattle.codes.specs.Requests.{request, byuidBind, byuidFileBind, portaclBind, writeBy}
 use Rattle.codes.specs.Answers.{refusalAnswer, wordAnswer, answerNumbers, accepted, verdictAnswer, byuidAnswer, portaclAnswer, checkAnswer, partsAnswer, writtenAnswer, addressAnswer}
 use Rattle.codes.specs.Answers.{Command, together, commandAnswer}
 use Rattle.gate.specs.Calls.{wrote}
@@ -125,7 +125,7 @@ pub every-decision : EveryDecision
 every-decision = record {
   verdict-decided = λ allow deny n. verdict-decision (decide allow deny (request n));
   sheet-verdict-decided = λ sheet n. verdict-decision (decideSheet sheet (request n));
-  byuid-decided = λ text port kind high low uid. byuid-decision (decideByuid text (byuidBind port kind high low uid));
+  byuid-decided = λ text mark port kind high low uid. byuid-decision (decideByuid text (byuidFileBind mark port kind high low uid));
   sheet-byuid-decided = λ sheet port kind high low uid. byuid-decision (decideByuidSheet sheet (byuidBind port kind high low uid));
   portacl-decided = λ text s uid groups protocol port. portacl-decision (decidePortacl text s (portaclBind uid groups protocol port));
   sheet-portacl-decided = λ sheet s uid groups protocol port. portacl-decision (decidePortaclSheet sheet s (portaclBind uid groups protocol port));

@@ -7,6 +7,7 @@ use Rattle.claims.proofs.SheetClaims.{cut-short, longest, unpack-pack, 
 use Rattle.claims.proofs.AddressClaims.{read-written, bit-by-bit}
 use Rattle.claims.proofs.CommandClaims.{command-in-turn}
 use Rattle.claims.proofs.UserClaims.{ask-only-unfetched, name-cannot-matter}
+use Rattle.claims.proofs.FileClaims.{grants-own-span, other-span-no-line, neither-file}
 
 pub claims : Claims
 claims = record {
@@ -25,4 +26,7 @@ claims = record {
   ask-only-unfetched = ask-only-unfetched;
   name-cannot-matter = name-cannot-matter;
   bit-by-bit = bit-by-bit;
+  grants-own-span = grants-own-span;
+  other-span-no-line = other-span-no-line;
+  neither-file = neither-file;
 }

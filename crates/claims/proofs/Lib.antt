@@ -4,4 +4,5 @@ pub mod ExampleClaims
 pub mod SheetClaims
 pub mod CommandClaims
 pub mod UserClaims
+pub mod FileClaims
 pub mod Claims

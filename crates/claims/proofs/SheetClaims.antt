@@ -24,7 +24,7 @@ use Rattle.portacl.specs.Portacl.{readEntry, entries, entryFault, portaclFault}
 use Rattle.sheet.specs.declared.Parts.{Parts}
 use Rattle.sheet.specs.Sheet.{Texts, textsAt, textsFault, unpack, sheetOf, pack}
 use Rattle.station.specs.Station.{inSheet, decideSheet, decideByuidSheet, decidePortaclSheet}
-use Rattle.codes.specs.Requests.{RequestNumbers, request}
+use Rattle.codes.specs.Requests.{RequestNumbers, request, markOf, byuidFileBind}
 use Rattle.gate.specs.Calls.{gateVerdict, gateSheetVerdict, gateUnpack}
 use Rattle.sheet.proofs.FrameLaws.{frame-cut, textsFault-none, partsOf, sheetOf-inTurn, framed-partsOf, textsAt-partsOf, sheetOf-textsAt, unpack-answered, answered-unpack, pack-answered, answered-pack}
 use Rattle.codes.specs.Answers.{answerNumbers, foundParts, verdictAnswer, byuidAnswer, portaclAnswer, checkAnswer, partsAnswer, writtenAnswer}
@@ -143,7 +143,7 @@ sheet-verdict sheet n e = let p = accepted-parts sheet e in
     by p (answered a) = file p a (a .file)
 
 pub sheet-as-texts : SheetAsTexts
-unfolding decideByuidSheet decidePortaclSheet partsAnswer
+unfolding decideByuidSheet decidePortaclSheet partsAnswer markOf byuidFileBind
 sheet-as-texts = record {
   same-verdict = sheet-verdict;
   same-byuid = λ sheet port kind high low uid e. rw (accepted-parts sheet e .1);

@@ -12,7 +12,7 @@ use Rattle.section.specs.declared.Fault.the-variants as F
 use Rattle.section.specs.declared.Refusal.{Refusal}
 use Rattle.section.specs.Section as S
 use Rattle.section.specs.Section.{part, bytesAt}
-use Rattle.section.specs.Refusal.{refusal}
+use Rattle.section.specs.Refusal.{refusal, placeless}
 use Rattle.address.specs.Address.{samePrefix}
 use Rattle.address.specs.Bits.{sameBits}
 use Rattle.expansion.specs.Expand.{usesUser}
@@ -23,7 +23,8 @@ use Rattle.codes.specs.declared.GateCommand.{GateCommand}
 use Rattle.codes.specs.declared.GateParts.{GateParts}
 use Rattle.codes.specs.declared.GateWritten.{GateWritten}
 use Rattle.codes.specs.Requests.{RequestNumbers, requestNumbers}
-use Rattle.codes.specs.Answers.{granted, denied, ask, refusalAnswer, refusedCheck, accepted, refusedParts, countWritten, withCount, addressWith}
+use Rattle.codes.specs.Answers.{granted, denied, ask, noLine, wordAnswer}
+use Rattle.codes.specs.Answers.{refusalAnswer, refusedCheck, accepted, refusedParts, countWritten, withCount, addressWith}
 use Rattle.gate.specs.Calls.{gateVerdict, gateSheetVerdict, gateByuid, gateSheetByuid, gatePortacl, gateSheetPortacl}
 use Rattle.gate.specs.Calls.{gateCheck, gateUnpack, gateReadAddress, Wrote, gatePack, gateExpand, gateWriteAddress}
 use Rattle.gate.specs.Calls.{WroteCommand, gateCommand, gateSheetCommand}
@@ -40,6 +41,13 @@ Accepted sheet = gateCheck sheet ≡ accepted
 -- what a call has written at the front of its output: as many bytes as it counts
 abbrev pub front : Wrote → List ℕ
 front w = take (w .answer .count) (w .out)
+
+-- the files that a byuid text may come from, as C hands them over
+abbrev pub plain : ℕ
+plain = 0
+
+abbrev pub marked : ℕ
+marked = 1
 
 -- ## Demand 1
 
@@ -83,7 +91,7 @@ pub data Decision : GateAnswer → Type 0 where
 pub record EveryDecision : Type 0 where
   pub verdict-decided : (allow deny : List ℕ) (n : RequestNumbers) → Decision (gateVerdict allow deny n)
   pub sheet-verdict-decided : (sheet : List ℕ) (n : RequestNumbers) → Decision (gateSheetVerdict sheet n)
-  pub byuid-decided : (text : List ℕ) (port kind high low uid : ℕ) → Decision (gateByuid text port kind high low uid)
+  pub byuid-decided : (text : List ℕ) (mark port kind high low uid : ℕ) → Decision (gateByuid text mark port kind high low uid)
   pub sheet-byuid-decided : (sheet : List ℕ) (port kind high low uid : ℕ) → Decision (gateSheetByuid sheet port kind high low uid)
   pub portacl-decided : (text : List ℕ) (s : Settings) (uid : ℕ) (groups : List ℕ) (protocol port : ℕ) → Decision (gatePortacl text s uid groups protocol port)
   pub sheet-portacl-decided : (sheet : List ℕ) (s : Settings) (uid : ℕ) (groups : List ℕ) (protocol port : ℕ)
@@ -143,7 +151,7 @@ pub record SheetAsTexts : Type 0 where
   pub same-verdict : (sheet : List ℕ) (n : RequestNumbers) → Accepted sheet
       → gateSheetVerdict sheet n ≡ placedIn (gateUnpack sheet) (gateVerdict (textsOf sheet .allow) (textsOf sheet .deny) n)
   pub same-byuid : (sheet : List ℕ) (port kind high low uid : ℕ) → Accepted sheet
-      → gateSheetByuid sheet port kind high low uid ≡ gateByuid (textsOf sheet .byuid) port kind high low uid
+      → gateSheetByuid sheet port kind high low uid ≡ gateByuid (textsOf sheet .byuid) plain port kind high low uid
   pub same-portacl : (sheet : List ℕ) (s : Settings) (uid : ℕ) (groups : List ℕ) (protocol port : ℕ) → Accepted sheet
       → gateSheetPortacl sheet s uid groups protocol port ≡ gatePortacl (textsOf sheet .portacl) s uid groups protocol port
 
@@ -216,6 +224,36 @@ pub record NameCannotMatter : Type 0 where
 abbrev pub BitByBit : Type 0
 BitByBit = (w m a b : ℕ) → m ≤ w → a < 2 ^ w → b < 2 ^ w → samePrefix w m a b ≡ sameBits w m a b
 
+-- request 3: an address that is not unknown, by its numbers
+pub data Known : ℕ → ℕ → ℕ → Type 0 where
+  known-v4 : (high low : ℕ) → low < 2 ^ 32 → Known 4 high low
+  known-v6 : (high low : ℕ) → Known 6 high low
+
+-- "1 to 511", "512 to 1023"
+abbrev pub Lower : ℕ → Type 0
+Lower port = (1 ≤ port) × (port ≤ 511)
+
+abbrev pub Upper : ℕ → Type 0
+Upper port = (512 ≤ port) × (port ≤ 1023)
+
+-- "A plain file grants only 1 to 511 and a marked one only 512 to 1023"; "The sheet's byuid section is the plain file."
+pub record GrantsOwnSpan : Type 0 where
+  pub plain-grants : (text : List ℕ) (port kind high low uid : ℕ) → gateByuid text plain port kind high low uid .word ≡ granted .number → Lower port
+  pub marked-grants : (text : List ℕ) (port kind high low uid : ℕ) → gateByuid text marked port kind high low uid .word ≡ granted .number → Upper port
+  pub sheet-grants : (sheet : List ℕ) (port kind high low uid : ℕ) → gateSheetByuid sheet port kind high low uid .word ≡ granted .number → Lower port
+
+-- "a request for the other span gets "no line"", whatever the lines are: where the text is within its limit and the bind is ruled
+pub record OtherSpanNoLine : Type 0 where
+  pub plain-no-line : (text : List ℕ) (port kind high low uid : ℕ) → length text ≤ 8192 → Known kind high low → 1 ≤ uid → Upper port
+      → gateByuid text plain port kind high low uid ≡ wordAnswer (noLine .number)
+  pub marked-no-line : (text : List ℕ) (port kind high low uid : ℕ) → length text ≤ 8192 → Known kind high low → 1 ≤ uid → Lower port
+      → gateByuid text marked port kind high low uid ≡ wordAnswer (noLine .number)
+
+-- 13: "a request field outside its size or its kinds": a file that is neither
+abbrev pub NeitherFile : Type 0
+NeitherFile = (text : List ℕ) (mark port kind high low uid : ℕ) → length text ≤ 8192 → 2 ≤ mark
+    → gateByuid text mark port kind high low uid ≡ refusalAnswer (placeless F.BadRequest)
+
 -- ## All
 
 pub record Claims : Type 0 where
@@ -234,3 +272,6 @@ pub record Claims : Type 0 where
   pub ask-only-unfetched : AskOnlyUnfetched
   pub name-cannot-matter : NameCannotMatter
   pub bit-by-bit : BitByBit
+  pub grants-own-span : GrantsOwnSpan
+  pub other-span-no-line : OtherSpanNoLine
+  pub neither-file : NeitherFile

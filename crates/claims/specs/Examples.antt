@@ -28,7 +28,8 @@ use Rattle.rules.specs.declared.File.the-variants.{Neither, Deny}
 use Rattle.rules.specs.Search.{answer, decide}
 use Rattle.expansion.specs.Expand.{expand}
 use Rattle.byuid.specs.declared.Decision.the-variants as B
-use Rattle.byuid.specs.Byuid.{bind, decideByuid}
+use Rattle.byuid.specs.declared.Mark.the-variants.{Plain}
+use Rattle.byuid.specs.Byuid.{bind, fileBind, decideByuid}
 use Rattle.portacl.specs.declared.Decision.the-variants as P
 use Rattle.portacl.specs.declared.Protocol.the-variants.{Tcp, Udp}
 use Rattle.portacl.specs.declared.Settings.{Settings}
@@ -63,8 +64,8 @@ pub record Examples : Type 0 where
   pub p5-no : listFinds "[3ffe:505:2:1::]/64" "x" (V6 0x3ffe050500020002 0) ≡ No
   pub p6-yes : listFinds ".tue.nl" "wzv.win.tue.nl" Unknown ≡ Yes
   pub p6-no : listFinds ".tue.nl" "tue.nl" Unknown ≡ No
-  pub p7-no : decideByuid (bytes "10.0.0.1/8,80") (some (bind 80 (V4 0x0aff0001) 432)) ≡ answered B.NoLine
-  pub p7-yes : decideByuid (bytes "10.0.0.0/8,80") (some (bind 80 (V4 0x0aff0001) 432)) ≡ answered B.Granted
+  pub p7-no : decideByuid (bytes "10.0.0.1/8,80") (some (fileBind Plain (bind 80 (V4 0x0aff0001) 432))) ≡ answered B.NoLine
+  pub p7-yes : decideByuid (bytes "10.0.0.0/8,80") (some (fileBind Plain (bind 80 (V4 0x0aff0001) 432))) ≡ answered B.Granted
   pub p8 : decidePortacl (bytes "uid:80:tcp:80") settings (some udp80) ≡ answered P.Denied
   pub p9 : expand (bytes "/bin/log %u") (some (requestBy "x" Unknown "a;b")) 1 99 ≡ answered (bytes "/bin/log a_b")
   pub p10 : (readAddress (bytes "2620:106:e002:f00f:0:0:0:21") >>= λ a. writeAddress a 99) ≡ answered (bytes "2620:106:e002:f00f::21")

@@ -27,6 +27,8 @@ use Rattle.patterns.specs.declared.Name.{Name}
 use Rattle.patterns.specs.declared.Name.the-variants as N
 use Rattle.elements.specs.declared.User.{User}
 use Rattle.elements.specs.declared.User.the-variants as U
+use Rattle.byuid.specs.declared.Mark.{Mark}
+use Rattle.byuid.specs.declared.Mark.the-variants.{Plain, Marked}
 use Rattle.byuid.specs.Byuid as Byuid
 use Rattle.byuid.specs.Byuid.{addressKnown}
 use Rattle.portacl.specs.declared.Protocol.{Protocol}
@@ -36,8 +38,10 @@ use Rattle.portacl.specs.Portacl.{groupsFit}
 use Rattle.codes.specs.declared.request.HostNumbers.{HostNumbers}
 use Rattle.codes.specs.declared.request.States.{States}
 use Rattle.codes.specs.declared.request.Target.{Target}
-use Rattle.codes.specs.Requests.{nameState, userState, addressOf, protocolOf, isPort, requestNumbers, request, knownName, knownUser, hostBy, byuidBind, portaclBind}
-use Rattle.codes.specs.Code.{nameBy, userBy, addrBy, protocolBy, hostFits, hostTaken, numbersFit, statesOf, withNames, placed, unfit, portBy, addressBy, targetOf}
+use Rattle.codes.specs.Requests.{nameState, userState, addressOf, protocolOf, markOf, isPort, requestNumbers, request, knownName, knownUser}
+use Rattle.codes.specs.Requests.{hostBy, byuidBind, byuidFileBind, portaclBind}
+use Rattle.codes.specs.Code.{nameBy, userBy, addrBy, protocolBy, markBy, hostFits, hostTaken, numbersFit, statesOf, withNames}
+use Rattle.codes.specs.Code.{placed, unfit, portBy, addressBy, addressFrom, targetOf}
 
 -- ## Whether a number is of its kinds
 
@@ -64,6 +68,10 @@ user-fits n = some-three (eqb n 0) (eqb n 1) (eqb n 2) U.NotFetched U.Unknown U.
 pub protocol-fits : (n : ℕ) → (eqb n 6 || eqb n 17) ≡ isSome (protocolOf n)
 unfolding protocolOf
 protocol-fits n = some-two (eqb n 6) (eqb n 17) Tcp Udp
+
+pub mark-fits : (n : ℕ) → (eqb n 0 || eqb n 1) ≡ isSome (markOf n)
+unfolding markOf
+mark-fits n = some-two (eqb n 0) (eqb n 1) Plain Marked
 
 module _ (kind high low : ℕ) where
   pub v4-fits : kind ≡ 4 → ltb low (2 ^ 32) ≡ isSome (addressOf kind high low)
@@ -112,6 +120,14 @@ pub protocol-else : (n : ℕ) → (n ≡ 17 → ⊥) → Tcp ≡ protocolBy n
 unfolding protocolOf
 protocol-else n h = rw (ne-eqb n 17 h) (first-else (eqb n 6) Tcp)
 
+pub mark-marked : (n : ℕ) → n ≡ 1 → Marked ≡ markBy n
+unfolding markOf
+mark-marked n e = rw e
+
+pub mark-else : (n : ℕ) → (n ≡ 1 → ⊥) → Plain ≡ markBy n
+unfolding markOf
+mark-else n h = rw (ne-eqb n 1 h) (first-else (eqb n 0) Plain)
+
 module _ (kind high low : ℕ) where
   pub address-v4 : kind ≡ 4 → low < 2 ^ 32 → A.V4 low ≡ addrBy kind high low
   unfolding addressOf
@@ -128,6 +144,15 @@ module _ (kind high low : ℕ) where
   pub address-else : (kind ≡ 4 → ⊥) → (kind ≡ 6 → ⊥) → A.Unknown ≡ addrBy kind high low
   unfolding addressOf
   address-else h k = rw (ne-eqb kind 4 h, ne-eqb kind 6 k) (first-else (eqb kind 0) A.Unknown)
+
+module _ (mark port kind high low : ℕ) (b : Bool) (is-b : b ≡ isSome (markOf mark)) where
+  pub address-marked : b ≡ true → (a : Addr) → a ≡ addressBy port kind high low → a ≡ addressFrom mark port kind high low
+  unfolding addressFrom
+  address-marked e a is-a = is-a ∙ rw (← is-b, e)
+
+  pub address-unmarked : b ≡ false → A.Unknown ≡ addressFrom mark port kind high low
+  unfolding addressFrom
+  address-unmarked e = rw (← is-b, e)
 
 -- ## What the calls read, together
 
@@ -274,19 +299,32 @@ module _ (x : States) (d cn sn un c s u : List ℕ) (is-c : c ≡ knownName (x .
 
 -- ## Binds
 
-module _ (port kind high low uid p : ℕ) (a : Addr) (is-p : p ≡ portBy port) (is-a : a ≡ addressBy port kind high low) where
-  pub byuid-read : {B : Type 0} (f : Byuid.Bind → Outcome B) → fitting addressKnown (some (Byuid.bind p a uid)) f
-      ≡ fitting addressKnown (byuidBind port kind high low uid) f
+module _ (port kind high low uid p : ℕ) (is-p : p ≡ portBy port) {B : Type 0} (f : Byuid.FileBind → Outcome B) where
+  pub byuid-read : (m : Mark) (a : Addr) → a ≡ addressBy port kind high low
+      → fitting addressKnown (some (Byuid.fileBind m (Byuid.bind p a uid))) f ≡ fitting addressKnown (Byuid.fromFile m (byuidBind port kind high low uid)) f
   unfolding portBy addressBy byuidBind
-  byuid-read f = rw (is-p, is-a) (by (isPort port) (addressOf kind high low))
+  byuid-read m a is-a = rw (is-p, is-a) (by (isPort port) (addressOf kind high low))
     where
       by : (b : Bool) (o : Option Addr)
-          → fitting addressKnown (some (Byuid.bind (if b then port else 0) (if b then Option·getD o A.Unknown else A.Unknown) uid)) f
-          ≡ fitting addressKnown (o >>= λ x. given b (Byuid.bind port x uid)) f
+          → fitting addressKnown (some (Byuid.fileBind m (Byuid.bind (if b then port else 0) (if b then Option·getD o A.Unknown else A.Unknown) uid))) f
+          ≡ fitting addressKnown (Byuid.fromFile m (o >>= λ x. given b (Byuid.bind port x uid))) f
       by true none = refl
       by true (some x) = refl
       by false none = refl
       by false (some x) = refl
+
+  -- an unknown address, taken for a mark outside its kinds, is refused as the mark is
+  pub byuid-file-read : (mark : ℕ) (m : Mark) → m ≡ markBy mark → (a : Addr) → a ≡ addressFrom mark port kind high low
+      → fitting addressKnown (some (Byuid.fileBind m (Byuid.bind p a uid))) f ≡ fitting addressKnown (byuidFileBind mark port kind high low uid) f
+  unfolding addressFrom byuidFileBind
+  byuid-file-read mark m is-m a is-a = rw (is-m, is-a) (by (markOf mark))
+    where
+      by : (o : Option Mark)
+          → fitting addressKnown
+          (some (Byuid.fileBind (Option·getD o Plain) (Byuid.bind p (if isSome o then addressBy port kind high low else A.Unknown) uid))) f
+          ≡ fitting addressKnown (o >>= λ x. Byuid.fromFile x (byuidBind port kind high low uid)) f
+      by none = refl
+      by (some x) = byuid-read x (addressBy port kind high low) refl
 
 module _ (uid protocol port : ℕ) (groups groups' : List ℕ) (x : Target) (is-x : x ≡ targetOf protocol port)
     (is-groups : groups' ≡ (if x .fit then groups else replicate 17 0)) where

@@ -1,10 +1,10 @@
 -- What the contracts of inner functions cite: what was read, and rulings, as the code answers them. Nothing here needs to be believed:
 -- laws tie each to Requests or Answers.
---   nameBy, userBy, addrBy, protocolBy == what is taken for a number; outside its kinds any does, as the request is refused
+--   nameBy, userBy, addrBy, protocolBy, markBy == what is taken for a number; outside its kinds any does, as the request is refused
 --   statesOf, targetOf == what was read of a request, and of a bind
 --   withNames x ..     == the request of the states x, the names that are not known left out
 --   placed .., unfit   == the places of four names one after the other; a request that is refused by 13
---   portBy, addressBy, bindBy == a bind with what is taken for its numbers, and one that is refused by 13
+--   portBy, addressBy, addressFrom, bindBy == a bind with what is taken for its numbers, and one that is refused by 13
 -- Assumes nothing: these are definitions.
 use Prim.Native.Nat.{ℕ, _+_}
 use mathlib.Core.Bool.{Bool, _&&_}
@@ -31,6 +31,8 @@ use Rattle.section.specs.declared.Written.{Written}
 use Rattle.section.specs.declared.Written.the-variants as W
 use Rattle.address.specs.declared.read.AddressRead.{AddressRead}
 use Rattle.address.specs.declared.read.AddressRead.the-variants as R
+use Rattle.byuid.specs.declared.Mark.{Mark}
+use Rattle.byuid.specs.declared.Mark.the-variants.{Plain}
 use Rattle.byuid.specs.declared.Ruling.{Ruling as ByuidRuling}
 use Rattle.byuid.specs.declared.Ruling.the-variants as B
 use Rattle.portacl.specs.declared.Ruling.{Ruling as PortaclRuling}
@@ -50,7 +52,7 @@ use Rattle.codes.specs.declared.request.States.{States}
 use Rattle.codes.specs.declared.request.Target.{Target}
 use Rattle.codes.specs.Answers.{byuidWord, portaclWord, refusalAnswer, wordAnswer, answerNumbers, refusedCheck, accepted, refusedParts, foundParts, refusedWritten, countWritten}
 use Rattle.codes.specs.Answers.{withCount, refusedAddress, addressNumbers}
-use Rattle.codes.specs.Requests.{nameState, userState, addressOf, protocolOf, isPort, RequestNumbers, knownName, knownUser}
+use Rattle.codes.specs.Requests.{nameState, userState, addressOf, protocolOf, markOf, isPort, RequestNumbers, knownName, knownUser}
 
 -- ## Requests
 
@@ -106,12 +108,19 @@ unfit = placed 0 nobody 0 nobody 0 U.Unknown 0
 abbrev pub protocolBy : ℕ → Protocol
 protocolBy n = Option·getD (protocolOf n) Tcp
 
+abbrev pub markBy : ℕ → Mark
+markBy n = Option·getD (markOf n) Plain
+
 unfoldable pub portBy : ℕ → ℕ
 portBy port = if isPort port then port else 0
 
 -- with a port over 16 bits, or an address outside its kinds, an unknown address: "an unknown one is 13"
 unfoldable pub addressBy : ℕ → ℕ → ℕ → ℕ → Addr
 addressBy port kind high low = if isPort port then addrBy kind high low else A.Unknown
+
+-- the same with a mark outside its kinds
+unfoldable pub addressFrom : ℕ → ℕ → ℕ → ℕ → ℕ → Addr
+addressFrom mark port kind high low = if isSome (markOf mark) then addressBy port kind high low else A.Unknown
 
 abbrev pub targetOf : ℕ → ℕ → Target
 targetOf protocol port = record { fit = isSome (protocolOf protocol) && isPort port; protocol = protocolBy protocol; port = portBy port }

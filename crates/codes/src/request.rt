@@ -1,5 +1,6 @@
 // What the numbers of a request stand for; a number outside its kinds stands for what is refused by 13.
 use address::Addr;
+use byuid::Mark;
 use elements::User;
 use elements::element::well_formed;
 use elements::request::Request;
@@ -17,8 +18,9 @@ ghost use Rattle.text.specs.Scan.{after};
 ghost use Rattle.section.specs.Refusal.{answered, fitting};
 ghost use Rattle.elements.specs.Request.{wellFormed};
 ghost use Rattle.elements.specs.Places.{requestAt};
-ghost use Rattle.codes.specs.Requests.{nameState, userState, addressOf, protocolOf, hostNumbers, requestNumbers, request, knownName, knownUser};
-ghost use Rattle.codes.specs.Code.{nameBy, userBy, addrBy, hostFits, hostTaken, numbersFit, statesOf, withNames, placed, unfit, protocolBy, portBy, addressBy, targetOf};
+ghost use Rattle.codes.specs.Requests.{nameState, userState, addressOf, protocolOf, markOf, hostNumbers, requestNumbers, request, knownName, knownUser};
+ghost use Rattle.codes.specs.Code.{nameBy, userBy, addrBy, hostFits, hostTaken, numbersFit, statesOf, withNames, placed, unfit};
+ghost use Rattle.codes.specs.Code.{protocolBy, markBy, portBy, addressBy, addressFrom, targetOf};
 
 // A host as C hands it over: the state of its name, the kind of its address, and the address.
 pub struct HostNumbers {
@@ -311,12 +313,38 @@ pub fn port_by(port: u32) -> u16
     0
 }
 
+fn is_mark(n: u32) -> bool
+    ensures { λ r. ⌜ r ≡ isSome (markOf n) ⌝ }
+{
+    (n == 0) | (n == 1)
+}
+
+// The file that a byuid text comes from; the plain one where the number stands for neither.
+pub fn mark_by(n: u32) -> Mark
+    ensures { λ r. ⌜ r ≡ markBy n ⌝ }
+{
+    if n == 1 {
+        return Mark::Marked;
+    }
+    Mark::Plain
+}
+
 // The address of a bind for the byuid decision.
 pub fn address_by(port: u32, kind: u32, high: u64, low: u64) -> Addr
     ensures { λ r. ⌜ r ≡ addressBy port kind high low ⌝ }
 {
     if port < 65536 {
         return address(kind, high, low);
+    }
+    Addr::Unknown
+}
+
+// The same for the decision by a lone text: unknown also where the file is neither.
+pub fn address_from(mark: u32, port: u32, kind: u32, high: u64, low: u64) -> Addr
+    ensures { λ r. ⌜ r ≡ addressFrom mark port kind high low ⌝ }
+{
+    if is_mark(mark) {
+        return address_by(port, kind, high, low);
     }
     Addr::Unknown
 }

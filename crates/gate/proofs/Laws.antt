@@ -32,6 +32,8 @@ use Rattle.expansion.specs.Expand.{expansion, expand}
 use Rattle.lines.specs.Line.{join, hasBadByte, isTooLong}
 use Rattle.lines.specs.Command.{hasBadPercent}
 use Rattle.byuid.specs.declared.Decision.{Decision as ByuidDecision}
+use Rattle.byuid.specs.declared.Mark.{Mark}
+use Rattle.byuid.specs.declared.Mark.the-variants.{Plain}
 use Rattle.byuid.specs.declared.Ruling.{Ruling as ByuidRuling}
 use Rattle.byuid.specs.Byuid as Byuid
 use Rattle.byuid.specs.Byuid.{byuidDecision, decideByuid}
@@ -48,11 +50,12 @@ use Rattle.codes.specs.declared.GateAnswer.{GateAnswer}
 use Rattle.codes.specs.declared.GateCommand.{GateCommand}
 use Rattle.codes.specs.declared.GateWritten.{GateWritten}
 use Rattle.codes.specs.declared.request.Target.{Target}
-use Rattle.codes.specs.Requests.{RequestNumbers, request, addressOf, byuidBind, portaclBind, writeBy}
+use Rattle.codes.specs.Requests.{RequestNumbers, request, addressOf, byuidBind, byuidFileBind, portaclBind, writeBy}
 use Rattle.codes.specs.Answers.{verdictAnswer, byuidAnswer, portaclAnswer, writtenAnswer, addressAnswer, Command, together, refusalAnswer, withCount, commandAnswer}
-use Rattle.codes.specs.Code.{addrBy, portBy, addressBy, targetOf, verdictNumbers, byuidNumbers, portaclNumbers, writtenNumbers, commandWritten, readNumbers}
+use Rattle.codes.specs.Code.{addrBy, markBy, portBy, addressBy, addressFrom, targetOf}
+use Rattle.codes.specs.Code.{verdictNumbers, byuidNumbers, portaclNumbers, writtenNumbers, commandWritten, readNumbers}
 use Rattle.gate.specs.Calls.{gateCommand, gateSheetCommand}
-use Rattle.codes.proofs.RequestLaws.{byuid-read, portacl-read}
+use Rattle.codes.proofs.RequestLaws.{byuid-read, byuid-file-read, portacl-read}
 use Rattle.codes.proofs.AnswerLaws.{verdict-numbers, byuid-numbers, portacl-numbers, written-numbers, read-numbers, together-refused, together-kept, together-written, together-holds}
 
 -- ## Verdicts and expansion: the request that was read is answered as the one handed over
@@ -179,23 +182,35 @@ module _ (names : List ℕ) (q : Places) (n : RequestNumbers)
 
 -- ## The port decisions
 
+abbrev decidedBy : List ℕ → Byuid.FileBind → Outcome ByuidDecision
+decidedBy text b = answered (byuidDecision text (b .mark) (b .asked .port) (b .asked .address) (b .asked .uid))
+
+module _ (mark port kind high low uid : ℕ) (m : Mark) (is-m : m ≡ markBy mark) (p : ℕ) (is-p : p ≡ portBy port)
+    (b : Addr) (is-b : b ≡ addressFrom mark port kind high low) (o : ByuidRuling) (a : GateAnswer) (text : List ℕ) where
+  file-bind-read : decideByuid text (some (Byuid.fileBind m (Byuid.bind p b uid))) ≡ decideByuid text (byuidFileBind mark port kind high low uid)
+  unfolding decideByuid
+  file-bind-read =
+      ap (λ (x : Outcome ByuidDecision). overLimit S.byuid text before x)
+      (byuid-file-read port kind high low uid p is-p (decidedBy text) mark m is-m b is-b)
+
+  pub byuid-by : o ≡ Byuid.byuidRuling (decideByuid text (some (Byuid.fileBind m (Byuid.bind p b uid)))) → a ≡ byuidNumbers o
+      → a ≡ byuidAnswer (decideByuid text (byuidFileBind mark port kind high low uid))
+  byuid-by e f = byuid-numbers _ o a e f ∙ ap byuidAnswer file-bind-read
+
 module _ (port kind high low uid p : ℕ) (b : Addr) (is-p : p ≡ portBy port) (is-b : b ≡ addressBy port kind high low) (o : ByuidRuling) (a : GateAnswer) where
-  bind-read : (text : List ℕ) → decideByuid text (some (Byuid.bind p b uid)) ≡ decideByuid text (byuidBind port kind high low uid)
+  bind-read : (text : List ℕ)
+      → decideByuid text (Byuid.fromFile Plain (some (Byuid.bind p b uid))) ≡ decideByuid text (Byuid.fromFile Plain (byuidBind port kind high low uid))
   unfolding decideByuid
   bind-read text =
       ap (λ (x : Outcome ByuidDecision). overLimit S.byuid text before x)
-      (byuid-read port kind high low uid p b is-p is-b (λ c. answered (byuidDecision text (c .port) (c .address) (c .uid))))
-
-  pub byuid-by : (text : List ℕ) → o ≡ Byuid.byuidRuling (decideByuid text (some (Byuid.bind p b uid))) → a ≡ byuidNumbers o
-      → a ≡ byuidAnswer (decideByuid text (byuidBind port kind high low uid))
-  byuid-by text e f = byuid-numbers _ o a e f ∙ ap byuidAnswer (bind-read text)
+      (byuid-read port kind high low uid p is-p (decidedBy text) Plain b is-b)
 
   sheet-bind-read : (sheet : List ℕ) → decideByuidSheet sheet (some (Byuid.bind p b uid)) ≡ decideByuidSheet sheet (byuidBind port kind high low uid)
   unfolding decideByuidSheet
   sheet-bind-read sheet = by (unpack sheet)
     where
-      by : (u : Outcome Parts) → (u >>= λ x. decideByuid (bytesAt sheet (x .byuid)) (some (Byuid.bind p b uid)))
-          ≡ (u >>= λ x. decideByuid (bytesAt sheet (x .byuid)) (byuidBind port kind high low uid))
+      by : (u : Outcome Parts) → (u >>= λ x. decideByuid (bytesAt sheet (x .byuid)) (Byuid.fromFile Plain (some (Byuid.bind p b uid))))
+          ≡ (u >>= λ x. decideByuid (bytesAt sheet (x .byuid)) (Byuid.fromFile Plain (byuidBind port kind high low uid)))
       by (refused r) = refl
       by (answered x) = bind-read (bytesAt sheet (x .byuid))
 

@@ -21,7 +21,7 @@ use Rattle.codes.specs.declared.GateCheck.{GateCheck}
 use Rattle.codes.specs.declared.GateCommand.{GateCommand}
 use Rattle.codes.specs.declared.GateParts.{GateParts}
 use Rattle.codes.specs.declared.GateWritten.{GateWritten}
-use Rattle.codes.specs.Requests.{RequestNumbers, request, byuidBind, portaclBind, writeBy}
+use Rattle.codes.specs.Requests.{RequestNumbers, request, byuidBind, byuidFileBind, portaclBind, writeBy}
 use Rattle.codes.specs.Answers.{verdictAnswer, byuidAnswer, portaclAnswer, checkAnswer, partsAnswer, writtenAnswer, addressAnswer, Command, together, commandAnswer}
 
 -- ## Decisions
@@ -32,8 +32,8 @@ gateVerdict allow deny n = verdictAnswer (decide allow deny (request n))
 abbrev pub gateSheetVerdict : List ℕ → RequestNumbers → GateAnswer
 gateSheetVerdict sheet n = verdictAnswer (decideSheet sheet (request n))
 
-abbrev pub gateByuid : List ℕ → ℕ → ℕ → ℕ → ℕ → ℕ → GateAnswer
-gateByuid text port kind high low uid = byuidAnswer (decideByuid text (byuidBind port kind high low uid))
+abbrev pub gateByuid : List ℕ → ℕ → ℕ → ℕ → ℕ → ℕ → ℕ → GateAnswer
+gateByuid text mark port kind high low uid = byuidAnswer (decideByuid text (byuidFileBind mark port kind high low uid))
 
 abbrev pub gateSheetByuid : List ℕ → ℕ → ℕ → ℕ → ℕ → ℕ → GateAnswer
 gateSheetByuid sheet port kind high low uid = byuidAnswer (decideByuidSheet sheet (byuidBind port kind high low uid))

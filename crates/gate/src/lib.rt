@@ -67,22 +67,24 @@ pub extern "C" fn gate_verdict(
     codes::answer::verdict_numbers(rules::decide(allow, deny, &names, request))
 }
 
-// The byuid decision by a text.
+// The byuid decision by a text from the plain or the marked file.
 #[no_mangle]
 pub extern "C" fn gate_byuid(
     text: &[u8],
+    mark: u32,
     port: u32,
     kind: u32,
     high: u64,
     low: u64,
     uid: u32,
 ) -> GateAnswer
-    ensures { λ r. ⌜ r ≡ gateByuid (now (text .entry)) port kind high low uid ⌝ }
+    ensures { λ r. ⌜ r ≡ gateByuid (now (text .entry)) mark port kind high low uid ⌝ }
 {
     codes::answer::byuid_numbers(byuid::decide(
         text,
+        codes::request::mark_by(mark),
         codes::request::port_by(port),
-        codes::request::address_by(port, kind, high, low),
+        codes::request::address_from(mark, port, kind, high, low),
         uid,
     ))
 }
@@ -167,7 +169,7 @@ pub extern "C" fn gate_sheet_verdict(
     codes::answer::verdict_numbers(station::decide(sheet, &names, request))
 }
 
-// The byuid decision by a sheet.
+// The byuid decision by a sheet, whose byuid text is the plain file.
 #[no_mangle]
 pub extern "C" fn gate_sheet_byuid(
     sheet: &[u8],

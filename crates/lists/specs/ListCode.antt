@@ -93,7 +93,7 @@ restFault d s = lowestOf d (listCheck clientElement (clientWords s)) (badCommand
 
 -- ## Looking at a list
 
--- what the list after EXCEPT finds, turned round
+-- what the list after EXCEPT finds, negated round
 abbrev pub negated : Found → Found
 negated f = onFound f N.No N.Yes
 

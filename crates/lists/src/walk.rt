@@ -15,7 +15,7 @@ use lines::rule;
 use patterns::Host;
 use section::part_of;
 
-// What the list after EXCEPT finds, turned round.
+// What the list after EXCEPT finds, negated round.
 pub fn negated(f: Found) -> Found
     ensures { λ r. ⌜ r ≡ negated f ⌝ }
 {

@@ -33,7 +33,8 @@ use Rattle.rules.specs.FileCode.{passOf, combined, passBoth, rulingBy}
 use Rattle.rules.proofs.PlaceLaws.{fileLength, search-within, pass-search}
 use Rattle.byuid.specs.declared.Ruling.{Ruling as ByuidRuling}
 use Rattle.byuid.specs.declared.Ruling.the-variants as ByR
-use Rattle.byuid.specs.Byuid.{Bind as ByuidBind, decideByuid, byuidRuling}
+use Rattle.byuid.specs.declared.Mark.the-variants.{Plain}
+use Rattle.byuid.specs.Byuid.{Bind as ByuidBind, fromFile, decideByuid, byuidRuling}
 use Rattle.portacl.specs.declared.Checked.{Checked as PortaclChecked}
 use Rattle.portacl.specs.declared.Checked.the-variants as PoC
 use Rattle.portacl.specs.declared.Ruling.{Ruling as PortaclRuling}
@@ -62,7 +63,7 @@ module _ (sheet : List ℕ) (x : Unpacked) (is-x : x ≡ unpackedOf (unpack shee
     byuid-refused g e = rw (unpacked-refused (unpack sheet) g (sym is-x ∙ e))
 
     pub byuid-decided : (p : Parts) → x ≡ Un.Parts p → (t : List ℕ) → t ≡ bytesAt sheet (p .byuid)
-        → (y : ByuidRuling) → y ≡ byuidRuling (decideByuid t o) → y ≡ byuidRuling (decideByuidSheet sheet o)
+        → (y : ByuidRuling) → y ≡ byuidRuling (decideByuid t (fromFile Plain o)) → y ≡ byuidRuling (decideByuidSheet sheet o)
     unfolding decideByuidSheet
     byuid-decided p e t is-t y is-y = is-y ∙ rw (unpacked-parts (unpack sheet) p (sym is-x ∙ e), is-t)
 

@@ -12,7 +12,8 @@ use Rattle.rules.specs.declared.File.{File}
 use Rattle.rules.specs.declared.File.the-variants.{Neither, Allow, Deny}
 use Rattle.rules.specs.Search.{answer, decide}
 use Rattle.byuid.specs.declared.Decision.{Decision as ByuidDecision}
-use Rattle.byuid.specs.Byuid.{Bind as ByuidBind, decideByuid}
+use Rattle.byuid.specs.declared.Mark.the-variants.{Plain}
+use Rattle.byuid.specs.Byuid.{Bind as ByuidBind, fromFile, decideByuid}
 use Rattle.portacl.specs.declared.Decision.{Decision as PortaclDecision}
 use Rattle.portacl.specs.declared.Settings.{Settings}
 use Rattle.portacl.specs.Portacl.{Bind as PortaclBind, decidePortacl}
@@ -35,10 +36,11 @@ decideSheet sheet o = do
   a ← decide (bytesAt sheet (p .allow)) (bytesAt sheet (p .deny)) o
   answered (inSheet p a)
 
+-- document 02, request 3: "The sheet's byuid section is the plain file."
 unfoldable pub decideByuidSheet : List ℕ → Option ByuidBind → Outcome ByuidDecision
 decideByuidSheet sheet o = do
   p ← unpack sheet
-  decideByuid (bytesAt sheet (p .byuid)) o
+  decideByuid (bytesAt sheet (p .byuid)) (fromFile Plain o)
 
 unfoldable pub decidePortaclSheet : List ℕ → Settings → Option PortaclBind → Outcome PortaclDecision
 decidePortaclSheet sheet s o = do

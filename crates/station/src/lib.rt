@@ -142,13 +142,19 @@ pub fn command(sheet: &[u8], answer: Answer) -> &[u8]
     part_of(sheet, answer.command)
 }
 
-// Whether a caller may bind a port at an address, by the byuid text of a sheet.
+// Whether a caller may bind a port at an address, by the byuid text of a sheet, which is the plain file.
 pub fn decide_byuid(sheet: &[u8], port: u16, addr: Addr, uid: u32) -> byuid::Ruling
     ensures { λ r. ⌜ r ≡ byuidRuling (decideByuidSheet (now (sheet .entry)) (some (byuidBind port addr uid))) ⌝ }
 {
     match unpack::unpack(sheet) {
         Unpacked::Refused(refusal) => byuid::Ruling::Refused(refusal),
-        Unpacked::Parts(parts) => byuid::decide(part_of(sheet, parts.byuid), port, addr, uid),
+        Unpacked::Parts(parts) => byuid::decide(
+            part_of(sheet, parts.byuid),
+            byuid::Mark::Plain,
+            port,
+            addr,
+            uid,
+        ),
     }
 }
 

@@ -174,8 +174,9 @@ fn read_byuid(case: &[u8]) -> ByuidRequest {
 
 fn byuid(case: &[u8]) {
     let r = read_byuid(case);
-    let text = cases::field(case, 4);
-    decision(gate::gate_byuid(text, r.port, r.kind, r.high, r.low, r.uid));
+    let mark = cases::number(case, 4);
+    let text = cases::field(case, 5);
+    decision(gate::gate_byuid(text, mark, r.port, r.kind, r.high, r.low, r.uid));
 }
 
 fn sheet_byuid(case: &[u8]) {
@@ -388,7 +389,7 @@ fn malformed(line: &[u8]) {
 // The place of a case's call. A call is written as its name, a colon and the kinds of its fields: t a text, n a number, . no more.
 fn call(case: &[u8]) -> usize {
     cases::call(
-        b"verdict:tttttttt. sheet_verdict:ttttttt. byuid:ntnt. sheet_byuid:ntnt. portacl:nnnnnnntn sheet_portacl:nnnnnnntn \
+        b"verdict:tttttttt. sheet_verdict:ttttttt. byuid:ntnnt. sheet_byuid:ntnt. portacl:nnnnnnntn sheet_portacl:nnnnnnntn \
           check:t. unpack:t. pack:nttttt. expand:ttttttnnt. read_address:t. write_address:nt.",
         case,
     )

@@ -12,4 +12,5 @@ gate-byuid-spec =
     (λ c κs. search needs)
     (λ c κs. search needs)
     (λ c κs. search needs)
+    (λ c κs. search needs)
     (λ c. search (byuid-by, needs)))
