@@ -10,5 +10,8 @@ two-verdicts-spec =
     (λ c. search needs)
     (λ c κs. search needs)
     (λ c κs. search needs)
-    (λ c. same-verdict _ _ _ _ _ _ _ _ _ (c .before .gate-verdict .ensures) _ _ _ (c .gate-verdict2 .ensures)) in
+    (λ c. (
+      c .before .gate-verdict .ensures,
+      (c .gate-verdict2 .ensures, same-verdict _ _ _ _ _ _ _ _ _ (c .before .gate-verdict .ensures) _ _ _ (c .gate-verdict2 .ensures)),
+    )) in
     tie.close facts
