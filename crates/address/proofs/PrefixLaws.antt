@@ -32,12 +32,16 @@ ones-shr w n h =
     ap (λ (v : ℕ). (2 ^ v - 1) / 2 ^ n) e ∙ ap (λ (x : ℕ). x / 2 ^ n) (ones-split (w - n) n) ∙ high (2 ^ (w - n) - 1) n (ones-lt n)
 
 module _ (w n m : ℕ) (h : n ≤ w) (is-m : m ≡ 2 ^ (w - n) - 1) where
+  -- the mask of a length: its leading ones
+  pub leading-ones : (2 ^ w - 1) - m ≡ 2 ^ w - 2 ^ (w - n)
+  leading-ones = omega (arith, is-m, pow-pos (w - n))
+
   -- under the other bits stand the first n
   pub and-leading : (a : ℕ) → a < 2 ^ w → bitAnd a ((2 ^ w - 1) - m) ≡ a / 2 ^ (w - n) * 2 ^ (w - n)
   and-leading a l =
       let e : n + (w - n) ≡ w = omega arith in
       let k : a < 2 ^ (n + (w - n)) = rw e l in
-      let q : (2 ^ w - 1) - m ≡ 2 ^ (n + (w - n)) - 2 ^ (w - n) = rw e (omega (arith, pow-pos (w - n))) in
+      let q : (2 ^ w - 1) - m ≡ 2 ^ (n + (w - n)) - 2 ^ (w - n) = leading-ones ∙ ap (λ (v : ℕ). 2 ^ v - 2 ^ (w - n)) (sym e) in
       ap (bitAnd a) q ∙ and-high a n (w - n) ∙ ap (λ (x : ℕ). x * 2 ^ (w - n)) (shr-mod n (w - n) k)
 
   pub samePrefix-mask : (a b : ℕ) → a < 2 ^ w → b < 2 ^ w → eqb (bitAnd a ((2 ^ w - 1) - m)) (bitAnd b ((2 ^ w - 1) - m)) ≡ samePrefix w n a b
@@ -46,10 +50,6 @@ module _ (w n m : ℕ) (h : n ≤ w) (is-m : m ≡ 2 ^ (w - n) - 1) where
       let p : ℕ = 2 ^ (w - n) in
       ap₂ eqb (and-leading a k) (and-leading b l)
       ∙ eqb-iff (a / p * p) (b / p * p) (a / p) (b / p) (shl-inj (w - n) (a / p) (b / p)) (ap (λ (x : ℕ). x * p))
-
-  -- the mask of a length: its leading ones
-  pub leading-ones : (2 ^ w - 1) - m ≡ 2 ^ w - 2 ^ (w - n)
-  leading-ones = omega (arith, is-m, pow-pos (w - n))
 
   pub clear-mask : (a : ℕ) → eqb (bitAnd a m) 0 ≡ eqb (a % 2 ^ (w - n)) 0
   clear-mask a = ap (λ (x : ℕ). eqb x 0) (ap (bitAnd a) is-m ∙ and-mask a (w - n))
