@@ -24,7 +24,8 @@
  *   daemon         1 to 64 bytes
  *   client_state   enum gate_name; client_name is 1 to 255 bytes where it is known, and not looked at otherwise
  *   client_kind    enum gate_kind, with client_high and client_low (see there)
- *   server_..      the same for the server's end of the connection
+ *   server_..      the same for the server's end of the connection; both addresses are held as IPv4 where they are IPv6 ones of 80 zero
+ *                  bits and then 16 ones (::ffff:10.1.2.3 as 10.1.2.3), so an IPv4 client may come on an IPv6 socket
  *   user           enum gate_user; user_name is 1 to 64 bytes where it is known, and not looked at otherwise
  * Names may hold any bytes. What is not among these sizes and numbers is refused by GATE_BAD_REQUEST. */
 #ifndef GATE_H
@@ -37,7 +38,7 @@
 extern "C" {
 #endif
 
-#define GATE_VERSION "2.0.0"
+#define GATE_VERSION "2.1.0"
 
 /* Numbers: of an answer, or of a refusal. */
 enum gate_number {
@@ -233,7 +234,8 @@ struct gate_command_answer gate_sheet_command(uint8_t *out, size_t out_len, cons
 
 /* May uid bind this port (0 to 65535) at this address, by authbind(1)'s byuid file: GATE_GRANTED, GATE_NO_LINE, or GATE_NOT_RULED,
  * which is what root and ports outside 1 to 1023 get by either file. mark says which file the text comes from (enum gate_mark); a port of
- * the other file's span gets GATE_NO_LINE. An unknown address is refused by 13, and so is a mark of neither kind. */
+ * the other file's span gets GATE_NO_LINE. An unknown address is refused by 13, and so is a mark of neither kind. The address stays as it is
+ * given: ::ffff:10.1.2.3 is IPv6 here. */
 struct gate_answer gate_byuid(const uint8_t *text, size_t text_len, uint32_t mark, uint32_t port, uint32_t kind, uint64_t high,
                               uint64_t low, uint32_t uid);
 
@@ -272,7 +274,7 @@ struct gate_written gate_expand(uint8_t *out, size_t out_len, const uint8_t *com
                                 const uint8_t *server_name, size_t server_name_len,
                                 uint32_t user, const uint8_t *user_name, size_t user_name_len, uint32_t process);
 
-/* Reads an address: n.n.n.n, or IPv6 as inet_pton reads it. Any other text is refused by 13. */
+/* Reads an address: n.n.n.n, or IPv6 as inet_pton reads it, ::ffff:10.1.2.3 too. Any other text is refused by 13. */
 struct gate_address gate_read_address(const uint8_t *text, size_t text_len);
 
 /* Writes an address: n.n.n.n, IPv6 by RFC 5952 section 4 in hex groups, or `unknown`; GATE_ADDRESS_ROOM bytes are always enough. */

@@ -98,10 +98,32 @@ static bool read_mask(const char *text, size_t len, uint32_t *mask) {
     return true;
 }
 
+/* The half of an element that is a host pattern. */
+static const char *pattern_of(struct scene *s, struct span word) {
+    const char *text = (const char *)s->joined.bytes + word.from, *at = memchr(text, '@', word.to - word.from);
+    return at ? at + 1 : text;
+}
+
+/* [address] or [address]/length of addresses that begin with 80 zero bits and 16 ones: a request has none, they are held as IPv4. */
+static void warn_of_mapped(struct scene *s, struct span word) {
+    const char *host = pattern_of(s, word), *end = (const char *)s->joined.bytes + word.to, *closed = memchr(host, ']', (size_t)(end - host));
+    struct gate_host net;
+    uint32_t length = 128;
+    if (*host != '[' || !closed || gate_host_read(&net, host + 1, (size_t)(closed - host - 1)) ||
+        (closed + 1 < end && !read_decimal(closed + 2, (size_t)(end - closed - 2), 128, &length)))
+        return;
+    if (net.high == 0 && net.low >> 32 == 0xffff && length >= 96) {
+        net.kind = GATE_IPV4;
+        net.low &= length == 96 ? 0 : UINT32_MAX << (128 - length);
+        uint8_t written[GATE_ADDRESS_ROOM];
+        struct gate_written len = gate_host_write(written, sizeof written, &net);
+        warn(s, word, "matches no address: ::ffff:n.n.n.n is held as IPv4; write %s/%u", shown_bytes(written, (size_t)len.count), length - 96);
+    }
+}
+
 /* net/mask with a bit of net outside mask. */
 static void warn_of_mask(struct scene *s, struct span word) {
-    const char *text = (const char *)s->joined.bytes + word.from, *at = memchr(text, '@', word.to - word.from);
-    const char *host = at ? at + 1 : text, *end = (const char *)s->joined.bytes + word.to, *slash = memchr(host, '/', (size_t)(end - host));
+    const char *host = pattern_of(s, word), *end = (const char *)s->joined.bytes + word.to, *slash = memchr(host, '/', (size_t)(end - host));
     struct gate_host net;
     uint32_t mask;
     if (!slash || gate_host_read(&net, host, (size_t)(slash - host)) || !read_mask(slash + 1, (size_t)(end - slash - 1), &mask))
@@ -115,10 +137,12 @@ static void warn_of_mask(struct scene *s, struct span word) {
     }
 }
 
-static void warn_of_masks(struct scene *s, struct span list) {
+static void warn_of_nets(struct scene *s, struct span list) {
     struct span word = {list.from, list.from};
-    while (next_word(&s->joined, list, &word))
+    while (next_word(&s->joined, list, &word)) {
         warn_of_mask(s, word);
+        warn_of_mapped(s, word);
+    }
 }
 
 /* Whether a list matches everything and never asks: ALL before any element with @, and no EXCEPT. */
@@ -153,8 +177,8 @@ static void warn_of_line(struct scene *s) {
         return;
     warn_of_option(s);
     warn_of_colons(s);
-    warn_of_masks(s, s->rule.daemons);
-    warn_of_masks(s, s->rule.clients);
+    warn_of_nets(s, s->rule.daemons);
+    warn_of_nets(s, s->rule.clients);
     warn_of_reach(s);
 }
 

@@ -38,6 +38,9 @@ static void set(struct text *t, const char *s, size_t len) {
 #define HOSTS(client_kind, server_kind) \
     TEXT(daemon), GATE_NAME_KNOWN, client_kind, 0, 0x0a000001, TEXT(client_name), GATE_NAME_UNKNOWN, server_kind, 1, 2, TEXT(server_name)
 #define REQUEST(user) HOSTS(GATE_IPV4, GATE_IPV6), user, TEXT(user_name)
+/* the same by a client without a name at ::ffff:10.1.2.3, at a server at ::ffff:192.0.2.1 */
+#define MAPPED(address) GATE_NAME_UNKNOWN, GATE_IPV6, 0, 0xffff00000000 | (address)
+#define MAPPED_REQUEST TEXT(daemon), MAPPED(0x0a010203), TEXT(client_name), MAPPED(0xc0000201), TEXT(server_name), 1, TEXT(user_name)
 #define BIND(protocol, port) 1, 1023, 1, 1, 80, m.groups, 2, protocol, port
 
 static void begin(void) {
@@ -116,6 +119,25 @@ static void verdicts(void) {
     expect("no allow", decided(gate_verdict(TEXT(allow), TEXT(deny), REQUEST(1)), GATE_DENIED, GATE_DENY, 1, 0, 0));
     SET(deny, ""), lend();
     expect("no rule", decided(gate_verdict(TEXT(allow), TEXT(deny), REQUEST(1)), GATE_GRANTED, GATE_NO_SECTION, 0, 0, 0));
+}
+
+/* An IPv4 client on an IPv6 socket: one definition, so every call that decides or expands makes the same of it. */
+static void mapped(void) {
+    begin();
+    SET(allow, "ALL@192.0.2.1: 10.: %a %A\n");
+    SET(sheet, "\0\0\0\x1a" "ALL@192.0.2.1: 10.: %a %A\n\0\0\0\x09" "ALL: ALL\n\0\0\0\0\0\0\0\0");
+    SET(command, "%h"), lend();
+    struct gate_answer verdict = gate_verdict(TEXT(allow), TEXT(deny), MAPPED_REQUEST);
+    expect("a mapped client", decided(verdict, GATE_GRANTED, GATE_ALLOW, 1, 19, 6));
+    expect("a mapped client, by a sheet", decided(gate_sheet_verdict(TEXT(sheet), MAPPED_REQUEST), GATE_GRANTED, GATE_ALLOW, 1, 23, 6));
+    expect("its command", commanded(gate_command(OUT(18), TEXT(allow), TEXT(deny), MAPPED_REQUEST, 7), verdict, "10.1.2.3 192.0.2.1", 18));
+    verdict = gate_sheet_verdict(TEXT(sheet), MAPPED_REQUEST), lend();
+    expect("its command, by a sheet", commanded(gate_sheet_command(OUT(18), TEXT(sheet), MAPPED_REQUEST, 7), verdict, "10.1.2.3 192.0.2.1", 18));
+    lend();
+    expect("its expansion", wrote(gate_expand(OUT(8), TEXT(command), MAPPED_REQUEST, 7), "10.1.2.3", 8));
+    lend();
+    expect("a bind at its address", word(gate_byuid(TEXT(byuid), GATE_PLAIN_FILE, 80, GATE_IPV6, 0, 0xffff0a010203, 432), GATE_NO_LINE));
+    expect("its address", wrote(gate_write_address(OUT(16), GATE_IPV6, 0, 0xffff0a010203), "::ffff:a01:203", 14));
 }
 
 #define VERDICT(user) gate_verdict(TEXT(allow), TEXT(deny), REQUEST(user))
@@ -434,6 +456,7 @@ static void unread(void) {
 
 int main(void) {
     verdicts();
+    mapped();
     commands();
     sheet_commands();
     byuid();

@@ -185,7 +185,7 @@ WIDE = [0, 1, (1 << 128) - 1, 0x3ffe0505000200010000000000000009, 0x3ffe05050002
 SMALL = [0, 0x0a000001, 0x839b49ff, 0x839b4a00, 0x0aff0001, 0xffffffff]
 HOSTS = [
     b"ALL", b"all", b"LOCAL", b"KNOWN", b"UNKNOWN", b"PARANOID", b".x.example", b".X.EXAMPLE", b".tue.nl", b".", b"..", b".a.",
-    b"[3ffe:505:2:1::]/64", b"[3ffe:505:2:1::9]", b"[::]/0", b"[::1]/128", b"[::1]/129", b"[::1]/01", b"[::1", b"[1.2.3.4]", b"[::]/",
+    b"[3ffe:505:2:1::]/64", b"[3ffe:505:2:1::9]", b"[::]/0", b"[::ffff:0:0]/96", b"[::ffff:10.0.0.1]", b"[::]/80", b"[::1]/128", b"[::1]/129", b"[::1]/01", b"[::1", b"[1.2.3.4]", b"[::]/",
     b"10.0.0.1", b"10.", b"10.0.", b"131.155.", b"131.155.72.", b"1.2.3.4.", b"10", b"131.155.72.0/255.255.254.0", b"131.155.72.0/23", b"0.0.0.0/0", b"10.0.0.0/8", b"10.0.0.0/33", b"10.0.0.0/08", b"10.0.0.1/8",
     b"10.0.0.1/255.0.0.0", b"10.0.0.0/255.0.0.0", b"0.0.0.0/0.0.0.0", b"010.0.0.1", b"256.0.0.1", b"1.2.3", b"1./255.",
     b"p.x.example", b"P.X.Example", b"host", b"host.", b"-a_b", b"a..b", b"x/y", b"a;b", b"\\", b"]", b"n" * 255, b"n" * 256,
@@ -267,9 +267,16 @@ def hosts_text(rng, sound):
     return text
 
 
+def near_mapped(rng):
+    """an IPv4 address as an IPv6 socket shows it, or with one bit of the 96 before it otherwise, or none of them set"""
+    front = rng.choice([0xffff, 0xffff, 0xffff, 0xffff ^ 1 << rng.randrange(96), 0x1ffff, 0xfffe, 0])
+    return "6", front << 32 | rng.choice([rng.choice(SMALL), rng.choice(SMALL), rng.getrandbits(32)])
+
+
 def host(rng):
     name = rng.choice([None, False, rng.choice(NAMES), rng.choice(NAMES), rng.choice(NAMES)])
-    address = rng.choice([None, ("4", rng.choice(SMALL)), ("4", rng.getrandbits(32)), ("6", rng.choice(WIDE)), ("6", rng.getrandbits(128))])
+    address = rng.choice([None, ("4", rng.choice(SMALL)), ("4", rng.getrandbits(32)), ("6", rng.choice(WIDE)), ("6", rng.getrandbits(128)),
+                          near_mapped(rng), near_mapped(rng)])
     if rng.random() < 0.015:
         name = rng.choice([b"", b"n" * 255, b"n" * 256, BAD])
     if rng.random() < 0.005:
@@ -295,7 +302,7 @@ def near_prefix(rng, width):
 def byuid_text(rng):
     def address():
         return rng.choice([b"10.0.0.0", b"10.0.0.0", b"10.0.0.1", b"0.0.0.0", b"0.0.0.0", b"::", b"::", b"255.255.255.255", b"::", b"::1", b"3ffe:505:2:1::9", b"3ffe:505:2:1::",
-                           b"010.0.0.1", b"10.0", b"::ffff:10.0.0.1", ref.address_text(("4", rng.getrandbits(32))), ref.address_text(("6", rng.getrandbits(128)))])
+                           b"010.0.0.1", b"10.0", b"::ffff:10.0.0.1", b"::ffff:0:0", ref.address_text(("4", rng.getrandbits(32))), ref.address_text(("6", rng.getrandbits(128)))])
 
     def port():
         return rng.choice([b"80", b"80", b"80", b"0", b"1", b"1023", b"65535", b"65536", b"080", b"", b"511", b"512", b"1023", b"%d" % rng.randrange(1200)])
@@ -306,7 +313,7 @@ def byuid_text(rng):
         if kind < 2:
             head += b"-" + address()
         elif kind < 6:
-            head += b"/" + rng.choice([b"0", b"8", b"16", b"24", b"32", b"33", b"64", b"128", b"129", b"08", b""])
+            head += b"/" + rng.choice([b"0", b"8", b"16", b"24", b"32", b"33", b"64", b"96", b"128", b"129", b"08", b""])
         if kind == 5:
             return head + b":" + port() + b"," + port()
         return head + b"," + port() + (b"-" + port() if rng.random() < 0.5 else b"")
@@ -404,7 +411,7 @@ def room_for(rng, result):
 
 def address_of(rng):
     return rng.choice([None, BAD, ("4", rng.choice(SMALL)), ("4", rng.getrandbits(32)), ("6", rng.choice(WIDE)), ("6", rng.getrandbits(128)),
-                       ("6", sum(rng.choice([0, 0, 1, 0x10, 0xffff, rng.getrandbits(16)]) << 16 * i for i in range(8)))])
+                       near_mapped(rng), ("6", sum(rng.choice([0, 0, 1, 0x10, 0xffff, rng.getrandbits(16)]) << 16 * i for i in range(8)))])
 
 
 def address_text(rng):
@@ -482,6 +489,25 @@ def main():
         case = b"%s/%d,80" % (ref.address_text((kind, net - beyond)), length), "plain", 80, (kind, address), 432
         compare("byuid", byuid(rng, lib.gate_byuid, *case), ref.byuid(*case), *case)
 
+    def mapped_cases():
+        """patterns of both kinds for the very address of a client and a server, what is written of it, and byuid lines"""
+        address = near_mapped(rng)
+        dotted, text = ref.address_text(("4", address[1] % 2 ** 32)), ref.address_text(address)
+        pattern = rng.choice([dotted, dotted.partition(b".")[0] + b".", dotted + b"/32", b"[%s]" % text, b"[::ffff:0:0]/96", b"[::]/0"])
+        rule = rng.choice([b"ALL: %s: %%a %%A %%h %%H %%c %%s\n", b"ALL@%s: ALL: %%A %%a\n"]) % pattern
+        allow, deny = rng.choice([(rule, b"ALL: ALL\n"), (b"", rule)])
+        name = rng.choice([None, None, False, b"host"])
+        r = dict(request(rng), client=(name, address), server=(name, rng.choice([address, near_mapped(rng)])))
+        expected = ref.verdict(allow, deny, r)
+        compare("verdict", verdict(rng, lib.gate_verdict, [allow, deny], [b"", allow, deny], r), expected, allow, deny, r)
+        command_case("command", lib.gate_command, [allow, deny], [b"", allow, deny], expected, r)
+        sheet = ref.sheet_of([allow, deny, b"", b""])
+        expected = ref.sheet_verdict(sheet, r)
+        compare("sheet_verdict", verdict(rng, lib.gate_sheet_verdict, [sheet], [sheet] * 3, r), expected, sheet, r)
+        command_case("sheet_command", lib.gate_sheet_command, [sheet], [sheet] * 3, expected, r)
+        case = rng.choice([b"%s,80" % dotted, b"%s,80" % text, b"::ffff:0:0/96,80", b"0.0.0.0/0,80"]), "plain", 80, address, 432
+        compare("byuid", byuid(rng, lib.gate_byuid, *case), ref.byuid(*case), *case)
+
     def byuid_request():
         address = rng.choice([host(rng)[1], ("4", 0x0a000000 + rng.randrange(3)), ("6", rng.randrange(3))])
         port = BAD if rng.random() < 0.02 else rng.choice([0, 1, 80, 80, 80, 80, 511, 512, 512, 1023, 1024])
@@ -538,6 +564,7 @@ def main():
     for _ in range(cases):
         hosts_case()
         prefix_cases()
+        mapped_cases()
         port_cases()
         sheet_cases()
         expand_case()

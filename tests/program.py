@@ -248,6 +248,9 @@ WARNINGS = {
         (b"sshd@fe:d:c:b:a:9:8:7: ALL", "write [fe:d:c:b:a:9:8:7]"), (b"sshd: host: x", None), (b"fade: bad: x", None),
         (b"sshd: 10.20.30.0/255.255.0.0", "the net of this mask is 10.20.0.0"), (b"sshd: a@10.20.30.0/255.255.0.0", "matches no address"),
         (b"sshd@1.2.3.4/0.0.0.0: ALL", "matches no address"), (b"sshd: 10.20.0.0/255.255.0.0", None), (b"ALL: ALL\nsshd: a", "never reached"),
+        (b"sshd: [::ffff:10.1.2.3]", "held as IPv4; write 10.1.2.3/32"), (b"sshd: a@[::FFFF:a01:203]/112", "write 10.1.0.0/16"),
+        (b"sshd@[::ffff:0:0]/96: ALL", "write 0.0.0.0/0"), (b"sshd: [::ffff:0:0]/95", None), (b"sshd: [::fffe:10.1.2.3]", None),
+        (b"sshd: [::10.1.2.3], [::1:ffff:10.1.2.3], [::]/0", None),
         (b"x, all: b ALL\nsshd: a", "never reached"), (b"ALL: ALL EXCEPT a\nsshd: a", None), (b"ALL: a@b ALL\nsshd: a", None), (b"ALL: ALL\n# x\n", None),
         (b"sshd: ALL\nsshd: a", None)],
     "byuid": [

@@ -348,6 +348,18 @@ def request_fault(r):
     return (13, 0, 0) if bad else None
 
 
+def held(r):
+    """the request with client and server addresses as IPv4 where 80 zero bits and 16 ones come first (document 02, request 7)"""
+    def as_ipv4(host):
+        name, address = host
+        if address in (None, BAD) or address[0] == "4":
+            return host
+        bits = f"{address[1]:0128b}"
+        return (name, ("4", int(bits[96:], 2))) if bits[:96] == "0" * 80 + "1" * 16 else host
+
+    return dict(r, client=as_ipv4(r["client"]), server=as_ipv4(r["server"]))
+
+
 # The verdict
 
 class Asks(Exception):
@@ -369,6 +381,7 @@ def list_matches(ws, look):
 
 def verdict(allow, deny, r):
     """a refusal, or (word, file, line, place of the raw command in that file, its bytes); no place where there are none"""
+    r = held(r)
     fault = over(1, allow) or over(2, deny) or hosts_fault(1, allow) or hosts_fault(2, deny) or request_fault(r)
     if fault:
         return fault
@@ -513,6 +526,7 @@ def inserted(letter, r, process):
 
 def expand(command, r, process, room):
     """a refusal, or the bytes written"""
+    r = held(r)
     joined = command.replace(b"\\\n", b"")
     if OUTSIDE.search(joined):
         return (5, 0, 0)

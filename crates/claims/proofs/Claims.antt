@@ -1,13 +1,14 @@
 -- All claims hold.
 -- Assumes nothing.
 use Rattle.claims.specs.Claims.{Claims}
-use Rattle.claims.proofs.ExampleClaims.{examples, mask-lengths}
+use Rattle.claims.proofs.ExampleClaims.{examples, mask-lengths, mapped-addresses}
 use Rattle.claims.proofs.AnswerLaws.{refusal-writes-nothing, every-decision, every-number}
 use Rattle.claims.proofs.SheetClaims.{cut-short, longest, unpack-pack, pack-unpack, sheet-as-texts}
 use Rattle.claims.proofs.AddressClaims.{read-written, bit-by-bit}
 use Rattle.claims.proofs.CommandClaims.{command-in-turn}
 use Rattle.claims.proofs.UserClaims.{ask-only-unfetched, name-cannot-matter}
 use Rattle.claims.proofs.FileClaims.{grants-own-span, other-span-no-line, neither-file}
+use Rattle.claims.proofs.MappedClaims.{no-mapped, held-as-v4}
 
 pub claims : Claims
 claims = record {
@@ -29,4 +30,7 @@ claims = record {
   grants-own-span = grants-own-span;
   other-span-no-line = other-span-no-line;
   neither-file = neither-file;
+  mapped-addresses = mapped-addresses;
+  no-mapped = no-mapped;
+  held-as-v4 = held-as-v4;
 }

@@ -13,7 +13,7 @@ use Rattle.section.specs.declared.Refusal.{Refusal}
 use Rattle.section.specs.Section as S
 use Rattle.section.specs.Section.{bytesAt, part, overLimit}
 use Rattle.section.specs.Refusal.{Outcome, refused, answered, _>>=_, faultNumber, placeless, _before_}
-use Rattle.elements.specs.Request.{Request}
+use Rattle.elements.specs.Request.{Request, held}
 use Rattle.rules.specs.declared.Answer.{Answer}
 use Rattle.rules.specs.declared.File.{File}
 use Rattle.rules.specs.declared.File.the-variants.{Neither, Allow, Deny}
@@ -60,7 +60,7 @@ command-deciding allow deny none b e = absurd (unanswered allow deny b e)
 command-deciding allow deny (some r) b e =
     by (b .file)
     (subst (λ (x : Answer). x .command .place + x .command .len ≤ fileLength allow deny (x .file)) (answered-search allow deny r b e)
-    (search-within allow deny r))
+    (search-within allow deny (held r)))
   where
     by : (f : File) → b .command .place + b .command .len ≤ fileLength allow deny f
         → commandBytes allow deny (answer (b .verdict) f (b .line) (b .command))

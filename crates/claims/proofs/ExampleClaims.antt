@@ -1,4 +1,4 @@
--- The eleven examples hold: each is computed from the definitions.
+-- The eleven examples hold, and those of document 02: each is computed from the definitions.
 -- Assumes nothing.
 use mathlib.Core.Bool.{true}
 use mathlib.Core.List.{flatMap}
@@ -8,6 +8,7 @@ use Rattle.text.specs.Text as Text
 use Rattle.text.specs.Number as Number
 use Rattle.section.specs.Refusal as Refusal
 use Rattle.address.specs.Address as Address
+use Rattle.address.specs.Mapped as Mapped
 use Rattle.lines.specs.Line as Line
 use Rattle.lines.specs.Rule as Rule
 use Rattle.lines.specs.Command as Command
@@ -24,6 +25,7 @@ use Rattle.portacl.specs.Portacl as Portacl
 use Rattle.sheet.specs.Sheet as Sheet
 use Rattle.claims.specs.Examples.{Examples}
 use Rattle.claims.specs.MaskExamples.{MaskExamples}
+use Rattle.claims.specs.MappedExamples.{MappedExamples}
 
 pub examples : Examples
 unfolding
@@ -103,4 +105,39 @@ mask-lengths = record {
   over = refl;
   more-digits = refl;
   fewer-fields = refl;
+}
+
+-- Document 02, request 7
+pub mapped-addresses : MappedExamples
+unfolding
+    Basics.any Basics.all Basics.first Basics.each
+    Text.equal Text.splitOnce Text.split Text.intercalate Text.lower Text.equalFold
+    Number.fromDigits Number.toDigits Number.numeral Number.readDecimal
+    Refusal.lowest
+    Address.samePrefix Address.readV4 Address.readGroup Address.readLastGroup Address.readGroups Address.readCompressed Address.readV6
+    Address.addrText
+    Mapped.isMapped Mapped.unmapped
+    Line.join Line.logicalLines Line.lines Line.hasBadByte
+    Rule.splitSeparator Rule.nonEmpty Rule.elements Rule.parseRule
+    Command.skipBlanks Command.trimmed Command.pieces Command.hasBadPercent
+    Request.wellFormed
+    Pattern.wildcard Pattern.isNameByte Pattern.domainPattern Pattern.bracketPattern Pattern.leadingFields Pattern.readMask Pattern.netMask Pattern.dottedPattern
+    Pattern.namePattern Pattern.hostPattern
+    Element.halves Element.reservedStart Element.isPlainName Element.daemonName Element.userHalf Element.daemonParts Element.clientParts
+    Element.daemonElement Element.clientElement
+    ListCheck.withoutExcept ListCheck.exceptMisplaced ListCheck.ruleFault Walk.included Walk.excluded Walk.ruleFound
+    Check.lineFault Check.hostsFault Search.lineAnswer Search.search Search.decide
+    Expand.inserted Expand.safeByte Expand.pieceText Expand.expansion Expand.expand
+    Byuid.readRange Byuid.readNet Byuid.readCommaForm Byuid.readColonForm Byuid.lineGrants Byuid.byuidDecision Byuid.decideByuid
+    flatMap
+mapped-addresses = record {
+  dotted = refl;
+  bracketed = refl;
+  server-dotted = refl;
+  bits-79 = refl;
+  no-ones = refl;
+  all-zero = refl;
+  written = refl;
+  byuid-dotted = refl;
+  byuid-given = refl;
 }

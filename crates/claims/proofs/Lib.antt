@@ -5,4 +5,5 @@ pub mod SheetClaims
 pub mod CommandClaims
 pub mod UserClaims
 pub mod FileClaims
+pub mod MappedClaims
 pub mod Claims

@@ -1,7 +1,7 @@
 -- The demands on the gate, as statements about what its exported calls answer: crate gate has a definition for each (Calls.antt), which its
 -- promise cites too. proofs/Claims.antt proves them all.
 -- Assumes nothing: these are statements.
-use Prim.Native.Nat.{ℕ, _+_, _≤_, _<_, _^_}
+use Prim.Native.Nat.{ℕ, _+_, _*_, _≤_, _<_, _^_}
 use mathlib.Core.Bool.{true, false}
 use mathlib.Core.List.{List}
 use mathlib.Core.Path.{_≡_}
@@ -15,6 +15,8 @@ use Rattle.section.specs.Section.{part, bytesAt}
 use Rattle.section.specs.Refusal.{refusal, placeless}
 use Rattle.address.specs.Address.{samePrefix}
 use Rattle.address.specs.Bits.{sameBits}
+use Rattle.address.specs.Mapped.{isMapped}
+use Rattle.elements.specs.Request.{Request, held}
 use Rattle.expansion.specs.Expand.{usesUser}
 use Rattle.portacl.specs.declared.Settings.{Settings}
 use Rattle.sheet.specs.Sheet.{Texts, texts}
@@ -22,7 +24,8 @@ use Rattle.codes.specs.declared.GateAnswer.{GateAnswer}
 use Rattle.codes.specs.declared.GateCommand.{GateCommand}
 use Rattle.codes.specs.declared.GateParts.{GateParts}
 use Rattle.codes.specs.declared.GateWritten.{GateWritten}
-use Rattle.codes.specs.Requests.{RequestNumbers, requestNumbers}
+use Rattle.codes.specs.declared.request.HostNumbers.{HostNumbers}
+use Rattle.codes.specs.Requests.{RequestNumbers, hostNumbers, requestNumbers}
 use Rattle.codes.specs.Answers.{granted, denied, ask, noLine, wordAnswer}
 use Rattle.codes.specs.Answers.{refusalAnswer, refusedCheck, accepted, refusedParts, countWritten, withCount, addressWith}
 use Rattle.gate.specs.Calls.{gateVerdict, gateSheetVerdict, gateByuid, gateSheetByuid, gatePortacl, gateSheetPortacl}
@@ -30,6 +33,7 @@ use Rattle.gate.specs.Calls.{gateCheck, gateUnpack, gateReadAddress, Wrote, gat
 use Rattle.gate.specs.Calls.{WroteCommand, gateCommand, gateSheetCommand}
 use Rattle.claims.specs.Examples.{Examples}
 use Rattle.claims.specs.MaskExamples.{MaskExamples}
+use Rattle.claims.specs.MappedExamples.{MappedExamples}
 
 -- numbers that fit a byte
 abbrev pub AreBytes : List ℕ → Type 0
@@ -254,6 +258,27 @@ abbrev pub NeitherFile : Type 0
 NeitherFile = (text : List ℕ) (mark port kind high low uid : ℕ) → length text ≤ 8192 → 2 ≤ mark
     → gateByuid text mark port kind high low uid ≡ refusalAnswer (placeless F.BadRequest)
 
+-- request 7: "so no record it then works on holds such an IPv6 address"
+abbrev pub NoMapped : Type 0
+NoMapped = (r : Request) → (isMapped (held r .client .host .addr) ≡ false) × (isMapped (held r .server .host .addr) ≡ false)
+
+-- the numbers of one host: as they are, or of its IPv4 address, and of the IPv6 one that "shows up" for it
+pub data SameHost : HostNumbers → HostNumbers → Type 0 where
+  as-given : (h : HostNumbers) → SameHost h h
+  as-v4 : (state high low : ℕ) → low < 2 ^ 32 → SameHost (hostNumbers state 6 0 (0xffff * 2 ^ 32 + low)) (hostNumbers state 4 high low)
+
+abbrev pub withHosts : RequestNumbers → HostNumbers → HostNumbers → RequestNumbers
+withHosts n client server = requestNumbers (n .daemon) client (n .clientName) server (n .serverName) (n .user) (n .userName)
+
+-- "Client and server addresses in a request are to be held as IPv4": both get the same answer, and the same bytes
+pub record HeldAsV4 : Type 0 where
+  pub alike-by-texts : (allow deny : List ℕ) (n : RequestNumbers) (c s : HostNumbers) → SameHost (n .client) c → SameHost (n .server) s
+      → gateVerdict allow deny n ≡ gateVerdict allow deny (withHosts n c s)
+  pub alike-by-sheet : (sheet : List ℕ) (n : RequestNumbers) (c s : HostNumbers) → SameHost (n .client) c → SameHost (n .server) s
+      → gateSheetVerdict sheet n ≡ gateSheetVerdict sheet (withHosts n c s)
+  pub alike-written : (command : List ℕ) (n : RequestNumbers) (c s : HostNumbers) → SameHost (n .client) c → SameHost (n .server) s
+      → (process : ℕ) (out : List ℕ) → gateExpand command n process out ≡ gateExpand command (withHosts n c s) process out
+
 -- ## All
 
 pub record Claims : Type 0 where
@@ -275,3 +300,6 @@ pub record Claims : Type 0 where
   pub grants-own-span : GrantsOwnSpan
   pub other-span-no-line : OtherSpanNoLine
   pub neither-file : NeitherFile
+  pub mapped-addresses : MappedExamples
+  pub no-mapped : NoMapped
+  pub held-as-v4 : HeldAsV4

@@ -1,3 +1,4 @@
 pub mod ElementLaws
 pub mod SeenLaws
+pub mod HeldLaws
 pub mod Examples

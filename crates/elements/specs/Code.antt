@@ -5,6 +5,7 @@
 --   elementSeen look q kind e    == what is wrong with e and, if it is looked at, what it finds of the request q
 --   kindSeen look q o            == whether o is an element and, if it is looked at, what it finds of the request q
 --   withUser r u name            == the request r, with that user
+--   heldAt q                     == the request q by its places, as it is held
 --   atSign e                     == the place of the `@` that parts e
 -- Assumes nothing: these are definitions.
 use Prim.Native.Nat.{ℕ, _+_}
@@ -29,7 +30,8 @@ use Rattle.elements.specs.declared.element.ElementFault.{ElementFault}
 use Rattle.elements.specs.declared.element.ElementSeen.{ElementSeen}
 use Rattle.elements.specs.declared.element.KindSeen.{KindSeen}
 use Rattle.elements.specs.declared.element.ElementFault.the-variants as E
-use Rattle.elements.specs.Request.{Request, requestOf, userCase}
+use Rattle.elements.specs.declared.request.Request.{Request as Places}
+use Rattle.elements.specs.Request.{Request, requestOf, userCase, heldHost}
 use Rattle.elements.specs.Element.{Element, foundIf, reservedStart, userHalf, lookAt}
 
 -- what is wrong with an element of a kind of list
@@ -62,6 +64,18 @@ clientRequest c u name = requestOf [] c nobody u name
 -- "Two are alike in all else when at most the user differs"
 abbrev pub withUser : Request → User → List ℕ → Request
 withUser r u name = record { daemon = r .daemon; client = r .client; server = r .server; user = u; userName = name }
+
+-- a request as it is held: its names stay at their places
+unfoldable pub heldAt : Places → Places
+heldAt q = record {
+  daemon = q .daemon;
+  client = heldHost (q .client);
+  «client_name» = q .«client_name»;
+  server = heldHost (q .server);
+  «server_name» = q .«server_name»;
+  user = q .user;
+  «user_name» = q .«user_name»;
+}
 
 -- the place of the `@` that parts an element, the length where none does
 unfoldable pub atSign : List ℕ → ℕ

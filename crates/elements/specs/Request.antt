@@ -1,13 +1,16 @@
--- Document 01, "Elements", "Asking" and "The words of demand 3": what a request is.
+-- Document 01, "Elements", "Asking" and "The words of demand 3": what a request is; document 02, request 7: as what it is held.
 --   userCase r ..     == a value for each state of a user
 --   wellFormed r      == every field is within its size
+--   held r            == the request that a verdict and an expansion work on
 -- Assumes nothing: these are definitions.
 use Prim.Native.Nat.{ℕ}
 use mathlib.Core.Bool.{Bool, true, _&&_}
 use mathlib.Core.List.{List}
 use lib.ListN.{length}
 use Rattle.text.specs.Text.{inRange}
-use Rattle.patterns.specs.Host.{Endpoint, nameCase}
+use Rattle.address.specs.Mapped.{unmapped}
+use Rattle.patterns.specs.declared.Host.{Host}
+use Rattle.patterns.specs.Host.{Endpoint, endpoint, nameCase}
 use Rattle.elements.specs.declared.User.{User}
 use Rattle.elements.specs.declared.User.the-variants as U
 
@@ -34,3 +37,12 @@ wellFormed r =
   where
     nameFits : Endpoint → Bool
     nameFits h = nameCase h true true (inRange 1 255 (length (h .name)))
+
+-- Document 02, request 7: "Client and server addresses in a request are to be held as IPv4 when .."
+abbrev pub heldHost : Host → Host
+heldHost h = record { name = h .name; addr = unmapped (h .addr) }
+
+abbrev pub held : Request → Request
+held r =
+    requestOf (r .daemon) (endpoint (heldHost (r .client .host)) (r .client .name)) (endpoint (heldHost (r .server .host)) (r .server .name))
+    (r .user) (r .userName)

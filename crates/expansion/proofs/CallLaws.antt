@@ -27,7 +27,8 @@ use Rattle.lines.specs.Line.{join, hasBadByte, isTooLong}
 use Rattle.lines.specs.Command.{Piece, literal, directive, pieces, skipBlanks, trimmed, hasBadPercent}
 use Rattle.lines.specs.Parts.{trimBlanks, anyBadPercent}
 use Rattle.lines.proofs.CommandLaws.{trimmed-join}
-use Rattle.elements.specs.Request.{Request, wellFormed}
+use Rattle.elements.specs.Request.{Request, wellFormed, held}
+use Rattle.elements.proofs.HeldLaws.{held-fits}
 use Rattle.elements.specs.Places.{requestAt}
 use Rattle.elements.specs.declared.request.Request.{Request as Places}
 use Rattle.section.proofs.PartLaws.{part-in, four-put}
@@ -141,9 +142,9 @@ module _ (c o b : List ℕ) (n : ℕ) (is-n : n ≡ length (join c)) (is-o : o �
     line-trimmed : t ≡ trimmed c
     line-trimmed = is-t ∙ rw line-text (sym (trimmed-join c))
 
-    pub line-gave : (r : Request) (process : ℕ) (d p : List ℕ) (v : Written) → Gave d p v (expandTrimmed t r process (length d))
+    pub line-gave : (x r : Request) → x ≡ r → (process : ℕ) (d p : List ℕ) (v : Written) → Gave d p v (expandTrimmed t x process (length d))
         → Gave d p v (expandTrimmed (trimmed c) r process (length d))
-    line-gave r process d p v g = subst (λ (u : List ℕ). Gave d p v (expandTrimmed u r process (length d))) line-trimmed g
+    line-gave x r is-x process d p v g = rw (← is-x) (subst (λ (u : List ℕ). Gave d p v (expandTrimmed u x process (length d))) line-trimmed g)
 
     pub line-short : length (join c) ≤ 2047 → length t ≤ 2047
     line-short h = rw (is-t, line-text) (omega (arith, length-trimBlanks (join c)))
@@ -178,7 +179,7 @@ module _ (c : List ℕ) (r : Request) (process : ℕ) (d : List ℕ) (j : Joined
         let l : 2047 < length (join c) = omega (arith, is-len) in
         rw (rising-faults, not-true (hasBadByte (join c)) (sym is-clean ∙ e), lt-ltb 2047 (length (join c)) l, g) (refl, refl)
 
-    pub line-written : j .len ≤ 2047 → (o : List ℕ) (v : Written) → Gave d o v (expandTrimmed (trimmed c) r process (length d))
+    pub line-written : j .len ≤ 2047 → (o : List ℕ) (v : Written) → Gave d o v (expandTrimmed (trimmed c) (held r) process (length d))
         → Gave d o v (expand c (some r) process (length d))
     unfolding expand expandTrimmed expansion hasBadPercent anyBadPercent lowest
-    line-written h o v g = rw (not-true (hasBadByte (join c)) (sym is-clean ∙ e), le-ltb 2047 (length (join c)) (line-length h)) g
+    line-written h o v g = rw (not-true (hasBadByte (join c)) (sym is-clean ∙ e), le-ltb 2047 (length (join c)) (line-length h)) (rw (held-fits r) at g)

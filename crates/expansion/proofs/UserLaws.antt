@@ -12,7 +12,7 @@ use Rattle.text.proofs.BasicLaws.{or-false}
 use Rattle.lines.specs.Line.{join}
 use Rattle.lines.specs.Command.{Piece, literal, directive, pieces, isDirective, skipBlanks, trimmed}
 use Rattle.elements.specs.declared.User.{User}
-use Rattle.elements.specs.Request.{Request, wellFormed}
+use Rattle.elements.specs.Request.{Request, wellFormed, held}
 use Rattle.elements.specs.Code.{withUser}
 use Rattle.expansion.specs.Expand.{inserted, pieceText, expansion, usesUser, expand}
 
@@ -42,8 +42,8 @@ module _ (r : Request) (u u′ : User) (t t′ : List ℕ) (n : ℕ) where
   unfolding expansion usesUser
   expansion-same c h = pieces-same (pieces (trimmed c)) h
 
-  -- the whole call in the same room, refusals too, where both users fit or neither does
-  pub expand-same : (c : List ℕ) (room : ℕ) → wellFormed (withUser r u t) ≡ wellFormed (withUser r u′ t′) → usesUser c ≡ false
-      → expand c (some (withUser r u t)) n room ≡ expand c (some (withUser r u′ t′)) n room
-  unfolding expand
-  expand-same c room e h = rw (e, expansion-same c h)
+-- the whole call in the same room, refusals too, where both users fit or neither does
+pub expand-same : (r : Request) (u u′ : User) (t t′ : List ℕ) (n : ℕ) (c : List ℕ) (room : ℕ) → wellFormed (withUser r u t) ≡ wellFormed (withUser r u′ t′)
+    → usesUser c ≡ false → expand c (some (withUser r u t)) n room ≡ expand c (some (withUser r u′ t′)) n room
+unfolding expand
+expand-same r u u′ t t′ n c room e h = rw (e, expansion-same (held r) u u′ t t′ n c h)

@@ -18,7 +18,7 @@ use Rattle.address.specs.Address.{addrText}
 use Rattle.lines.specs.Line.{join, hasBadByte, isTooLong}
 use Rattle.lines.specs.Command.{Piece, literal, directive, pieces, isDirective, trimmed, hasBadPercent}
 use Rattle.patterns.specs.Host.{Endpoint, nameCase, nameKnown, addrKnown}
-use Rattle.elements.specs.Request.{Request, userCase, wellFormed}
+use Rattle.elements.specs.Request.{Request, userCase, wellFormed, held}
 
 -- "`%n %N` name, or `unknown`, or `paranoid`; `%h %H` the known name, else the address"
 abbrev pub nameText : Endpoint → List ℕ
@@ -60,7 +60,8 @@ unfoldable pub usesUser : List ℕ → Bool
 usesUser command = any (isDirective (among "uc")) (pieces (trimmed command))
 
 -- "A command handed in directly is joined and trimmed too, and checked for 5, 6 and 11, section and line 0, then 13, then 14."
+-- Document 02, request 7: "Every .. expansion makes this change first, whoever built the request"
 unfoldable pub expand : List ℕ → Option Request → ℕ → ℕ → Outcome (List ℕ)
 expand c o process room =
     atPlace 0 0 (lowest ((F.BadByte, hasBadByte (join c)) ∷ (F.LongLine, isTooLong (join c)) ∷ (F.BadPercent, hasBadPercent c) ∷ []))
-    before fitting wellFormed o (λ r. withinRoom room (expansion r process c))
+    before fitting wellFormed o (λ r. withinRoom room (expansion (held r) process c))

@@ -26,7 +26,7 @@ ghost use Rattle.text.specs.Text.{isLetter, isDigit, among};
 ghost use Rattle.section.specs.Refusal.{withinRoom, writtenOf, lentAfter};
 ghost use Rattle.lines.specs.Line.{join};
 ghost use Rattle.lines.specs.Command.{trimmed};
-ghost use Rattle.elements.specs.Request.{wellFormed};
+ghost use Rattle.elements.specs.Request.{wellFormed, held as heldAs};
 ghost use Rattle.elements.specs.Places.{requestAt};
 ghost use Rattle.expansion.specs.Expand.{safeByte, expand as expandBy};
 ghost use Rattle.expansion.specs.Code.{textsOf, givenAt, expansionBy, expandTrimmed};
@@ -127,7 +127,7 @@ fn expand_trimmed<'a>(
     Written::Refused(section::placeless(Fault::BadRequest))
 }
 
-// Expands a command whose bytes may stand in a line, and which has at most 2,047 of them when joined.
+// Expands a command whose bytes may stand in a line, and which has at most 2,047 of them when joined, for the request as it is held.
 fn expand_line<'a>(
     out: &mut [u8],
     command: &'a [u8],
@@ -137,15 +137,16 @@ fn expand_line<'a>(
 ) -> Written
     requires { ⌜ length (join (now command)) ≤ 2047 ⌝ }
     ensures answer { λ r. ⌜ r
-        ≡ writtenOf (expandTrimmed (trimmed (now (command .entry))) (requestAt (now (names .entry)) request) process (length (now (out .entry)))) ⌝ }
+        ≡ writtenOf (expandTrimmed (trimmed (now (command .entry))) (heldAs (requestAt (now (names .entry)) request)) process (length (now (out .entry)))) ⌝ }
     ensures holds { λ _. ⌜ now (out .exit)
         ≡ lentAfter (now (out .entry))
-        (expandTrimmed (trimmed (now (command .entry))) (requestAt (now (names .entry)) request) process (length (now (out .entry)))) ⌝ }
+        (expandTrimmed (trimmed (now (command .entry))) (heldAs (requestAt (now (names .entry)) request)) process (length (now (out .entry)))) ⌝ }
 {
+    let held = elements::request::held(request);
     let mut line = [0u8; 2047];
     let n = join_into(&mut line, command);
     let t = trim(&line[..n]);
-    expand_trimmed(out, t, names, request, process)
+    expand_trimmed(out, t, names, held, process)
 }
 
 // Expands a command for a request at the front of out; a refusal leaves out as it was.

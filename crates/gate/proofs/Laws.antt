@@ -20,7 +20,7 @@ use Rattle.address.specs.declared.Addr.the-variants as A
 use Rattle.address.specs.declared.read.AddressRead.{AddressRead}
 use Rattle.address.specs.Address.{asRead, readAddress, writeAddress}
 use Rattle.elements.specs.declared.request.Request.{Request as Places}
-use Rattle.elements.specs.Request.{Request, wellFormed}
+use Rattle.elements.specs.Request.{Request, wellFormed, held}
 use Rattle.elements.specs.Places.{requestAt}
 use Rattle.rules.specs.declared.Answer.{Answer}
 use Rattle.rules.specs.declared.Ruling.{Ruling as VerdictRuling}
@@ -69,7 +69,7 @@ module _ (names : List ℕ) (q : Places) (n : RequestNumbers)
   unfolding decide
   decide-read allow deny =
       ap (λ (x : Outcome Answer). (overLimit S.allow allow orElse overLimit S.deny deny orElse hostsFault S.allow allow orElse hostsFault S.deny deny) before x)
-      (fitting-same wellFormed (λ r. answered (search allow deny r)) (some (requestAt names q)) (request n) same)
+      (fitting-same wellFormed (λ r. answered (search allow deny (held r))) (some (requestAt names q)) (request n) same)
 
   pub verdict-by : (allow deny : List ℕ) (o : VerdictRuling) (a : GateAnswer) → o ≡ Search.verdictRuling (decide allow deny (some (requestAt names q)))
       → a ≡ verdictNumbers o → a ≡ verdictAnswer (decide allow deny (request n))
@@ -93,7 +93,7 @@ module _ (names : List ℕ) (q : Places) (n : RequestNumbers)
     expand-read =
         ap (λ (x : Outcome (List ℕ)). atPlace 0 0
         (lowest ((F.BadByte, hasBadByte (join command)) ∷ (F.LongLine, isTooLong (join command)) ∷ (F.BadPercent, hasBadPercent command) ∷ [])) before x)
-        (fitting-same wellFormed (λ r. withinRoom (length out) (expansion r process command)) (some (requestAt names q)) (request n) same)
+        (fitting-same wellFormed (λ r. withinRoom (length out) (expansion (held r) process command)) (some (requestAt names q)) (request n) same)
 
     pub expand-answer : (w : Written) (a : GateWritten) → w ≡ writtenOf (expand command (some (requestAt names q)) process (length out))
         → a ≡ writtenNumbers w → a ≡ writtenAnswer (expand command (request n) process (length out))

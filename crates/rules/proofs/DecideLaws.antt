@@ -17,7 +17,8 @@ use Rattle.section.specs.Refusal.{refused, answered, refusal, placeless, _befor
 use Rattle.section.specs.Section as S
 use Rattle.section.specs.Section.{part}
 use Rattle.lines.specs.Line.{lines}
-use Rattle.elements.specs.Request.{Request, wellFormed}
+use Rattle.elements.specs.Request.{Request, wellFormed, held}
+use Rattle.elements.proofs.HeldLaws.{held-fits}
 use Rattle.rules.specs.declared.Verdict.the-variants.{Granted, Denied}
 use Rattle.rules.specs.declared.File.the-variants.{Neither, Allow, Deny}
 use Rattle.rules.specs.declared.Answer.{Answer}
@@ -102,14 +103,14 @@ module _ (allow deny : List ℕ) (r : Request) (x : Bool) (is-x : x ≡ ltb 1638
     unfolding decide
     decide-deny e g is-g = rw (← is-x, within, ← is-y, e, is-g)
 
-    pub decide-pass : y ≡ false → (p : Pass) → p ≡ passBoth r allow deny → (b : Bool) → b ≡ wellFormed r → (q : Ruling) → q ≡ rulingBy p b
-        → q ≡ verdictRuling (decide allow deny (some r))
+    pub decide-pass : y ≡ false → (h : Request) → h ≡ held r → (p : Pass) → p ≡ passBoth h allow deny → (b : Bool) → b ≡ wellFormed h
+        → (q : Ruling) → q ≡ rulingBy p b → q ≡ verdictRuling (decide allow deny (some r))
     unfolding decide search passBoth
-    decide-pass e p is-p b is-b q is-q =
+    decide-pass e h is-h p is-p b is-b q is-q =
         is-q
-        ∙ rw (is-p, is-b, ← is-x, within, ← is-y, e)
+        ∙ rw (is-p, is-b, is-h, held-fits r, ← is-x, within, ← is-y, e)
         (rulingBy-pass (hostsFault S.allow allow orElse hostsFault S.deny deny)
-        (first (lineAnswer Granted Allow r) (lines allow) orElse first (lineAnswer Denied Deny r) (lines deny)) (wellFormed r))
+        (first (lineAnswer Granted Allow (held r)) (lines allow) orElse first (lineAnswer Denied Deny (held r)) (lines deny)) (wellFormed r))
 
 -- ## The part of a file
 

@@ -19,7 +19,7 @@ use Rattle.elements.specs.declared.User.the-variants as U
 use Rattle.elements.specs.declared.Found.{Found}
 use Rattle.elements.specs.declared.Found.the-variants.{No, Yes, Ask}
 use Rattle.patterns.specs.Host.{Endpoint}
-use Rattle.elements.specs.Request.{Request, userCase, wellFormed}
+use Rattle.elements.specs.Request.{Request, userCase, wellFormed, held}
 use Rattle.elements.specs.Code.{withUser}
 use Rattle.patterns.specs.Pattern.{hostPattern}
 use Rattle.elements.specs.Element.{halves, foundIf, daemonName, userHalf, daemonParts, clientParts, daemonElement, clientElement, lookAt}
@@ -193,20 +193,26 @@ module _ (r : Request) (t₀ : List ℕ) (u : User) (t : List ℕ) where
       two none o′ none p′ f g h = rw (f tt, g tt)
       two none o′ (some a) p′ f g h = rw (f tt, g h)
 
-  -- a call that neither asks nor is refused gives every user that fits the same outcome; so does one that is refused
-  pub decide-same : wellFormed asked ≡ wellFormed unasked → (allow deny : List ℕ) → QuietOutcome (decide allow deny (some unasked))
-      → decide allow deny (some asked) ≡ decide allow deny (some unasked)
-  unfolding decide
-  decide-same e a d = by
-      (overLimit S.allow a orElse overLimit S.deny d orElse hostsFault S.allow a orElse hostsFault S.deny d)
-      (wellFormed unasked) (wellFormed asked) e
-    where
-      by : (o : Option Refusal) (b b′ : Bool) → b′ ≡ b → QuietOutcome (o before (if b then answered (search a d unasked) else refused (placeless F.BadRequest)))
-          → (o before (if b′ then answered (search a d asked) else refused (placeless F.BadRequest)))
-          ≡ (o before (if b then answered (search a d unasked) else refused (placeless F.BadRequest)))
-      by (some f) b b′ e h = refl
-      by none false b′ e h = rw e
-      by none true b′ e h = rw e (ap answered (search-same a d h))
+-- a call that neither asks nor is refused gives every user that fits the same outcome; so does one that is refused
+pub decide-same : (r : Request) (t₀ : List ℕ) (u : User) (t : List ℕ) → wellFormed (withUser r u t) ≡ wellFormed (withUser r U.NotFetched t₀)
+    → (allow deny : List ℕ) → QuietOutcome (decide allow deny (some (withUser r U.NotFetched t₀)))
+    → decide allow deny (some (withUser r u t)) ≡ decide allow deny (some (withUser r U.NotFetched t₀))
+unfolding decide
+decide-same r t₀ u t e a d = by
+    (overLimit S.allow a orElse overLimit S.deny d orElse hostsFault S.allow a orElse hostsFault S.deny d)
+    (wellFormed (withUser r U.NotFetched t₀)) (wellFormed (withUser r u t)) e
+  where
+    unasked : Answer
+    unasked = search a d (held (withUser r U.NotFetched t₀))
+
+    asked : Answer
+    asked = search a d (held (withUser r u t))
+
+    by : (o : Option Refusal) (b b′ : Bool) → b′ ≡ b → QuietOutcome (o before (if b then answered unasked else refused (placeless F.BadRequest)))
+        → (o before (if b′ then answered asked else refused (placeless F.BadRequest))) ≡ (o before (if b then answered unasked else refused (placeless F.BadRequest)))
+    by (some f) b b′ e h = refl
+    by none false b′ e h = rw e
+    by none true b′ e h = rw e (ap answered (search-same (held r) t₀ u t a d h))
 
 -- ## Who has fetched is never asked
 
@@ -328,15 +334,15 @@ module _ (r : Request) (fetched : Fetched (r .user)) where
       by none none h k = tt
       by none (some a) h k = k
 
-  pub decide-quiet : (allow deny : List ℕ) → QuietOutcome (decide allow deny (some r))
-  unfolding decide
-  decide-quiet a d = by
-      (overLimit S.allow a orElse overLimit S.deny d orElse hostsFault S.allow a orElse hostsFault S.deny d) (wellFormed r)
-    where
-      by : (o : Option Refusal) (b : Bool) → QuietOutcome (o before (if b then answered (search a d r) else refused (placeless F.BadRequest)))
-      by (some f) b = tt
-      by none false = tt
-      by none true = search-quiet a d
+pub decide-quiet : (r : Request) → Fetched (r .user) → (allow deny : List ℕ) → QuietOutcome (decide allow deny (some r))
+unfolding decide
+decide-quiet r fetched a d = by
+    (overLimit S.allow a orElse overLimit S.deny d orElse hostsFault S.allow a orElse hostsFault S.deny d) (wellFormed r)
+  where
+    by : (o : Option Refusal) (b : Bool) → QuietOutcome (o before (if b then answered (search a d (held r)) else refused (placeless F.BadRequest)))
+    by (some f) b = tt
+    by none false = tt
+    by none true = search-quiet (held r) fetched a d
 
 pub decide-none-quiet : (allow deny : List ℕ) → QuietOutcome (decide allow deny none)
 unfolding decide

@@ -19,7 +19,7 @@ use Rattle.lines.specs.Rule.{Rule, parseRule}
 use Rattle.lines.specs.Command.{trimmed}
 use Rattle.elements.specs.declared.Found.{Found}
 use Rattle.elements.specs.declared.Found.the-variants as Found
-use Rattle.elements.specs.Request.{Request, wellFormed}
+use Rattle.elements.specs.Request.{Request, wellFormed, held}
 use Rattle.lists.specs.Walk.{ruleFound}
 use Rattle.rules.specs.declared.Verdict.{Verdict}
 use Rattle.rules.specs.declared.Verdict.the-variants.{Granted, Denied, Ask}
@@ -62,11 +62,12 @@ search allow deny r = Option·getD
     (answer Granted Neither 0 (part 0 0))
 
 -- "per section in turn, .. limit (2) ..; then allow, deny ..; then 13"; "A call that takes only some texts makes only
--- their checks, over the whole of each text, before any verdict."
+-- their checks, over the whole of each text, before any verdict." Document 02, request 7: "Every verdict .. makes this change
+-- first, whoever built the request"
 unfoldable pub decide : List ℕ → List ℕ → Option Request → Outcome Answer
 decide allow deny o =
     (overLimit S.allow allow orElse overLimit S.deny deny orElse hostsFault S.allow allow orElse hostsFault S.deny deny)
-    before fitting wellFormed o (λ r. answered (search allow deny r))
+    before fitting wellFormed o (λ r. answered (search allow deny (held r)))
 
 abbrev pub verdictRuling : Outcome Answer → Ruling
 verdictRuling (refused f) = Ruling.Refused f

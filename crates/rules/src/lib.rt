@@ -144,8 +144,9 @@ pub fn decide(allow: &[u8], deny: &[u8], names: &[u8], request: Request) -> Ruli
     if section::Deny::over(deny.len()) {
         return Ruling::Refused(section::Deny::refusal(Fault::OverLimit, 0));
     }
-    let pass = pass_both(allow, deny, names, request);
-    ruling_by(pass, elements::request::fits(names, request))
+    let held = elements::request::held(request);
+    let pass = pass_both(allow, deny, names, held);
+    ruling_by(pass, elements::request::fits(names, held))
 }
 
 // The raw command of an answer, out of whichever file decided; empty where there is none.

@@ -18,7 +18,8 @@ use Rattle.section.specs.declared.Refusal.{Refusal}
 use Rattle.section.specs.Refusal.{Outcome, refused, answered, _>>=_, placeless, refusing, _before_}
 use Rattle.section.specs.Section as S
 use Rattle.section.specs.Section.{bytesAt, Section, part, overLimit}
-use Rattle.elements.specs.Request.{Request, wellFormed}
+use Rattle.elements.specs.Request.{Request, wellFormed, held}
+use Rattle.elements.proofs.HeldLaws.{held-fits}
 use Rattle.rules.specs.declared.Verdict.the-variants.{Granted}
 use Rattle.rules.specs.declared.File.{File}
 use Rattle.rules.specs.declared.File.the-variants.{Neither, Allow, Deny}
@@ -179,50 +180,53 @@ module _ (sheet : List ℕ) (p : Parts) (framed : frame sheet ≡ answered p) (r
       (λ p. decide (bytesAt sheet (p .allow)) (bytesAt sheet (p .deny)) (some r) >>= λ a. answered (inSheet p a)))
 
   pub sheet-decided : verdictRuling (decideSheet sheet (some r))
-      ≡ placed p (decidedBy (bytesAt sheet (p .allow)) (bytesAt sheet (p .deny)) (bytesAt sheet (p .portacl)) r)
+      ≡ placed p (decidedBy (bytesAt sheet (p .allow)) (bytesAt sheet (p .deny)) (bytesAt sheet (p .portacl)) (held r))
   unfolding textsFault decide decidedBy
   sheet-decided =
       let f = frame-answered sheet p framed in
-      let s = pass-search (bytesAt sheet (p .allow)) (bytesAt sheet (p .deny)) r in
+      let s = pass-search (bytesAt sheet (p .allow)) (bytesAt sheet (p .deny)) (held r) in
       sym
-      (ap (λ (q : Pass). placed p (rulingBy (combined q (passOf (portaclFault (bytesAt sheet (p .portacl))) none)) (wellFormed r))) (s .1)
+      (ap (λ (q : Pass). placed p (rulingBy (combined q (passOf (portaclFault (bytesAt sheet (p .portacl))) none)) (wellFormed (held r)))) (s .1)
       ∙ placed-ruling p (hostsFault S.allow (bytesAt sheet (p .allow))) (hostsFault S.deny (bytesAt sheet (p .deny)))
-      (portaclFault (bytesAt sheet (p .portacl))) (s .0) (wellFormed r)
-      ∙ rw (by-frame, within-limit (f .allow), within-limit (f .deny), within-limit (f .byuid), within-limit (f .portacl), ← (s .2)))
+      (portaclFault (bytesAt sheet (p .portacl))) (s .0) (wellFormed (held r))
+      ∙ rw (held-fits r, by-frame, within-limit (f .allow), within-limit (f .deny), within-limit (f .byuid), within-limit (f .portacl), ← (s .2)))
 
-  module _ (x : Ruling) (is-x : x ≡ decidedBy (bytesAt sheet (p .allow)) (bytesAt sheet (p .deny)) (bytesAt sheet (p .portacl)) r) where
+  module _ (h : Request) (is-h : h ≡ held r) (x : Ruling)
+      (is-x : x ≡ decidedBy (bytesAt sheet (p .allow)) (bytesAt sheet (p .deny)) (bytesAt sheet (p .portacl)) h) where
     is-placed : placed p x ≡ verdictRuling (decideSheet sheet (some r))
-    is-placed = rw is-x (sym sheet-decided)
+    is-placed = rw (is-x, is-h) (sym sheet-decided)
 
     pub parts-refused : (g : Refusal) → x ≡ Rul.Refused g → Rul.Refused g ≡ verdictRuling (decideSheet sheet (some r))
     parts-refused g e = rw e at is-placed
 
-    module _ (b : Answer) (e : x ≡ Rul.Answered b) where
-      pub parts-answered : (c : Answer) → c ≡ inSheet p b → Rul.Answered c ≡ verdictRuling (decideSheet sheet (some r))
-      parts-answered c is-c = rw is-c (rw e at is-placed)
+    pub parts-answered : (b : Answer) → x ≡ Rul.Answered b → (c : Answer) → c ≡ inSheet p b → Rul.Answered c ≡ verdictRuling (decideSheet sheet (some r))
+    parts-answered b e c is-c = rw is-c (rw e at is-placed)
 
-      command-place : filePlace p (b .file) + b .command .place ≤ length sheet
-      command-place =
-          let found = decided-search (bytesAt sheet (p .allow)) (bytesAt sheet (p .deny)) (bytesAt sheet (p .portacl)) r b (sym is-x ∙ e) in
-          by (b .file)
-          (subst (λ (x : Answer). x .command .place + x .command .len ≤ fileLength (bytesAt sheet (p .allow)) (bytesAt sheet (p .deny)) (x .file)) found
-          (search-within (bytesAt sheet (p .allow)) (bytesAt sheet (p .deny)) r))
-        where
-          by : (f : File) → b .command .place + b .command .len ≤ fileLength (bytesAt sheet (p .allow)) (bytesAt sheet (p .deny)) f
-              → filePlace p f + b .command .place ≤ length sheet
-          by Neither w = omega arith
-          by Allow w = let f = frame-answered sheet p framed in omega (arith, length-text (f .allow), f .allow .place, f .allow .within)
-          by Deny w = let f = frame-answered sheet p framed in omega (arith, length-text (f .deny), f .deny .place, f .deny .within)
+  module _ (x : Ruling) (is-x : x ≡ decidedBy (bytesAt sheet (p .allow)) (bytesAt sheet (p .deny)) (bytesAt sheet (p .portacl)) r)
+      (b : Answer) (e : x ≡ Rul.Answered b) where
+    command-place : filePlace p (b .file) + b .command .place ≤ length sheet
+    command-place =
+        let found = decided-search (bytesAt sheet (p .allow)) (bytesAt sheet (p .deny)) (bytesAt sheet (p .portacl)) r b (sym is-x ∙ e) in
+        by (b .file)
+        (subst (λ (x : Answer). x .command .place + x .command .len ≤ fileLength (bytesAt sheet (p .allow)) (bytesAt sheet (p .deny)) (x .file)) found
+        (search-within (bytesAt sheet (p .allow)) (bytesAt sheet (p .deny)) r))
+      where
+        by : (f : File) → b .command .place + b .command .len ≤ fileLength (bytesAt sheet (p .allow)) (bytesAt sheet (p .deny)) f
+            → filePlace p f + b .command .place ≤ length sheet
+        by Neither w = omega arith
+        by Allow w = let f = frame-answered sheet p framed in omega (arith, length-text (f .allow), f .allow .place, f .allow .within)
+        by Deny w = let f = frame-answered sheet p framed in omega (arith, length-text (f .deny), f .deny .place, f .deny .within)
 
-      pub command-fits : (m : ℕ) → length sheet < m → filePlace p (b .file) + b .command .place < m
-      command-fits m h = omega (arith, command-place)
+    pub command-fits : (m : ℕ) → length sheet < m → filePlace p (b .file) + b .command .place < m
+    command-fits m h = omega (arith, command-place)
 
-pub answered-search : (a d : List ℕ) (r : Request) (b : Answer) → decide a d (some r) ≡ answered b → search a d r ≡ b
+pub answered-search : (a d : List ℕ) (r : Request) (b : Answer) → decide a d (some r) ≡ answered b → search a d (held r) ≡ b
 unfolding decide
 answered-search a d r b e =
     by (overLimit S.allow a orElse overLimit S.deny d orElse hostsFault S.allow a orElse hostsFault S.deny d) (wellFormed r) e
   where
-    by : (o : Option Refusal) (c : Bool) → (o before (if c then answered (search a d r) else refused (placeless F.BadRequest))) ≡ answered b → search a d r ≡ b
+    by : (o : Option Refusal) (c : Bool) → (o before (if c then answered (search a d (held r)) else refused (placeless F.BadRequest))) ≡ answered b
+        → search a d (held r) ≡ b
     by (some g) c k = let z : _≡_ {A = ℕ} 0 1 = cc in absurd (omega arith)
     by none false k = let z : _≡_ {A = ℕ} 0 1 = cc in absurd (omega arith)
     by none true k = cc
@@ -234,7 +238,7 @@ pub command-bytes : (sheet : List ℕ) (p : Parts) → frame sheet ≡ answered 
 command-bytes sheet p framed r b e =
     by (b .file)
     (subst (λ (x : Answer). x .command .place + x .command .len ≤ fileLength (bytesAt sheet (p .allow)) (bytesAt sheet (p .deny)) (x .file))
-    (answered-search (bytesAt sheet (p .allow)) (bytesAt sheet (p .deny)) r b e) (search-within (bytesAt sheet (p .allow)) (bytesAt sheet (p .deny)) r))
+    (answered-search (bytesAt sheet (p .allow)) (bytesAt sheet (p .deny)) r b e) (search-within (bytesAt sheet (p .allow)) (bytesAt sheet (p .deny)) (held r)))
   where
     by : (f : File) → b .command .place + b .command .len ≤ fileLength (bytesAt sheet (p .allow)) (bytesAt sheet (p .deny)) f
         → take (b .command .len) (drop (filePlace p f + b .command .place) sheet)

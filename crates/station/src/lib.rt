@@ -114,7 +114,8 @@ fn decide_by_parts(sheet: &[u8], parts: Parts, names: &[u8], request: Request) -
         (decideSheet (now (sheet .entry))
         (some (requestAt (now (names .entry)) request))) ⌝ }
 {
-    let ruling = rule_by_parts(sheet, parts, names, request);
+    let held = elements::request::held(request);
+    let ruling = rule_by_parts(sheet, parts, names, held);
     match ruling {
         Ruling::Refused(refusal) => Ruling::Refused(refusal),
         Ruling::Answered(answer) => Ruling::Answered(in_sheet(parts, answer)),

@@ -1,6 +1,7 @@
--- `rules::decide` meets its contract: the limits first, then both files, then the request.
+-- `rules::decide` meets its contract: the limits first, then both files and the request as it is held.
 -- Assumes nothing.
 use borrow.Author.Needs.{needs}
+use Rattle.elements.proofs.HeldLaws.{held-at}
 use Rattle.rules.proofs.DecideLaws.{decide-allow, decide-deny, decide-pass}
 use Rattle.rules.proofs.decide.Statement.{statement}
 use Rattle.rules.proofs.decide.Tie as tie
@@ -12,7 +13,7 @@ returns-2 : tie.Need-returns-2
 returns-2 c = search (decide-deny, needs)
 
 returns-3 : tie.Need-returns-3
-returns-3 c = search (decide-pass, needs)
+returns-3 c = search (decide-pass, held-at, needs)
 
 pub decide-spec : {M : Type 1} → statement M
 decide-spec =
@@ -23,6 +24,7 @@ decide-spec =
     (λ c κs. search needs)
     (λ c κs. search needs)
     returns-2
+    (λ c κs. search needs)
     (λ c κs. search needs)
     (λ c κs. search needs)
     (λ c κs. search needs)

@@ -1,6 +1,7 @@
 -- `station::decide_by_parts` meets its contract: the command stands within its file, and the file within the sheet.
 -- Assumes nothing.
 use borrow.Author.Needs.{needs}
+use Rattle.elements.proofs.HeldLaws.{held-at}
 use Rattle.station.proofs.DecideLaws.{command-fits, parts-refused, parts-answered}
 use Rattle.station.proofs.decide_by_parts.Statement.{statement}
 use Rattle.station.proofs.decide_by_parts.Tie as tie
@@ -9,9 +10,10 @@ pub decide-by-parts-spec : {M : Type 1} → statement M
 decide-by-parts-spec =
     let facts = tie.spec
     (λ c κs. search needs)
+    (λ c κs. search needs)
     (λ c. search needs)
     (λ c. search needs)
     (λ c κs. search (command-fits, needs))
-    (λ c. search (parts-refused, needs))
-    (λ c. search (parts-answered, needs)) in
+    (λ c. search (parts-refused, held-at, needs))
+    (λ c. search (parts-answered, held-at, needs)) in
     tie.close facts
