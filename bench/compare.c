@@ -1,5 +1,5 @@
 /* compare time|count DIR GATE.so [BEFORE.so]: the calls of the gate on each case of the table below, beside
- *   before        the same calls of another build of the gate
+ *   before        the same calls of another build of the gate; one without tables gets sheets of four sections, and no case with tables
  *   tcp_wrappers  the same question put to it; its two files stand in DIR, which should be in memory, and it does not check them
  *   files         opening and reading those two files whole, as the gate's caller does
  *   sum           adding up the bytes that the call is handed, one at a time: the floor of what reads each byte
@@ -30,6 +30,7 @@ struct recipe {
 #define PREFIXES "sshd: [2001:db8:ffff:%x::]/64, [2001:db8:ffff::%x]/127, [2001:db8:ffff:0:1:%x::]/96\n" /* each differs in its last word */
 #define BYUID_FORMS "10.%u.0.0/16,80\n10.1.0.0-10.1.%u.255,1-1023\n10.0.%u.0/24:1,1023\n2001:db8:%x::/48,80\n"
 #define PORTACL_ENTRY "gid:%u:tcp:10001,"
+#define NAMING "sshd: /a, /a, /a, /a, /a, /a, /a, /a, /a, /a, /a, /a, /a, /a, /a, /a, /a, /a, /a, /a\n"
 
 static const struct recipe rules = {.form = PLAIN, .lines = 300};
 static const struct recipe rules_after_fault = {.first = "sshd: a*b\n", .form = PLAIN, .lines = 299};
@@ -45,7 +46,14 @@ static const struct recipe byuid_lines = {.form = BYUID_FORMS, .from = 100, .siz
 static const struct recipe portacl_entries = {.form = PORTACL_ENTRY, .from = 1000000000, .lines = 41};
 static const struct recipe expanded = {.first = "/usr/bin/logger -t gate %d %p: %c (%a, %n) to %s (%A), %u at %h is 100%% known"};
 
-enum call { VERDICT, SHEET_VERDICT, BYUID, PORTACL, CHECK, EXPAND };
+static const struct recipe naming = {.form = NAMING, .size = GATE_ALLOW_LIMIT};
+static const struct recipe naming_once = {.first = "sshd: /a\n"};
+
+enum call { VERDICT, TABLES_VERDICT, SHEET_VERDICT, BYUID, PORTACL, CHECK, EXPAND };
+
+/* Tables by their kind: none; the four of 12,288 bytes that make most patterns to try; 64 that each name the last; those that are refused
+ * only when all are read: a ring of 20,000, and 65,535 that hold nothing. */
+enum tables { NO_TABLES, NEST, STAR, RING, SMALL };
 
 enum client { V4, V6 };
 
@@ -63,6 +71,8 @@ struct test_case {
     uint32_t user; /* enum gate_user */
     struct outcome expected;
     bool wrappers; /* tcp_wrappers answers the same question */
+    enum tables tables;
+    bool slow;     /* timed once, and its instructions not counted */
 };
 
 #define NONE_MATCHES .expected = {0, GATE_GRANTED, 0}, .wrappers = true
@@ -83,6 +93,17 @@ static const struct test_case cases[] = {
     {"refused 13, no rules", VERDICT, .user = 3, .expected = {GATE_BAD_REQUEST, 0, 0}},
     {"refused 13, 300 rules", VERDICT, .deny = &rules, .user = 3, .expected = {GATE_BAD_REQUEST, 0, 0}},
     {"fault in line 1 of 300", VERDICT, .deny = &rules_after_fault, .expected = {GATE_UNKNOWN_ELEMENT, 0, 1}},
+    {"full sheet", SHEET_VERDICT, .allow = &plain, .deny = &plain, .byuid = &byuid_lines, .portacl = &portacl_entries,
+     .expected = {0, GATE_GRANTED, 0}},
+    {"nest: one rule", TABLES_VERDICT, .allow = &naming_once, .tables = NEST, .expected = {0, GATE_GRANTED, 0}},
+    {"nest: files full of it", TABLES_VERDICT, .allow = &naming, .deny = &naming, .tables = NEST, .expected = {0, GATE_GRANTED, 0}},
+    {"nest: full sheet", SHEET_VERDICT, .allow = &naming, .deny = &naming, .byuid = &byuid_lines, .portacl = &portacl_entries, .tables = NEST,
+     .expected = {0, GATE_GRANTED, 0}},
+    {"64 tables, one rule", TABLES_VERDICT, .allow = &naming_once, .tables = STAR, .expected = {0, GATE_GRANTED, 0}},
+    {"64 tables, files full", TABLES_VERDICT, .allow = &naming, .deny = &naming, .tables = STAR, .expected = {0, GATE_GRANTED, 0}},
+    {"tables, and plain rules", TABLES_VERDICT, .deny = &rules, .tables = NEST, .expected = {0, GATE_GRANTED, 0}},
+    {"refused 16: a long ring", TABLES_VERDICT, .allow = &naming_once, .tables = RING, .expected = {GATE_TOO_DEEP, 0, 1}, .slow = true},
+    {"refused 17: 65,535 tables", TABLES_VERDICT, .allow = &naming_once, .tables = SMALL, .expected = {GATE_BAD_TABLE, 0, 0}, .slow = true},
     {"byuid full", BYUID, .byuid = &byuid_lines, .expected = {0, GATE_NO_LINE, 0}},
     {"portacl full", PORTACL, .portacl = &portacl_entries, .expected = {0, GATE_DENIED, 0}},
     {"checking a full sheet", CHECK, .allow = &plain, .deny = &plain, .byuid = &byuid_lines, .portacl = &portacl_entries},
@@ -90,13 +111,13 @@ static const struct test_case cases[] = {
 };
 
 struct text {
-    uint8_t bytes[GATE_SHEET_LIMIT + 1]; /* one more for the zero that sprintf adds */
+    uint8_t bytes[1 << 20]; /* with one for the zero that sprintf adds */
     size_t len;
 };
 
-static struct text allow, deny, byuid, portacl, command, sheet, out;
+static struct text allow, deny, byuid, portacl, command, tables, sheet, out;
 static const struct test_case *current;
-static const struct text *handed[2]; /* what the current case's call is handed, in one or two texts */
+static const struct text *handed[3]; /* what the current case's call is handed, in one to three texts */
 static size_t handed_len;
 static uint64_t handed_sum;
 static char allow_path[4096], deny_path[4096];
@@ -110,6 +131,7 @@ struct library {
     __typeof__(gate_check) *check;
     __typeof__(gate_expand) *expand;
     __typeof__(gate_pack) *pack;
+    __typeof__(gate_tables_verdict) *tables_verdict; /* null in a build without tables */
 };
 
 static struct library libraries[2];
@@ -121,13 +143,14 @@ static void fail(const char *what, const char *why) {
 }
 
 static void load(struct library *build, const char *path) {
-    static const char *const names[] = {"gate_verdict", "gate_sheet_verdict", "gate_byuid", "gate_portacl", "gate_check", "gate_expand", "gate_pack"};
+    static const char *const names[] = {"gate_verdict", "gate_sheet_verdict", "gate_byuid", "gate_portacl", "gate_check", "gate_expand", "gate_pack",
+                                        "gate_tables_verdict"};
     void *symbols[sizeof names / sizeof *names], *handle = dlopen(path, RTLD_NOW | RTLD_LOCAL);
     _Static_assert(sizeof symbols == sizeof *build, "a name for each export");
     if (!handle)
         fail(path, dlerror());
     for (size_t i = 0; i < sizeof names / sizeof *names; i++)
-        if (!(symbols[i] = dlsym(handle, names[i])))
+        if (!(symbols[i] = dlsym(handle, names[i])) && strcmp(names[i], "gate_tables_verdict"))
             fail(path, dlerror());
     memcpy(build, symbols, sizeof symbols);
 }
@@ -135,6 +158,7 @@ static void load(struct library *build, const char *path) {
 /* The request of every case, as the exports take it. */
 #define BYTES(literal) (const uint8_t *)(literal), sizeof(literal) - 1
 #define TEXT(text) (text).bytes, (text).len
+#define SHEET_FOR(build) sheet.bytes, (build)->tables_verdict ? sheet.len : sheet.len - 2
 #define CLIENT_V4 GATE_IPV4, 0, 0xc0000201
 #define CLIENT_V6 GATE_IPV6, 0x20010db8ffff0000, 1
 #define FROM(client) BYTES("sshd"), GATE_NAME_KNOWN, client, BYTES("pump.example"), \
@@ -152,14 +176,16 @@ static struct outcome by_gate(const struct library *g) {
     case VERDICT:
         return outcome_of(current->client == V4 ? g->verdict(TEXT(allow), TEXT(deny), FROM(CLIENT_V4))
                                                 : g->verdict(TEXT(allow), TEXT(deny), FROM(CLIENT_V6)));
+    case TABLES_VERDICT:
+        return outcome_of(g->tables_verdict(TEXT(allow), TEXT(deny), TEXT(tables), FROM(CLIENT_V4)));
     case SHEET_VERDICT:
-        return outcome_of(g->sheet_verdict(TEXT(sheet), FROM(CLIENT_V4)));
+        return outcome_of(g->sheet_verdict(SHEET_FOR(g), FROM(CLIENT_V4)));
     case BYUID:
         return outcome_of(g->byuid(TEXT(byuid), GATE_PLAIN_FILE, 80, CLIENT_V4, 1000));
     case PORTACL:
         return outcome_of(g->portacl(TEXT(portacl), 1, 65535, 1, 1, 1000, groups, 16, GATE_TCP, 10001));
     case CHECK:
-        return (struct outcome){g->check(TEXT(sheet)).number, 0, 0};
+        return (struct outcome){g->check(SHEET_FOR(g)).number, 0, 0};
     case EXPAND:
         written = g->expand(out.bytes, GATE_SHEET_LIMIT, TEXT(command), FROM(CLIENT_V4), 4711);
         return (struct outcome){written.number, 0, written.count};
@@ -191,7 +217,10 @@ static uint64_t sum_of(const struct text *t) {
 }
 
 static uint64_t sum_handed(void) {
-    return sum_of(handed[0]) + (handed[1] ? sum_of(handed[1]) : 0);
+    uint64_t sum = 0;
+    for (int i = 0; i < 3; i++)
+        sum += handed[i] ? sum_of(handed[i]) : 0;
+    return sum;
 }
 
 enum who { GATE, BEFORE, WRAPPERS, FILES, SUM, WHO_COUNT };
@@ -206,7 +235,7 @@ static bool takes_part(enum who who) {
     case SUM:
         return handed_len > 0;
     default:
-        return (int)who < builds;
+        return (int)who < builds && (current->tables == NO_TABLES || libraries[who].tables_verdict);
     }
 }
 
@@ -262,7 +291,7 @@ static void time_current(double best[WHO_COUNT]) {
     for (enum who who = 0; who < WHO_COUNT; who++)
         for (together[who] = 1; takes_part(who) && timed(who, together[who]) < least;)
             together[who] *= 2;
-    for (int round = 0; round < rounds || now() < end; round++)
+    for (int round = 0; round == 0 || (!current->slow && (round < rounds || now() < end)); round++)
         for (enum who who = 0; who < WHO_COUNT; who++) {
             double taken = takes_part(who) ? timed(who, together[who]) / together[who] : 0;
             if (best[who] == 0 || taken < best[who])
@@ -293,6 +322,47 @@ static void make(struct text *t, const struct recipe *r) {
     t->bytes[t->len] = 0;
 }
 
+static void add_number(size_t number, int width) {
+    while (width--)
+        tables.bytes[tables.len++] = (uint8_t)(number >> 8 * width);
+}
+
+/* A table of a word again and again, with a blank between. */
+static void add_table(const char *name, const char *word, size_t times) {
+    add_number(strlen(name), 1);
+    tables.len += (size_t)sprintf((char *)tables.bytes + tables.len, "%s", name);
+    add_number(times ? (strlen(word) + 1) * times - 1 : 0, 4);
+    for (size_t i = 0; i < times; i++)
+        tables.len += (size_t)sprintf((char *)tables.bytes + tables.len, "%s%s", i ? " " : "", word);
+}
+
+/* So many tables, of which each names one: the next in a ring, or the last; or none. */
+static void add_tables(unsigned count, enum tables kind) {
+    char name[16], word[16];
+    for (unsigned i = 0; i < count; i++) {
+        unsigned named = kind == RING ? (i + 1) % count : count - 1;
+        sprintf(name, i ? "t%x" : "a", i);
+        sprintf(word, named ? "/t%x" : "/a", named);
+        add_table(name, word, kind == SMALL || (kind == STAR && i == named) ? 0 : kind == STAR ? 30 : 1);
+    }
+}
+
+static void make_tables(enum tables kind) {
+    static const unsigned counts[] = {[NO_TABLES] = 0, [NEST] = 4, [STAR] = 64, [RING] = 20000, [SMALL] = 65535};
+    tables.len = 0;
+    add_number(counts[kind], 2);
+    if (kind != NEST) {
+        add_tables(counts[kind], kind);
+        return;
+    }
+    add_table("a", "/b", 1022);
+    add_table("b", "/c", 1022);
+    add_table("c", "/d", 1022);
+    add_table("d", "x", 1534);
+    if (tables.len != GATE_TABLES_LIMIT)
+        fail("nest", "not as long as the tables may be");
+}
+
 static void write_file(const char *path, const struct text *t) {
     FILE *file = fopen(path, "w");
     if (!file || fwrite(t->bytes, 1, t->len, file) != t->len || fclose(file))
@@ -300,19 +370,21 @@ static void write_file(const char *path, const struct text *t) {
 }
 
 static void prepare(const struct test_case *c) {
-    static const struct text *const first[] = {&allow, &sheet, &byuid, &portacl, &sheet, &command};
+    static const struct text *const first[] = {&allow, &allow, &sheet, &byuid, &portacl, &sheet, &command};
     current = c;
     make(&allow, c->allow);
     make(&deny, c->deny);
     make(&byuid, c->byuid);
     make(&portacl, c->portacl);
     make(&command, c->command);
-    sheet.len = libraries[0].pack(sheet.bytes, GATE_SHEET_LIMIT, TEXT(allow), TEXT(deny), TEXT(byuid), TEXT(portacl)).count;
+    make_tables(c->tables);
+    sheet.len = libraries[0].pack(sheet.bytes, GATE_SHEET_LIMIT, TEXT(allow), TEXT(deny), TEXT(byuid), TEXT(portacl), TEXT(tables)).count;
     write_file(allow_path, &allow);
     write_file(deny_path, &deny);
     handed[0] = first[c->call];
-    handed[1] = c->call == VERDICT ? &deny : NULL;
-    handed_len = handed[0]->len + (handed[1] ? handed[1]->len : 0);
+    handed[1] = c->call == VERDICT || c->call == TABLES_VERDICT ? &deny : NULL;
+    handed[2] = c->call == TABLES_VERDICT ? &tables : NULL;
+    handed_len = handed[0]->len + (handed[1] ? handed[1]->len : 0) + (handed[2] ? handed[2]->len : 0);
     handed_sum = sum_handed();
 }
 
@@ -323,7 +395,10 @@ static double best[case_count][WHO_COUNT];
 static void time_cases(void) {
     enum { sweeps = 6 };
     for (int i = 0; i < sweeps * case_count; i++) {
-        prepare(&cases[i % case_count]);
+        const struct test_case *c = &cases[i % case_count];
+        if (c->slow && i >= case_count)
+            continue;
+        prepare(c);
         time_current(best[i % case_count]);
     }
 }
@@ -350,6 +425,8 @@ int main(int argc, char **argv) {
     if (!count)
         time_cases();
     for (int i = 0; i < case_count; i++) {
+        if (count && cases[i].slow)
+            continue;
         prepare(&cases[i]);
         show(count, best[i]);
     }

@@ -68,6 +68,10 @@ def show(title, rows, columns):
     for case, (size, figures) in rows.items():
         print(f"{case:<26}{size:>8,}" + "".join(f"{cell(figure(size, figures), digits):>11}" for _, _, digits, figure in columns))
     growing = [row for case, row in rows.items() if case.startswith("growth: ")]
+    nests = {case: figures[GATE] for case, (_, figures) in rows.items() if case.startswith("nest: ")}
+    if "full sheet" in rows:
+        plain = rows["full sheet"][1][GATE]
+        print("to a full sheet of plain rules:", ", ".join(f"{case} {figure / plain:.3f}" for case, figure in nests.items()))
     for who in (GATE, BEFORE):
         a_byte = [quotient(figures, who, size) for size, figures in growing]
         if all(a_byte):

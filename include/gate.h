@@ -16,11 +16,11 @@
  *
  * Refusals. Every answer begins with number, section and line. Number 0 is an answer; any other number is a refusal, and then all
  * members but these three are 0, and the kind of an address is GATE_NO_ADDRESS: nothing of it can be taken for an answer. Where several
- * refusals hold, the one given is the first in the order of document 01: those of the sheet, of the texts or of the command, then 13,
- * then 14.
+ * refusals hold, the one given is the first in the order of the papers: those of the sheet, of the texts or of the command, 15 to 17 behind
+ * 12, then 13, then 14.
  *
- * Requests. The same seventeen arguments describe a request to gate_verdict, gate_sheet_verdict, gate_command, gate_sheet_command and
- * gate_expand:
+ * Requests. The same seventeen arguments describe a request to gate_verdict, gate_tables_verdict, gate_sheet_verdict, gate_command,
+ * gate_sheet_command and gate_expand:
  *   daemon         1 to 64 bytes
  *   client_state   enum gate_name; client_name is 1 to 255 bytes where it is known, and not looked at otherwise
  *   client_kind    enum gate_kind, with client_high and client_low (see there)
@@ -38,7 +38,7 @@
 extern "C" {
 #endif
 
-#define GATE_VERSION "2.1.0"
+#define GATE_VERSION "3.0.0"
 
 /* Numbers: of an answer, or of a refusal. */
 enum gate_number {
@@ -51,29 +51,39 @@ enum gate_number {
     GATE_LONG_LINE = 6,        /* a logical line is over 2,047 bytes after joining */
     GATE_NO_ELEMENT = 7,       /* no first separator, or a list with no element */
     GATE_MISPLACED_EXCEPT = 8, /* EXCEPT not directly between two elements */
-    GATE_RESERVED_START = 9,   /* an element, or the half after its @, begins with @ or / */
+    GATE_RESERVED_START = 9,   /* an element, or the half after its @, begins with @; or a daemon element begins with / */
     GATE_UNKNOWN_ELEMENT = 10, /* any other element of no known kind */
     GATE_BAD_PERCENT = 11,     /* % at the command's end or before any byte not listed */
     GATE_BAD_ENTRY = 12,       /* a portacl entry not of its form */
     GATE_BAD_REQUEST = 13,     /* a request field outside its size or its kinds */
-    GATE_NO_ROOM = 14          /* the whole output is longer than out_len */
+    GATE_NO_ROOM = 14,         /* the whole output is longer than out_len */
+    GATE_TABLE_NAME = 15,      /* a table's name is missing, in a rule or in a table, or given twice */
+    GATE_TOO_DEEP = 16,        /* a rule leads more than four tables deep */
+    GATE_BAD_TABLE = 17        /* any other fault of the tables, their limits included */
 };
 
-/* Sections. A sheet has the four in this order, each behind its count in four bytes. */
+/* Sections. A sheet has the five in this order: four texts, each behind its count of bytes in four bytes, and the tables, whose own counts
+ * say where they end: how many there are, in two bytes, and for each its name behind a count in one byte and its text behind one in four. */
 enum gate_section {
     GATE_NO_SECTION = 0, /* of 3, 13 and 14, and of a command's refusals */
     GATE_ALLOW = 1,
     GATE_DENY = 2,
     GATE_BYUID = 3,
-    GATE_PORTACL = 4
+    GATE_PORTACL = 4,
+    GATE_TABLES = 5
 };
 
-/* The most bytes of each section, and of a sheet. */
+/* The most bytes of each section, the tables with all their counts, and of a sheet. */
 #define GATE_ALLOW_LIMIT 16384
 #define GATE_DENY_LIMIT 16384
 #define GATE_BYUID_LIMIT 8192
 #define GATE_PORTACL_LIMIT 1024
-#define GATE_SHEET_LIMIT 42000
+#define GATE_TABLES_LIMIT 12288
+#define GATE_SHEET_LIMIT 54288
+
+/* The most tables, and the most bytes of a table's name. */
+#define GATE_TABLES_COUNT 64
+#define GATE_TABLE_NAME_LIMIT 64
 
 /* The most bytes of a request's names, and the most groups. */
 #define GATE_DAEMON_LIMIT 64
@@ -90,13 +100,14 @@ enum gate_section {
 #define GATE_ADDRESS_ROOM 39
 #define GATE_EXPANSION_ROOM (GATE_LINE_LIMIT / 2 * (GATE_USER_LIMIT + 1 + GATE_NAME_LIMIT) + GATE_LINE_LIMIT % 2)
 
-/* The stack that any call needs, in bytes, with a margin; the caller's own frames come on top. On x86-64 the most is some 52,500, by a
- * verdict on a line of 2,047 bytes that is `a:a EXCEPT a EXCEPT a ..`: each of its 227 EXCEPTs takes a frame of 208 bytes. Only the
- * walks through client and daemon lists call themselves; all calls but the verdicts, with or without their command, stay under 5,000.
- * It was found in two ways that agree: tests/stack.py adds up the frames of the archive's functions along the deepest path of calls, for
- * any input, and tests/stack.c paints the stack of a thread whose whole stack is this, and makes every call on the worst inputs known.
+/* The stack that any call needs, in bytes, with a margin; the caller's own frames come on top. On x86-64 the most is some 101,700, by the
+ * frames of the check for 16, which finds how deep each table leads by five frames of 16,480 bytes, one in the other. A line of 2,047 bytes
+ * that is `a:a EXCEPT a EXCEPT a ..` takes some 77,600: 272 bytes for each of its 227 EXCEPTs. Only the walks through client and daemon lists
+ * and those through tables call themselves; the calls for a byuid or portacl text, an upgrade, an expansion or an address stay under 5,000.
+ * It was found in two ways: tests/stack.py adds up the frames of the archive's functions along the deepest path of calls, for any input, and
+ * tests/stack.c paints the stack of a thread whose whole stack is this, and makes every call on the worst inputs known; some 93,500 by these.
  * The margin also covers the first call of memcpy through a dynamic linker (some 3,000). */
-#define GATE_STACK 65536
+#define GATE_STACK 131072
 
 /* Words of a decision. */
 enum gate_word {
@@ -147,10 +158,10 @@ enum gate_protocol {
 struct gate_answer {
     uint32_t number;  /* enum gate_number */
     uint32_t section; /* of a refusal: enum gate_section; else 0 */
-    uint64_t line;    /* of a refusal: the line, or the entry for 12, from 1, or 0; of a verdict: of the deciding rule, or 0 */
+    uint64_t line;    /* of a refusal: the line, the entry for 12, or the table for section 5, from 1, or 0; of a verdict: of its rule, or 0 */
     uint32_t word;    /* enum gate_word */
     uint32_t file;    /* of a verdict: the file of the deciding rule, GATE_ALLOW or GATE_DENY; else 0 */
-    uint64_t place;   /* where the rule's raw command begins: in that file's text (gate_verdict), in the sheet (gate_sheet_verdict) */
+    uint64_t place;   /* where the rule's raw command begins: in that file's text, by texts; in the sheet, by a sheet */
     uint64_t len;     /* its length; 0 where there is no command, and then place says nothing */
 };
 
@@ -176,7 +187,7 @@ struct gate_written {
     uint64_t count; /* bytes written */
 };
 
-/* Where the four texts stand in an accepted sheet. */
+/* Where the five texts stand in an accepted sheet; the fifth is the whole section of the tables, its count included. */
 struct gate_parts {
     uint32_t number, section;
     uint64_t line;
@@ -184,6 +195,7 @@ struct gate_parts {
     uint64_t deny_place, deny_len;
     uint64_t byuid_place, byuid_len;
     uint64_t portacl_place, portacl_len;
+    uint64_t tables_place, tables_len;
 };
 
 /* An address that was read. */
@@ -194,7 +206,7 @@ struct gate_address {
     uint64_t high, low;
 };
 
-/* The verdict of hosts_access(5): by the texts of hosts.allow and hosts.deny. */
+/* The verdict of hosts_access(5): by the texts of hosts.allow and hosts.deny. It has no tables: any /name in a rule is refused by 15. */
 struct gate_answer gate_verdict(const uint8_t *allow, size_t allow_len, const uint8_t *deny, size_t deny_len,
                                 const uint8_t *daemon, size_t daemon_len,
                                 uint32_t client_state, uint32_t client_kind, uint64_t client_high, uint64_t client_low,
@@ -203,7 +215,17 @@ struct gate_answer gate_verdict(const uint8_t *allow, size_t allow_len, const ui
                                 const uint8_t *server_name, size_t server_name_len,
                                 uint32_t user, const uint8_t *user_name, size_t user_name_len);
 
-/* The same by a sheet. The whole sheet is checked, as gate_check does. */
+/* The same with tables: the bytes of a section five, two zero bytes where there are none. They are checked as in a sheet. */
+struct gate_answer gate_tables_verdict(const uint8_t *allow, size_t allow_len, const uint8_t *deny, size_t deny_len,
+                                       const uint8_t *tables, size_t tables_len,
+                                       const uint8_t *daemon, size_t daemon_len,
+                                       uint32_t client_state, uint32_t client_kind, uint64_t client_high, uint64_t client_low,
+                                       const uint8_t *client_name, size_t client_name_len,
+                                       uint32_t server_state, uint32_t server_kind, uint64_t server_high, uint64_t server_low,
+                                       const uint8_t *server_name, size_t server_name_len,
+                                       uint32_t user, const uint8_t *user_name, size_t user_name_len);
+
+/* The same by a sheet, with its tables. The whole sheet is checked, as gate_check does. */
 struct gate_answer gate_sheet_verdict(const uint8_t *sheet, size_t sheet_len,
                                       const uint8_t *daemon, size_t daemon_len,
                                       uint32_t client_state, uint32_t client_kind, uint64_t client_high, uint64_t client_low,
@@ -253,16 +275,22 @@ struct gate_answer gate_sheet_portacl(const uint8_t *sheet, size_t sheet_len,
                                       uint32_t enabled, uint32_t port_high, uint32_t suser_exempt, uint32_t autoport_exempt,
                                       uint32_t uid, const uint32_t *groups, size_t groups_len, uint32_t protocol, uint32_t port);
 
-/* Is this a sound sheet: its frame, and the lines and entries of its texts. */
+/* Is this a sound sheet: its frame, the lines and entries of its texts, and its tables. */
 struct gate_checked gate_check(const uint8_t *sheet, size_t sheet_len);
 
 /* The same, and where its texts stand. */
 struct gate_parts gate_unpack(const uint8_t *sheet, size_t sheet_len);
 
-/* Packs four texts into a sheet; GATE_SHEET_LIMIT bytes are always room enough. */
+/* Packs five texts into a sheet; GATE_SHEET_LIMIT bytes are always room enough. tables is a section five, as gate_unpack hands it back: two
+ * zero bytes where there are no tables; none at all is a section cut short, refused by 1. */
 struct gate_written gate_pack(uint8_t *out, size_t out_len, const uint8_t *allow, size_t allow_len, const uint8_t *deny,
                               size_t deny_len, const uint8_t *byuid, size_t byuid_len, const uint8_t *portacl,
-                              size_t portacl_len);
+                              size_t portacl_len, const uint8_t *tables, size_t tables_len);
+
+/* Makes a sheet of five sections out of one of four, as sheets were before there were tables: writes its bytes and the two zero bytes of no
+ * tables. Only the frame of the four sections is looked at, and refused by 1, 2 or 3, a sheet that has tables by 3; their lines may be at
+ * fault, and gate_check says so afterwards. sheet_len + 2 bytes are room enough. */
+struct gate_written gate_upgrade(uint8_t *out, size_t out_len, const uint8_t *sheet, size_t sheet_len);
 
 /* Writes a rule's command with its %a, %A, %n, %N, %h, %H, %u, %c, %d, %s, %p and %% replaced for a request: the command as a verdict
  * hands it back, or any other. It is joined and trimmed first. GATE_EXPANSION_ROOM bytes are always room enough. */
@@ -441,6 +469,13 @@ static inline struct gate_answer gate_verdict_for(const void *allow, size_t allo
     return gate_verdict(gate_bytes(allow, allow_len), allow_len, gate_bytes(deny, deny_len), deny_len, GATE_REQUEST_ARGUMENTS(request));
 }
 
+/* gate_tables_verdict for a request. */
+static inline struct gate_answer gate_tables_verdict_for(const void *allow, size_t allow_len, const void *deny, size_t deny_len,
+                                                         const void *tables, size_t tables_len, const struct gate_request *request) {
+    return gate_tables_verdict(gate_bytes(allow, allow_len), allow_len, gate_bytes(deny, deny_len), deny_len,
+                               gate_bytes(tables, tables_len), tables_len, GATE_REQUEST_ARGUMENTS(request));
+}
+
 /* gate_sheet_verdict for a request. */
 static inline struct gate_answer gate_sheet_verdict_for(const void *sheet, size_t sheet_len, const struct gate_request *request) {
     return gate_sheet_verdict(gate_bytes(sheet, sheet_len), sheet_len, GATE_REQUEST_ARGUMENTS(request));
@@ -516,12 +551,15 @@ static inline const char *gate_number_text(uint32_t number) {
     case GATE_LONG_LINE: return "a line over 2047 bytes";
     case GATE_NO_ELEMENT: return "no colon, or a list with no element";
     case GATE_MISPLACED_EXCEPT: return "EXCEPT not between two elements";
-    case GATE_RESERVED_START: return "an element begins with @ or /";
+    case GATE_RESERVED_START: return "an element begins with @, or a daemon with /";
     case GATE_UNKNOWN_ELEMENT: return "no element kind fits";
     case GATE_BAD_PERCENT: return "% at the end or before a letter that it does not take";
     case GATE_BAD_ENTRY: return "not a portacl entry";
     case GATE_BAD_REQUEST: return "a request field outside its size or its kinds";
     case GATE_NO_ROOM: return "the output is longer than its room";
+    case GATE_TABLE_NAME: return "no table of this name, or two";
+    case GATE_TOO_DEEP: return "a rule leads more than four tables deep";
+    case GATE_BAD_TABLE: return "a table at fault, or the tables over their limits";
     default: return "no such number";
     }
 }
@@ -548,6 +586,7 @@ static inline const char *gate_section_text(uint32_t section) {
     case GATE_DENY: return "deny";
     case GATE_BYUID: return "byuid";
     case GATE_PORTACL: return "portacl";
+    case GATE_TABLES: return "tables";
     default: return "no such section";
     }
 }

@@ -5,7 +5,7 @@
 #include <stdbool.h>
 #include <stddef.h>
 
-#define OPTIONS_MOST 8
+#define OPTIONS_MOST 10
 #define OPERANDS_MOST 4
 
 struct option {

@@ -6,9 +6,9 @@
 #include "question.h"
 #include "reading.h"
 
-enum { QUIET, MARKED };
+enum { QUIET, TABLES, MARKED };
 
-static const struct option options[] = {{"quiet", 'q', NULL}, {"marked", 0, "FILE"}, {NULL, 0, NULL}};
+static const struct option options[] = {{"quiet", 'q', NULL}, {"tables", 0, "FOLDER"}, {"marked", 0, "FILE"}, {NULL, 0, NULL}};
 
 static const char help[] =
     "STATION is a sheet, a folder with the four texts, or - for a sheet on standard\n"
@@ -19,6 +19,7 @@ static const char help[] =
     "UID           the account, as a number.\n"
     "ADDRESS,PORT  what it binds, as byuid writes it: 10.20.1.2,80 or ::1,80.\n"
     "\n"
+    "  --tables FOLDER   the tables of a folder's rules; without it STATION/tables\n"
     "  --marked FILE   the account's marked file, asked where the station has no line\n"
     "  -q, --quiet     print nothing; the exit status tells\n"
     "\n"

@@ -27,11 +27,13 @@ static const struct {
 } numbers[] = {
     {"The gate answered. This is no fault.", NULL, NULL, "Nothing."},
     {"A count of the sheet, or the bytes that it counts, run past the end of the sheet. Section tells which.", "a sheet",
-     "fifteen zero bytes: the fourth count is cut",
-     "The sheet was cut on its way, or is no sheet: fetch it again, and compare its size; gate pack writes sheets whole or not at all."},
-    {"A section is longer than it may be: hosts.allow and hosts.deny 16384 bytes, byuid 8192, portacl 1024.", "byuid", "8193 bytes",
+     "seventeen zero bytes: the fifth count, of two bytes, is cut",
+     "The sheet was cut on its way, or is no sheet: fetch it again, and compare its size; gate pack writes sheets whole or not at all. "
+     "A sheet from before there were tables ends where section 5 should begin: gate upgrade OLD NEW appends it."},
+    {"A section is longer than it may be: hosts.allow and hosts.deny 16384 bytes, byuid 8192, portacl 1024. The limits of the tables are 17's.",
+     "byuid", "8193 bytes",
      "Shorten the text: leave out comments, join rules that differ in one element, drop rules that are out of reach (gate check -W)."},
-    {"Bytes follow the last section of the sheet.", "a sheet", "seventeen zero bytes: one behind the fourth section",
+    {"Bytes follow the last section of the sheet.", "a sheet", "nineteen zero bytes: one behind the fifth section",
      "The sheet was written over a longer one, or two were joined: pack it anew."},
     {"The last line has no ending newline. Comments and blank lines count as lines, and a backslash before the last newline takes it away.",
      "hosts.allow", "sshd: 10.20.30.40 (and no newline)", "End the file with a newline."},
@@ -42,9 +44,10 @@ static const struct {
     {"A rule has no colon outside brackets, or no element before or behind its first one. EXCEPT is no element.", "hosts.allow",
      "sshd 10.20.30.40", "Write DAEMONS : CLIENTS, or DAEMONS : CLIENTS : COMMAND."},
     {"EXCEPT does not stand directly between two elements.", "hosts.allow", "sshd: ALL EXCEPT", "Write what is excepted behind it: ALL EXCEPT .x.example."},
-    {"An element, or what follows its @, begins with @ or /. Netgroups and files of patterns are not read here.", "hosts.allow",
-     "sshd: @vans", "Write the hosts themselves."},
-    {"An element is none of these: ALL, LOCAL, KNOWN, UNKNOWN, PARANOID, a name, .domain, an IPv4 address, the first fields of one with a "
+    {"An element, or what follows its @, begins with @, or a daemon begins with /. Netgroups are not read here, and a table holds hosts, not "
+     "daemons.",
+     "hosts.allow", "sshd: @vans", "Write the hosts themselves, or put them into a table and name it: sshd: /vans."},
+    {"An element is none of these: /name (a table), ALL, LOCAL, KNOWN, UNKNOWN, PARANOID, a name, .domain, an IPv4 address, the first fields of one with a "
      "dot behind each (10.20.), net/mask with four fields each, net/length with a length of 0 to 32, [IPv6] or [IPv6]/length; or one of them behind user@ (of a client) or "
      "daemon@ (of a daemon). A daemon alone is ALL or a name.",
      "hosts.allow", "sshd: 10.20.30.400", "Write it as one of these."},
@@ -58,6 +61,17 @@ static const struct {
      "Correct the program that asks; gate reads its arguments so that this does not come up."},
     {"The whole output is longer than the room that the caller lent. Nothing is written.", "a call of the library",
      "gate_expand with 10 bytes of room for a command of 11", "Lend more: GATE_EXPANSION_ROOM, GATE_SHEET_LIMIT and GATE_ADDRESS_ROOM are always enough."},
+    {"A /name, in a rule or in a table, for which there is no table; or two tables of one name. Capitals and small letters are the same. Of "
+     "section 5 the line is the number of the table: of the one that names, or of the later of the two.",
+     "hosts.allow", "sshd: /vans (and no table vans)",
+     "Write the table, or name one that is there; a folder of tables is given with --tables. Of two tables of one name, rename one."},
+    {"A rule leads more than four tables deep: the table that it names is the first, one that this names the second, and so on. Tables that "
+     "name each other in a ring lead on without end. It does not matter what matches.",
+     "the tables a to e", "/b in a, /c in b, /d in c, /e in d; and a rule that names /a", "Put the hosts of the last table into the one before it."},
+    {"A table is at fault: its name is not of 1 to 64 letters, digits, - _ . or a word of its text is no host pattern; or there are over 64 "
+     "tables, or over 12288 bytes of them, with their names and counts. Section is 5, and the line is the number of the table, 0 of the limits. A "
+     "table has no EXCEPT, no users, no commas and no comments.",
+     "a table", "van7.example, van8.example", "Write hosts alone, parted by blanks, tabs and newlines."},
 };
 
 #define NUMBERS ((uint32_t)(sizeof numbers / sizeof *numbers))

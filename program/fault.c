@@ -11,7 +11,7 @@ static const struct gate_request nobody;
 
 uint32_t hosts_number(const uint8_t *text, size_t len) {
     struct gate_answer answer = gate_verdict_for(text, len, NULL, 0, &nobody);
-    return answer.number == GATE_BAD_REQUEST ? GATE_ANSWERED : answer.number;
+    return answer.number == GATE_BAD_REQUEST || answer.number == GATE_TABLE_NAME ? (uint32_t)GATE_ANSWERED : answer.number;
 }
 
 uint32_t line_number(const struct text *text, const struct line *line) {
@@ -21,8 +21,7 @@ uint32_t line_number(const struct text *text, const struct line *line) {
     return hosts_number(ended, line->len + 1);
 }
 
-/* A hint for each mark, once. */
-static void show_hints(uint32_t number, const struct text *text, const struct marks *marks) {
+void show_hints(uint32_t number, const struct text *text, const struct marks *marks) {
     char last[HINT_ROOM] = "";
     for (size_t i = 0; i < marks->count; i++) {
         struct span mark = marks->mark[i];
@@ -141,6 +140,16 @@ static size_t show_text_faults(const struct station *station, uint32_t section) 
     return faults + (section == GATE_PORTACL ? show_portacl_faults(station) : show_hosts_faults(station, section));
 }
 
+/* What a sheet has of the tables that it does not have whole, which begin at a place. */
+static const char *tables_detail(const struct station *station, size_t at) {
+    static char text[96];
+    if (station->sheet.len - at < 2)
+        return "the count of its tables, of two bytes, is not there whole";
+    snprintf(text, sizeof text, "its count is %zu tables, and table %zu is not there whole",
+             (size_t)gate_wire_number(station->sheet.bytes + at, 2), station->tables.count + 1);
+    return text;
+}
+
 /* What a sheet has of a section that it does not have whole. */
 static const char *frame_detail(const struct station *station) {
     static char text[96];
@@ -148,6 +157,8 @@ static const char *frame_detail(const struct station *station) {
     for (size_t i = 0; i < station->texts; i++)
         at += 4 + station->text[i].len;
     size_t left = station->sheet.len - at;
+    if (station->refusal.section == GATE_TABLES)
+        return tables_detail(station, at);
     if (left < 4)
         return "its count, of four bytes, is not there whole";
     size_t count = (size_t)gate_wire_number(station->sheet.bytes + at, 4), most = section_limit(station->refusal.section);
@@ -158,10 +169,22 @@ static const char *frame_detail(const struct station *station) {
     return text;
 }
 
+/* Where a sheet of four sections ends. */
+static bool lacks_tables(const struct station *station) {
+    size_t at = 0;
+    for (size_t i = 0; i < station->texts; i++)
+        at += 4 + station->text[i].len;
+    return station->refusal.section == GATE_TABLES && at == station->sheet.len;
+}
+
 /* The fault of a sheet's frame: nothing can be read from there on. */
 static size_t show_frame_fault(const struct station *station) {
     struct gate_checked refusal = station->refusal;
     const struct text *sheet = &station->sheet;
+    if (sheet->len > SHEET_MOST) {
+        fprintf(stderr, "%s: over %d bytes, and the longest sheet has %d: it is not looked at\n", station->path, SHEET_MOST, GATE_SHEET_LIMIT);
+        return 1;
+    }
     if (refusal.number == GATE_TRAILING_BYTES)
         fprintf(stderr, "%s: %s [%u]\n", station->path, gate_number_text(refusal.number), (unsigned)refusal.number);
     else if (refusal.number == GATE_CUT_SHORT || refusal.number == GATE_OVER_LIMIT)
@@ -171,19 +194,52 @@ static size_t show_frame_fault(const struct station *station) {
         return 0;
     if (sheet->len && sheet->bytes[0])
         fprintf(stderr, "      = a sheet begins with a zero byte, and this does not: to check texts, give the folder that holds all four\n");
+    else if (refusal.number == GATE_CUT_SHORT && lacks_tables(station))
+        fprintf(stderr, "      = a sheet of four sections, from before there were tables: gate upgrade OLD NEW appends an empty fifth\n");
+    return 1;
+}
+
+/* Of the four texts. */
+static size_t show_texts_faults(const struct station *station) {
+    size_t faults = 0;
+    for (uint32_t section = GATE_ALLOW; section <= GATE_PORTACL && section <= station->texts; section++)
+        faults += show_text_faults(station, section);
+    return faults;
+}
+
+size_t show_own_faults(const struct station *station) {
+    size_t faults = show_texts_faults(station);
+    faults += show_naming_faults(station, GATE_TABLE_NAME);
+    return faults + show_naming_faults(station, GATE_TOO_DEEP);
+}
+
+size_t show_tables_faults(const struct station *station) {
+    size_t faults = show_misnamed_tables(station);
+    return faults + show_bad_tables(station);
+}
+
+/* In the order of the gate: the first that is shown is the one that it answers with. */
+static size_t show_named_faults(const struct station *station) {
+    size_t faults = show_naming_faults(station, GATE_TABLE_NAME);
+    faults += show_misnamed_tables(station);
+    faults += show_naming_faults(station, GATE_TOO_DEEP);
+    return faults + show_bad_tables(station);
+}
+
+size_t show_refusal(const struct station *station) {
+    if (is_sound(station))
+        return 0;
+    complain(station->path, "refused, section %u line %llu [%u]", (unsigned)station->refusal.section, (unsigned long long)station->refusal.line,
+             (unsigned)station->refusal.number);
     return 1;
 }
 
 size_t show_faults(const struct station *station) {
     size_t faults = station->is_folder ? 0 : show_frame_fault(station);
-    for (uint32_t section = GATE_ALLOW; section <= station->texts; section++)
-        faults += show_text_faults(station, section);
-    if (!faults && !is_sound(station)) {
-        complain(station->path, "refused, section %u line %llu [%u]", (unsigned)station->refusal.section,
-                 (unsigned long long)station->refusal.line, (unsigned)station->refusal.number);
-        faults++;
-    }
-    return faults;
+    faults += show_texts_faults(station);
+    if (station->texts == SECTIONS)
+        faults += show_named_faults(station);
+    return faults ? faults : show_refusal(station);
 }
 
 void refuse_station(const struct station *station) {

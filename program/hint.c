@@ -40,7 +40,11 @@ static const char *dotted_hint(const uint8_t *bytes, size_t len) {
     return "write four fields of 0 to 255 in fewest digits, or one to three, each followed by a dot";
 }
 
+#define TABLE_FORM "a table is named by / and 1 to 64 letters, digits, - _ ."
+
 static const char *element_hint(const uint8_t *bytes, size_t len) {
+    if (len && bytes[0] == '/' && !has(bytes, len, '@'))
+        return TABLE_FORM;
     if (only(bytes, len, "0123456789./"))
         return dotted_hint(bytes, len);
     if (has(bytes, len, '*') || has(bytes, len, '?'))
@@ -66,6 +70,31 @@ static const char *entry_hint(const uint8_t *bytes, size_t len) {
     return "write uid:NUMBER:tcp:PORT, in lower case and fewest digits (or gid, or udp)";
 }
 
+static const char *reserved_hint(const uint8_t *bytes, size_t len) {
+    if (len && bytes[0] == '/')
+        return "a table (/name) holds hosts: it stands among the clients, or behind a daemon and @";
+    return "netgroups (@name) are not read here: write the hosts themselves, or a table of them (/name)";
+}
+
+/* Of what is no pattern of a table. */
+static const char *pattern_hint(const uint8_t *bytes, size_t len) {
+    if (has(bytes, len, '\r'))
+        return "a carriage return: the file has CR LF line ends, and needs LF alone (tr -d '\\r')";
+    if (is(bytes, len, "EXCEPT"))
+        return "a table has no EXCEPT: it stands in the rule, as in /name EXCEPT host";
+    if (len && bytes[0] == '#')
+        return "a table has no comments: it holds hosts, and nothing else";
+    if (has(bytes, len, ','))
+        return "the hosts of a table are parted by blanks, tabs and newlines, not by commas";
+    if (has(bytes, len, '@'))
+        return "a table has no users and no netgroups: a user stands in the rule, as in user@/name";
+    if (has(bytes, len, '\\'))
+        return "the lines of a table are not joined: leave the backslash out";
+    if (has(bytes, len, ':') && !has(bytes, len, '['))
+        return "an IPv6 address stands in brackets, and a table has no commands";
+    return element_hint(bytes, len);
+}
+
 const char *hint_for(uint32_t number, const uint8_t *marked, size_t len) {
     switch (number) {
     case GATE_UNENDED: return "end it with a newline";
@@ -73,10 +102,11 @@ const char *hint_for(uint32_t number, const uint8_t *marked, size_t len) {
     case GATE_LONG_LINE: return "make two rules of it";
     case GATE_NO_ELEMENT: return len ? "this bracket is not closed, and no colon behind it counts" : RULE_FORM;
     case GATE_MISPLACED_EXCEPT: return "EXCEPT stands between two elements, as in ALL EXCEPT .x.example";
-    case GATE_RESERVED_START: return "netgroups (@name) and files of patterns (/name) are not read here: write the hosts themselves";
+    case GATE_RESERVED_START: return reserved_hint(marked, len);
     case GATE_UNKNOWN_ELEMENT: return element_hint(marked, len);
     case GATE_BAD_PERCENT: return "behind % stands one of a A n N h H u c d s p, or %, which writes one percent sign";
     case GATE_BAD_ENTRY: return entry_hint(marked, len);
+    case GATE_BAD_TABLE: return pattern_hint(marked, len);
     default: return "gate explain tells more";
     }
 }

@@ -5,7 +5,7 @@
 #include <stddef.h>
 #include <stdint.h>
 
-/* Of a number from 4 to 12; holds until the next call. */
+/* Of a number from 4 to 12, or 17; holds until the next call. */
 #define HINT_ROOM 160
 const char *hint_for(uint32_t number, const uint8_t *marked, size_t len);
 

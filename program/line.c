@@ -121,6 +121,13 @@ bool word_is(const struct joined *joined, struct span word, const char *text) {
     return word.to - word.from == len && !strncasecmp((const char *)joined->bytes + word.from, text, len);
 }
 
+bool table_part(const struct joined *joined, struct span word, bool is_daemon, struct span *part) {
+    const uint8_t *bytes = joined->bytes;
+    const uint8_t *at = memchr(bytes + word.from + 1, '@', word.to - word.from - 1);
+    *part = (struct span){at ? (size_t)(at - bytes) + 1 : word.from, word.to};
+    return (at || !is_daemon) && names_table(bytes + part->from, part->to - part->from);
+}
+
 static bool is_address_byte(uint8_t byte) {
     return isxdigit(byte) || byte == ':' || byte == '.';
 }

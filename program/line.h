@@ -51,6 +51,9 @@ bool read_rule(const struct joined *joined, struct rule *rule);
 bool next_word(const struct joined *joined, struct span list, struct span *word);
 bool word_is(const struct joined *joined, struct span word, const char *text);
 
+/* The part of an element that names a table: a client itself, or what follows an @. False where it names none. */
+bool table_part(const struct joined *joined, struct span word, bool is_daemon, struct span *part);
+
 /* An IPv6 address without brackets that a separator of the rule stands in, if there is one. */
 bool bare_address(const struct joined *joined, const struct rule *rule, struct span *found);
 

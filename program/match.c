@@ -5,10 +5,10 @@
 #include "question.h"
 #include "reading.h"
 
-enum { QUIET, NAME, PARANOID, UNKNOWN_USER, SERVER_NAME, SERVER_PARANOID, PROCESS };
+enum { QUIET, TABLES, NAME, PARANOID, UNKNOWN_USER, SERVER_NAME, SERVER_PARANOID, PROCESS };
 
 static const struct option options[] = {
-    {"quiet", 'q', NULL},        {"name", 0, "NAME"},           {"paranoid", 0, NULL},  {"unknown-user", 0, NULL},
+    {"quiet", 'q', NULL},        {"tables", 0, "FOLDER"},    {"name", 0, "NAME"},           {"paranoid", 0, NULL},    {"unknown-user", 0, NULL},
     {"server-name", 0, "NAME"},  {"server-paranoid", 0, NULL},  {"process", 0, "NUMBER"}, {NULL, 0, NULL}};
 
 static const char help[] =
@@ -22,6 +22,7 @@ static const char help[] =
     "         yet, and the verdict may be ask.\n"
     "CLIENT   the client's address, or unknown.\n"
     "\n"
+    "  --tables FOLDER       the tables of a folder's rules; without it STATION/tables\n"
     "  --name NAME           the client's name; without it the name is unknown\n"
     "  --paranoid            the client's name and address disagree\n"
     "  --unknown-user        the user was asked for, and no name came\n"

@@ -14,12 +14,12 @@
 
 /* Temporary files and folders, by their paths, so that a signal can remove them. */
 
-static char temporaries[FILES_MOST + 1][PATH_ROOM];
+static char temporaries[FILES_MOST + 2][PATH_ROOM];
 static volatile sig_atomic_t temporaries_count;
 static const int signals[] = {SIGHUP, SIGINT, SIGTERM};
 #define SIGNALS (sizeof signals / sizeof *signals)
 
-/* A folder is the first of them, and goes last. */
+/* A folder comes before what it holds, and goes behind it. */
 static void remove_temporaries(void) {
     for (int i = (int)temporaries_count - 1; i >= 0; i--) {
         if (unlink(temporaries[i]))
@@ -93,14 +93,14 @@ static int create_listed(const char *path, bool beside) {
     return fd;
 }
 
-/* The same for a temporary folder. */
-static bool create_folder(const char *path) {
+/* The same for a folder. */
+static bool create_folder(const char *path, bool beside) {
     sigset_t before;
-    char *slot = new_slot(path, true);
+    char *slot = new_slot(path, beside);
     if (!slot)
         return false;
     hold_signals(&before);
-    bool good = mkdtemp(slot) != NULL;
+    bool good = beside ? mkdtemp(slot) != NULL : !mkdir(slot, 0700);
     if (good)
         temporaries_count++;
     release_signals(&before);
@@ -210,23 +210,80 @@ bool write_file(const char *path, const uint8_t *bytes, size_t len) {
 
 /* Folders */
 
-/* All files of a folder, under temporary names or, in a temporary folder, under their own. */
-static bool write_files(const char *folder, bool beside, const struct file *files, size_t count) {
+/* What takes its place at the end: the temporary file or folder in a slot, and where it goes. */
+struct move {
+    int slot;
     char path[PATH_ROOM];
-    for (size_t i = 0; i < count; i++) {
-        if (!join_path(path, folder, files[i].name))
-            return false;
-        if (!write_listed(path, beside, files[i].bytes, files[i].len))
-            return failed(path);
-    }
+};
+
+/* Files on their way into a folder that is there, or into a new one, which is temporary itself. */
+struct filling {
+    const char *folder;
+    bool is_new;
+    bool within_is_new;
+    char within[PATH_ROOM]; /* the path of the folder within, where a file went into it; else empty */
+    struct move moves[FILES_MOST + 1];
+    size_t count;
+};
+
+static bool is_there(const char *path) {
+    struct stat there;
+    return !stat(path, &there);
+}
+
+static void add_move(struct filling *f, const char *path) {
+    struct move *move = &f->moves[f->count++];
+    move->slot = (int)temporaries_count - 1;
+    snprintf(move->path, sizeof move->path, "%s", path);
+}
+
+/* A folder within a folder that is there is made beside its place; within a new one it is made at it. */
+static bool open_within(struct filling *f, const char *name) {
+    char path[PATH_ROOM];
+    if (*f->within)
+        return true;
+    if (!join_path(path, f->folder, name))
+        return false;
+    f->within_is_new = f->is_new || !is_there(path);
+    if (f->within_is_new && !create_folder(path, !f->is_new))
+        return failed(path);
+    if (f->within_is_new && !f->is_new)
+        add_move(f, path);
+    snprintf(f->within, sizeof f->within, "%s", f->within_is_new ? temporaries[temporaries_count - 1] : path);
     return true;
 }
 
-static bool name_files(const char *folder, const struct file *files, size_t count) {
+/* One file on disk, under a temporary name or, in a folder that is new, under its own. */
+static bool put_file(struct filling *f, const struct file *file) {
     char path[PATH_ROOM];
+    if (file->within && !open_within(f, file->within))
+        return false;
+    bool beside = !(file->within ? f->within_is_new : f->is_new);
+    if (!join_path(path, file->within ? f->within : f->folder, file->name))
+        return false;
+    if (!write_listed(path, beside, file->bytes, file->len))
+        return failed(path);
+    if (beside)
+        add_move(f, path);
+    return true;
+}
+
+static bool put_files(struct filling *f, const struct file *files, size_t count) {
     for (size_t i = 0; i < count; i++) {
-        if (!join_path(path, folder, files[i].name) || rename(temporaries[i], path)) {
-            complain("gate", "%s: %s; %zu of the %zu files are in place", shown(path), strerror(errno), i, count);
+        if (!put_file(f, &files[i])) {
+            remove_temporaries();
+            return false;
+        }
+    }
+    if (*f->within && f->within_is_new && (chmod(f->within, without_umask(0755)) || !sync_folder(f->within)))
+        return failed(f->within);
+    return true;
+}
+
+static bool name_files(const struct filling *f) {
+    for (size_t i = 0; i < f->count; i++) {
+        if (rename(temporaries[f->moves[i].slot], f->moves[i].path)) {
+            complain("gate", "%s: %s; %zu of %zu are in place", shown(f->moves[i].path), strerror(errno), i, f->count);
             remove_temporaries();
             return false;
         }
@@ -236,20 +293,21 @@ static bool name_files(const char *folder, const struct file *files, size_t coun
 }
 
 /* Signals wait until all files have their names. */
-static bool fill_folder(const char *folder, const struct file *files, size_t count) {
+static bool fill_folder(struct filling *f, const struct file *files, size_t count) {
     sigset_t before;
-    if (!write_files(folder, true, files, count))
+    if (!put_files(f, files, count))
         return false;
     hold_signals(&before);
-    bool good = name_files(folder, files, count);
+    bool good = name_files(f);
     release_signals(&before);
-    return good && sync_folder(folder);
+    return good && (!*f->within || f->within_is_new || sync_folder(f->within)) && sync_folder(f->folder);
 }
 
-static bool new_folder(const char *folder, const struct file *files, size_t count) {
-    if (!create_folder(folder))
+static bool new_folder(struct filling *f, const char *folder, const struct file *files, size_t count) {
+    if (!create_folder(folder, true))
         return failed(folder);
-    if (!write_files(temporaries[0], false, files, count))
+    f->folder = temporaries[0];
+    if (!put_files(f, files, count))
         return false;
     if (chmod(temporaries[0], without_umask(0755)) || !sync_folder(temporaries[0]) || !take_place(folder))
         return failed(folder);
@@ -257,7 +315,10 @@ static bool new_folder(const char *folder, const struct file *files, size_t coun
 }
 
 bool write_folder(const char *folder, const struct file *files, size_t count) {
-    struct stat there;
+    static struct filling filling;
+    memset(&filling, 0, sizeof filling);
+    filling.folder = folder;
+    filling.is_new = !is_there(folder);
     watch_signals();
-    return stat(folder, &there) ? new_folder(folder, files, count) : fill_folder(folder, files, count);
+    return filling.is_new ? new_folder(&filling, folder, files, count) : fill_folder(&filling, files, count);
 }

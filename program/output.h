@@ -13,10 +13,11 @@ bool may_write(const char *path);
  * which takes its place once it is on disk. A signal removes the temporary file. */
 bool write_file(const char *path, const uint8_t *bytes, size_t len);
 
-/* The same for files of one folder. A folder that is not there yet appears with all of them at once; in one that is there, all are on
- * disk before the first takes its place. */
-#define FILES_MOST 4
+/* The same for files of one folder, some of them in a folder within it. A folder that is not there yet appears with all of its files at
+ * once; in one that is there, all are on disk before the first takes its place. */
+#define FILES_MOST 68
 struct file {
+    const char *within; /* the name of the folder within, or NULL */
     const char *name;
     const uint8_t *bytes;
     size_t len;

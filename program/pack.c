@@ -1,4 +1,4 @@
-/* gate pack: a station's four texts into a sheet. */
+/* gate pack: a station's four texts and its tables into a sheet. */
 #include <stdio.h>
 #include <string.h>
 #include <sys/stat.h>
@@ -7,34 +7,48 @@
 #include "message.h"
 #include "output.h"
 
-enum { QUIET };
+enum { QUIET, TABLES };
 
-static const struct option options[] = {{"quiet", 'q', NULL}, {NULL, 0, NULL}};
+static const struct option options[] = {{"quiet", 'q', NULL}, {"tables", 0, "FOLDER"}, {NULL, 0, NULL}};
 
 static const char help[] =
-    "Packs hosts.allow, hosts.deny, byuid and portacl of FOLDER into SHEET; - writes\n"
-    "the sheet to standard output. Texts with a fault are refused, with all faults.\n"
+    "Packs hosts.allow, hosts.deny, byuid and portacl of FOLDER, and tables, into SHEET;\n"
+    "- writes the sheet to standard output. Texts with a fault are refused, with all\n"
+    "faults.\n"
+    "\n"
+    "The tables are the files of another folder: a file's name is the table's, and its\n"
+    "bytes are the hosts; names that begin with a dot are passed over. They are packed\n"
+    "in the order of their names' bytes. gate fleet packs many stations with the same.\n"
     "\n"
     "SHEET appears whole or not at all: it is written to a temporary file beside it,\n"
     "synced, and renamed. A sheet that was there keeps its mode, and stays as it was\n"
     "at any error, refusal or signal. SHEET may not be a symbolic link.\n"
     "\n"
+    "  --tables FOLDER   the tables; without it those of FOLDER/tables, where that is\n"
+    "                there, else none\n"
     "  -q, --quiet   print nothing; the exit status tells\n"
     "\n"
     "Exit status: 0 packed, 2 an error or a refusal.\n"
     "\n"
     "For example:\n"
-    "  gate pack sample station.sheet\n";
+    "  gate pack sample station.sheet\n"
+    "  gate pack sample/fleet/north north.sheet --tables sample/fleet/tables\n";
 
-/* Whether the sheet would take the place of a text that it is made of. */
-static bool is_own_text(const char *folder, const char *sheet) {
-    struct stat there, text;
-    char path[PATH_ROOM];
+static bool is_file(const char *path, const struct stat *file) {
+    struct stat there;
+    return !stat(path, &there) && there.st_dev == file->st_dev && there.st_ino == file->st_ino;
+}
+
+/* Whether the sheet would take the place of a text or a table that it is made of. */
+static bool is_own_text(const struct station *station, const char *sheet) {
+    struct stat there;
     bool same = false;
     if (stat(sheet, &there))
         return false;
     for (uint32_t section = GATE_ALLOW; section <= GATE_PORTACL && !same; section++)
-        same = join_path(path, folder, section_file(section)) && !stat(path, &text) && text.st_dev == there.st_dev && text.st_ino == there.st_ino;
+        same = is_file(section_path(station, section), &there);
+    for (size_t i = 0; i < station->tables.count && !same; i++)
+        same = is_file(table_path(station, i), &there);
     if (same)
         complain("gate", "%s: is one of the texts to be packed", shown(sheet));
     return same;
@@ -44,7 +58,8 @@ static enum status run(const struct arguments *arguments) {
     static struct station station;
     const char *folder = arguments->operand[0], *sheet = arguments->operand[1];
     bool standard = !strcmp(sheet, "-");
-    if (!read_station_folder(&station, folder) || (!standard && (!may_write(sheet) || is_own_text(folder, sheet))))
+    if (!read_station_folder(&station, folder, arguments->option[TABLES]) ||
+        (!standard && (!may_write(sheet) || is_own_text(&station, sheet))))
         return STATUS_FAILED;
     if (!is_sound(&station)) {
         refuse_station(&station);
@@ -59,4 +74,5 @@ static enum status run(const struct arguments *arguments) {
     return STATUS_YES;
 }
 
-const struct command pack_command = {"pack", "FOLDER SHEET [-q]", "a station's four texts into a sheet", help, options, 2, 2, run};
+const struct command pack_command = {
+    "pack", "FOLDER SHEET [--tables FOLDER] [-q]", "a station's texts and tables into a sheet", help, options, 2, 2, run};

@@ -4,11 +4,11 @@
 #include "question.h"
 #include "reading.h"
 
-enum { QUIET, GROUPS, ENABLED, PORT_HIGH, SUSER_EXEMPT, AUTOPORT_EXEMPT };
+enum { QUIET, TABLES, GROUPS, ENABLED, PORT_HIGH, SUSER_EXEMPT, AUTOPORT_EXEMPT };
 
-static const struct option options[] = {{"quiet", 'q', NULL},       {"groups", 0, "GID[,GID..]"},    {"enabled", 0, "NUMBER"},
-                                        {"port-high", 0, "NUMBER"}, {"suser-exempt", 0, "NUMBER"},   {"autoport-exempt", 0, "NUMBER"},
-                                        {NULL, 0, NULL}};
+static const struct option options[] = {{"quiet", 'q', NULL},         {"tables", 0, "FOLDER"},          {"groups", 0, "GID[,GID..]"},
+                                        {"enabled", 0, "NUMBER"},     {"port-high", 0, "NUMBER"},       {"suser-exempt", 0, "NUMBER"},
+                                        {"autoport-exempt", 0, "NUMBER"}, {NULL, 0, NULL}};
 
 static const char help[] =
     "STATION is a sheet, a folder with the four texts, or - for a sheet on standard\n"
@@ -17,6 +17,8 @@ static const char help[] =
     "UID            the account, as a number.\n"
     "PROTOCOL:PORT  what it binds: tcp:80 or udp:123.\n"
     "\n"
+    "  --tables FOLDER            the tables of a folder's rules; without it\n"
+    "                             STATION/tables\n"
     "  --groups GID[,GID..]       the account's groups, as numbers, at most 16\n"
     "  --enabled NUMBER           the settings of mac_portacl(4); without them\n"
     "  --port-high NUMBER         1, 1023, 1 and 1, as mac_portacl starts\n"

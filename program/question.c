@@ -81,7 +81,8 @@ enum status run_query(const struct query *query, const struct arguments *argumen
     static struct station station;
     static struct reply reply;
     struct question question;
-    if (!query->read(&question, "gate", arguments->operand + 1, arguments) || !read_sound_station(&station, arguments->operand[0]))
+    if (!query->read(&question, "gate", arguments->operand + 1, arguments) ||
+        !read_sound_station(&station, arguments->operand[0], arguments->option[1]))
         return STATUS_FAILED;
     query->ask(&reply, &station, &question);
     if (reply.number != GATE_ANSWERED)

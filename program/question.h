@@ -33,7 +33,7 @@ struct reply {
 
 struct query {
     const char *name;
-    const struct option *options; /* the first is quiet */
+    const struct option *options; /* the first is quiet, the second tables */
     size_t operands;              /* behind the station */
     bool (*read)(struct question *question, const char *where, char const *const *operand, const struct arguments *arguments);
     void (*ask)(struct reply *reply, const struct station *station, const struct question *question);

@@ -5,9 +5,9 @@
 #include "message.h"
 #include "question.h"
 
-enum { QUIET, PRINT };
+enum { QUIET, TABLES, PRINT };
 
-static const struct option options[] = {{"quiet", 'q', NULL}, {"print", 'p', NULL}, {NULL, 0, NULL}};
+static const struct option options[] = {{"quiet", 'q', NULL}, {"tables", 0, "FOLDER"}, {"print", 'p', NULL}, {NULL, 0, NULL}};
 
 static const char help[] =
     "STATION is a sheet, a folder with the four texts, or - for a sheet on standard\n"
@@ -25,6 +25,7 @@ static const char help[] =
     "left out is not compared. Each answer that differs is shown on standard error,\n"
     "as REQUESTS:LINE: message.\n"
     "\n"
+    "  --tables FOLDER   the tables of a folder's rules; without it STATION/tables\n"
     "  -p, --print   compare nothing; print the requests with the answers they get\n"
     "  -q, --quiet   print nothing; the exit status tells\n"
     "\n"
@@ -97,8 +98,8 @@ static bool read_question(const struct query **query, struct question *question,
     }
     if (!read_arguments(&arguments, (*query)->options, where, entry->count - 1, entry->words + 1))
         return false;
-    if (arguments.operands != (*query)->operands || arguments.option[QUIET]) {
-        complain(where, "%s: wrong arguments: as of gate %s --help, without the station and -q", (*query)->name, (*query)->name);
+    if (arguments.operands != (*query)->operands || arguments.option[QUIET] || arguments.option[TABLES]) {
+        complain(where, "%s: wrong arguments: as of gate %s --help, without the station, --tables and -q", (*query)->name, (*query)->name);
         return false;
     }
     return (*query)->read(question, where, arguments.operand, &arguments);
@@ -254,7 +255,7 @@ static enum status run_test(const struct arguments *arguments) {
         complain("gate", "-: the sheet and the requests can't both come from standard input");
         return STATUS_FAILED;
     }
-    if (!read_file(run.path, REQUESTS_MOST, &requests) || !read_sound_station(&station, arguments->operand[0]))
+    if (!read_file(run.path, REQUESTS_MOST, &requests) || !read_sound_station(&station, arguments->operand[0], arguments->option[TABLES]))
         return STATUS_FAILED;
     if (requests.len > REQUESTS_MOST) {
         complain("gate", "%s: over %d bytes: part it", shown(run.path), REQUESTS_MOST);
@@ -265,4 +266,4 @@ static enum status run_test(const struct arguments *arguments) {
 }
 
 const struct command test_command = {
-    "test", "STATION REQUESTS [-p] [-q]", "a file of requests with their expected answers", help, options, 2, 2, run_test};
+    "test", "STATION REQUESTS [--tables FOLDER] [-p] [-q]", "a file of requests with their expected answers", help, options, 2, 2, run_test};

@@ -99,42 +99,62 @@ static bool read_mask(const char *text, size_t len, uint32_t *mask) {
 }
 
 /* The half of an element that is a host pattern. */
-static const char *pattern_of(struct scene *s, struct span word) {
-    const char *text = (const char *)s->joined.bytes + word.from, *at = memchr(text, '@', word.to - word.from);
-    return at ? at + 1 : text;
+static struct span pattern_of(struct scene *s, struct span word) {
+    const uint8_t *text = s->joined.bytes + word.from, *at = memchr(text, '@', word.to - word.from);
+    return (struct span){at ? word.from + (size_t)(at + 1 - text) : word.from, word.to};
 }
 
-/* [address] or [address]/length of addresses that begin with 80 zero bits and 16 ones: a request has none, they are held as IPv4. */
-static void warn_of_mapped(struct scene *s, struct span word) {
-    const char *host = pattern_of(s, word), *end = (const char *)s->joined.bytes + word.to, *closed = memchr(host, ']', (size_t)(end - host));
+#define MAPPED_WARNING "matches no address: ::ffff:n.n.n.n is held as IPv4; write %s/%u"
+
+/* The IPv4 net, and the length of its mask, of [address] or [address]/length of addresses that begin with 80 zero bits and 16 ones: a
+ * request has none, they are held as IPv4. Else NULL. */
+static const char *mapped_net(const char *host, size_t len, uint32_t *ones) {
+    const char *end = host + len, *closed = memchr(host, ']', len);
     struct gate_host net;
     uint32_t length = 128;
-    if (*host != '[' || !closed || gate_host_read(&net, host + 1, (size_t)(closed - host - 1)) ||
-        (closed + 1 < end && !read_decimal(closed + 2, (size_t)(end - closed - 2), 128, &length)))
-        return;
-    if (net.high == 0 && net.low >> 32 == 0xffff && length >= 96) {
-        net.kind = GATE_IPV4;
-        net.low &= length == 96 ? 0 : UINT32_MAX << (128 - length);
-        uint8_t written[GATE_ADDRESS_ROOM];
-        struct gate_written len = gate_host_write(written, sizeof written, &net);
-        warn(s, word, "matches no address: ::ffff:n.n.n.n is held as IPv4; write %s/%u", shown_bytes(written, (size_t)len.count), length - 96);
-    }
+    uint8_t written[GATE_ADDRESS_ROOM];
+    if (!closed || *host != '[' || gate_host_read(&net, host + 1, (size_t)(closed - host - 1)) ||
+        (closed + 1 < end && (closed[1] != '/' || !read_decimal(closed + 2, (size_t)(end - closed - 2), 128, &length))))
+        return NULL;
+    if (net.high != 0 || net.low >> 32 != 0xffff || length < 96)
+        return NULL;
+    net.kind = GATE_IPV4;
+    net.low &= length == 96 ? 0 : UINT32_MAX << (128 - length);
+    *ones = length - 96;
+    struct gate_written count = gate_host_write(written, sizeof written, &net);
+    return shown_bytes(written, (size_t)count.count);
 }
 
-/* net/mask with a bit of net outside mask. */
-static void warn_of_mask(struct scene *s, struct span word) {
-    const char *host = pattern_of(s, word), *end = (const char *)s->joined.bytes + word.to, *slash = memchr(host, '/', (size_t)(end - host));
+static void warn_of_mapped(struct scene *s, struct span word) {
+    struct span host = pattern_of(s, word);
+    uint32_t length;
+    const char *net = mapped_net((const char *)s->joined.bytes + host.from, host.to - host.from, &length);
+    if (net)
+        warn(s, word, MAPPED_WARNING, net, length);
+}
+
+#define MASK_WARNING "matches no address: the net has bits outside its mask; the net of this mask is %s"
+
+/* The net that net/mask should have, where a bit of net is outside mask; else NULL. */
+static const char *masked_net(const char *host, size_t len) {
+    const char *slash = memchr(host, '/', len);
     struct gate_host net;
     uint32_t mask;
-    if (!slash || gate_host_read(&net, host, (size_t)(slash - host)) || !read_mask(slash + 1, (size_t)(end - slash - 1), &mask))
-        return;
-    if (net.low & ~(uint64_t)mask) {
-        net.low &= mask;
-        uint8_t written[GATE_ADDRESS_ROOM];
-        struct gate_written len = gate_host_write(written, sizeof written, &net);
-        warn(s, word, "matches no address: the net has bits outside its mask; the net of this mask is %s",
-             shown_bytes(written, (size_t)len.count));
-    }
+    uint8_t written[GATE_ADDRESS_ROOM];
+    if (!slash || gate_host_read(&net, host, (size_t)(slash - host)) || !read_mask(slash + 1, len - (size_t)(slash - host) - 1, &mask))
+        return NULL;
+    if (!(net.low & ~(uint64_t)mask))
+        return NULL;
+    net.low &= mask;
+    struct gate_written count = gate_host_write(written, sizeof written, &net);
+    return shown_bytes(written, (size_t)count.count);
+}
+
+static void warn_of_mask(struct scene *s, struct span word) {
+    struct span host = pattern_of(s, word);
+    const char *net = masked_net((const char *)s->joined.bytes + host.from, host.to - host.from);
+    if (net)
+        warn(s, word, MASK_WARNING, net);
 }
 
 static void warn_of_nets(struct scene *s, struct span list) {
@@ -193,6 +213,90 @@ static void warn_of_file(struct scene *s, uint32_t section) {
     s->told = false;
     for (bool more = first_line(text, &s->line); more; more = next_line(text, &s->line))
         warn_of_line(s);
+}
+
+/* Tables */
+
+static void mark_table(const struct tables *tables, size_t place, bool *used, size_t most) {
+    size_t from = 0, to = 0;
+    if (place == NO_TABLE || place >= most || used[place])
+        return;
+    used[place] = true;
+    const struct text *text = &tables->table[place].text;
+    while (next_pattern(text, &from, &to))
+        mark_table(tables, find_named(text->bytes + from, to - from), used, most);
+}
+
+static void mark_list(const struct station *station, const struct joined *joined, struct span list, bool is_daemon, bool *used, size_t most) {
+    struct span word = {list.from, list.from}, part;
+    while (next_word(joined, list, &word)) {
+        if (table_part(joined, word, is_daemon, &part))
+            mark_table(&station->tables, find_named(joined->bytes + part.from, part.to - part.from), used, most);
+    }
+}
+
+void mark_used_tables(const struct station *station, bool *used, size_t most) {
+    static struct joined joined;
+    struct line line;
+    struct rule rule;
+    for (uint32_t section = GATE_ALLOW; section <= GATE_DENY; section++) {
+        const struct text *text = section_text(station, section);
+        for (bool more = is_within(station, section) && first_line(text, &line); more; more = next_line(text, &line)) {
+            join_line(&joined, text, &line);
+            if (!read_rule(&joined, &rule))
+                continue;
+            mark_list(station, &joined, rule.daemons, true, used, most);
+            mark_list(station, &joined, rule.clients, false, used, most);
+        }
+    }
+}
+
+/* Only where no other station can have the table. */
+static size_t warn_of_unused(const struct station *station) {
+    bool used[GATE_TABLES_COUNT] = {false};
+    size_t warnings = 0;
+    mark_used_tables(station, used, GATE_TABLES_COUNT);
+    for (size_t i = 0; i < station->tables.count && i < GATE_TABLES_COUNT; i++) {
+        if (used[i])
+            continue;
+        fprintf(stderr, "%s: warning: no rule leads to this table\n", table_path(station, i));
+        warnings++;
+    }
+    return warnings;
+}
+
+static size_t warn_of_table_line(const struct station *station, size_t place, const struct line *line) {
+    const struct text *text = &station->tables.table[place].text;
+    struct text part = {text->bytes + line->place, line->len};
+    size_t from = 0, to = 0, warnings = 0;
+    while (next_pattern(&part, &from, &to)) {
+        uint32_t length;
+        const char *pattern = (const char *)part.bytes + from, *net = masked_net(pattern, to - from);
+        const char *mapped = net ? NULL : mapped_net(pattern, to - from, &length);
+        struct marks marks = {.count = 0};
+        if (!net && !mapped)
+            continue;
+        fprintf(stderr, "%s:%llu: warning: ", table_path(station, place), (unsigned long long)line->number);
+        if (net)
+            fprintf(stderr, MASK_WARNING "\n", net);
+        else
+            fprintf(stderr, MAPPED_WARNING "\n", mapped, length);
+        add_mark(&marks, line->place + from, line->place + to);
+        show_excerpt(text, line, &marks);
+        warnings++;
+    }
+    return warnings;
+}
+
+size_t show_table_warnings(const struct station *station) {
+    size_t warnings = 0;
+    for (size_t i = 0; i < station->tables.count && i < GATE_TABLES_COUNT; i++) {
+        const struct text *text = &station->tables.table[i].text;
+        struct line line;
+        for (bool more = first_plain_line(text, &line); more; more = next_plain_line(text, &line))
+            warnings += warn_of_table_line(station, i, &line);
+    }
+    return warnings + (station->has_own_tables ? warn_of_unused(station) : 0);
 }
 
 size_t show_warnings(const struct station *station) {

@@ -12,9 +12,9 @@ struct text {
 };
 
 static struct lent {
-    struct text allow, deny, byuid, portacl, sheet, command, address, daemon, client_name, server_name, user_name;
+    struct text allow, deny, byuid, portacl, tables, sheet, old_sheet, command, address, daemon, client_name, server_name, user_name;
     uint32_t groups[2];
-    uint8_t out[120];
+    uint8_t out[160];
 } m, expected, after;
 
 static int failed;
@@ -43,13 +43,19 @@ static void set(struct text *t, const char *s, size_t len) {
 #define MAPPED_REQUEST TEXT(daemon), MAPPED(0x0a010203), TEXT(client_name), MAPPED(0xc0000201), TEXT(server_name), 1, TEXT(user_name)
 #define BIND(protocol, port) 1, 1023, 1, 1, 80, m.groups, 2, protocol, port
 
+/* Vans, which name the depot, and the depot, which is 10.0.0.1. */
+#define VANS_AND_DEPOT "\0\2\4vans\0\0\0\x0c" "van8 /Depot\n\5depot\0\0\0\x08" "10.0.0.1"
+#define FOUR_SECTIONS "\0\0\0\x15\nsshd: LOCAL: log %h\n\0\0\0\x09" "ALL: ALL\n\0\0\0\x0d" "10.0.0.0/8,80\0\0\0\x1buid:80:tcp:80,gid:20:udp:53"
+
 static void begin(void) {
     memset(&m, 0xa5, sizeof m);
     SET(allow, "\nsshd: LOCAL: log %h\n");
     SET(deny, "ALL: ALL\n");
     SET(byuid, "10.0.0.0/8,80");
     SET(portacl, "uid:80:tcp:80,gid:20:udp:53");
-    SET(sheet, "\0\0\0\x15\nsshd: LOCAL: log %h\n\0\0\0\x09" "ALL: ALL\n\0\0\0\x0d" "10.0.0.0/8,80\0\0\0\x1buid:80:tcp:80,gid:20:udp:53");
+    SET(tables, VANS_AND_DEPOT);
+    SET(sheet, FOUR_SECTIONS VANS_AND_DEPOT);
+    SET(old_sheet, FOUR_SECTIONS);
     SET(command, " /bin/log %u ");
     SET(address, "2620:106:e002:f00f:0:0:0:21");
     SET(daemon, "sshd");
@@ -125,7 +131,7 @@ static void verdicts(void) {
 static void mapped(void) {
     begin();
     SET(allow, "ALL@192.0.2.1: 10.: %a %A\n");
-    SET(sheet, "\0\0\0\x1a" "ALL@192.0.2.1: 10.: %a %A\n\0\0\0\x09" "ALL: ALL\n\0\0\0\0\0\0\0\0");
+    SET(sheet, "\0\0\0\x1a" "ALL@192.0.2.1: 10.: %a %A\n\0\0\0\x09" "ALL: ALL\n\0\0\0\0\0\0\0\0\0\0");
     SET(command, "%h"), lend();
     struct gate_answer verdict = gate_verdict(TEXT(allow), TEXT(deny), MAPPED_REQUEST);
     expect("a mapped client", decided(verdict, GATE_GRANTED, GATE_ALLOW, 1, 19, 6));
@@ -138,6 +144,55 @@ static void mapped(void) {
     lend();
     expect("a bind at its address", word(gate_byuid(TEXT(byuid), GATE_PLAIN_FILE, 80, GATE_IPV6, 0, 0xffff0a010203, 432), GATE_NO_LINE));
     expect("its address", wrote(gate_write_address(OUT(16), GATE_IPV6, 0, 0xffff0a010203), "::ffff:a01:203", 14));
+}
+
+#define TABLES_VERDICT(user) gate_tables_verdict(TEXT(allow), TEXT(deny), TEXT(tables), REQUEST(user))
+
+/* With tables: an answer by each way to name one, and each refusal that tables bring, in its order. */
+static void tables(void) {
+    begin(), lend();
+    expect("rules that name no table", decided(TABLES_VERDICT(1), GATE_GRANTED, GATE_ALLOW, 2, 13, 7));
+    SET(allow, "sshd: x\nsshd: /VANS: log\n"), lend();
+    expect("a table that names another", decided(TABLES_VERDICT(1), GATE_GRANTED, GATE_ALLOW, 2, 20, 4));
+    expect("without tables the name is missing", refused(gate_verdict(TEXT(allow), TEXT(deny), REQUEST(3)), GATE_TABLE_NAME, GATE_ALLOW, 2));
+    expect("and its command", command_refused(gate_command(OUT(0), TEXT(allow), TEXT(deny), REQUEST(3), 7), GATE_TABLE_NAME, GATE_ALLOW, 2));
+    expect("13 behind the tables", refused(TABLES_VERDICT(3), GATE_BAD_REQUEST, 0, 0));
+    SET(allow, "ALL: KNOWN@/vans\n"), lend();
+    expect("a user not fetched asks when the table matches", decided(TABLES_VERDICT(0), GATE_ASK, GATE_ALLOW, 1, 0, 0));
+    SET(allow, "sshd@/vans: ALL\n"), lend();
+    expect("the server's host in a table", decided(TABLES_VERDICT(1), GATE_DENIED, GATE_DENY, 1, 0, 0));
+    SET(allow, "ALL: /gone\n"), lend();
+    expect("15 in a rule", refused(TABLES_VERDICT(3), GATE_TABLE_NAME, GATE_ALLOW, 1));
+    SET(allow, ""), SET(tables, "\0\2\1a\0\0\0\0\1A\0\0\0\0"), lend();
+    expect("15 for the later of two", refused(TABLES_VERDICT(3), GATE_TABLE_NAME, GATE_TABLES, 2));
+    SET(deny, "\nALL: /a\n"), SET(tables, "\0\1\1a\0\0\0\2/A"), lend();
+    expect("16 for a ring", refused(TABLES_VERDICT(3), GATE_TOO_DEEP, GATE_DENY, 2));
+    SET(deny, ""), SET(tables, "\0\2\1a\0\0\0\0\1b\0\0\0\6EXCEPT"), lend();
+    expect("17 for EXCEPT in a table", refused(TABLES_VERDICT(3), GATE_BAD_TABLE, GATE_TABLES, 2));
+    m.tables.len--, lend();
+    expect("1 for a cut", refused(TABLES_VERDICT(3), GATE_CUT_SHORT, GATE_TABLES, 0));
+    SET(tables, "\0\0x"), lend();
+    expect("3 for a byte behind", refused(TABLES_VERDICT(3), GATE_TRAILING_BYTES, 0, 0));
+    SET(tables, ""), lend();
+    expect("no bytes are a cut", refused(TABLES_VERDICT(3), GATE_CUT_SHORT, GATE_TABLES, 0));
+    SET(tables, "\0\0"), lend();
+    expect("no tables", decided(TABLES_VERDICT(1), GATE_GRANTED, 0, 0, 0, 0));
+}
+
+static void upgrades(void) {
+    begin();
+    memcpy(m.sheet.bytes + m.old_sheet.len, "\0\0", 2), m.sheet.len = m.old_sheet.len + 2, lend();
+    expect("an upgrade in exact room", wrote(gate_upgrade(OUT(m.sheet.len), TEXT(old_sheet)), TEXT(sheet)));
+    expect("is a sheet", gate_check(TEXT(sheet)).number == GATE_ANSWERED);
+    begin(), lend();
+    expect("an upgrade in less room", unwritten(gate_upgrade(OUT(m.old_sheet.len + 1), TEXT(old_sheet)), GATE_NO_ROOM, 0, 0));
+    expect("a sheet that has its tables", unwritten(gate_upgrade(OUT(sizeof m.out), TEXT(sheet)), GATE_TRAILING_BYTES, 0, 0));
+    m.old_sheet.len--, lend();
+    expect("a cut one", unwritten(gate_upgrade(OUT(sizeof m.out), TEXT(old_sheet)), GATE_CUT_SHORT, GATE_PORTACL, 0));
+    SET(old_sheet, "\0\0\x40\1"), lend();
+    expect("one over a limit", unwritten(gate_upgrade(OUT(0), TEXT(old_sheet)), GATE_OVER_LIMIT, GATE_ALLOW, 0));
+    SET(old_sheet, "\0\0\0\1x\0\0\0\0\0\0\0\0\0\0\0\1,"), lend();
+    expect("its lines need not be sound", wrote(gate_upgrade(OUT(sizeof m.out), TEXT(old_sheet)), "\0\0\0\1x\0\0\0\0\0\0\0\0\0\0\0\1,\0\0", 20));
 }
 
 #define VERDICT(user) gate_verdict(TEXT(allow), TEXT(deny), REQUEST(user))
@@ -174,7 +229,7 @@ static void sheet_commands(void) {
     SET(daemon, "x"), lend();
     expect("no command by a sheet", commanded(SHEET_COMMAND(0, 1), gate_sheet_verdict(TEXT(sheet), REQUEST(1)), "", 0));
     m.sheet.len--, lend();
-    expect("a command by a cut sheet", command_refused(SHEET_COMMAND(0, 3), GATE_CUT_SHORT, GATE_PORTACL, 0));
+    expect("a command by a cut sheet", command_refused(SHEET_COMMAND(0, 3), GATE_CUT_SHORT, GATE_TABLES, 0));
 }
 
 static void byuid(void) {
@@ -224,13 +279,17 @@ static void by_sheet(void) {
     expect("portacl by a sheet", word(gate_sheet_portacl(TEXT(sheet), BIND(GATE_TCP, 80)), GATE_GRANTED));
     expect("portacl by a sheet, no protocol", refused(gate_sheet_portacl(TEXT(sheet), BIND(0, 80)), GATE_BAD_REQUEST, 0, 0));
     m.sheet.len--, lend();
-    expect("verdict by a cut sheet", refused(gate_sheet_verdict(TEXT(sheet), REQUEST(3)), GATE_CUT_SHORT, GATE_PORTACL, 0));
-    expect("byuid by a cut sheet", refused(gate_sheet_byuid(TEXT(sheet), 80, 5, 0, 1, 432), GATE_CUT_SHORT, GATE_PORTACL, 0));
-    expect("portacl by a cut sheet", refused(gate_sheet_portacl(TEXT(sheet), BIND(0, 80)), GATE_CUT_SHORT, GATE_PORTACL, 0));
+    expect("verdict by a cut sheet", refused(gate_sheet_verdict(TEXT(sheet), REQUEST(3)), GATE_CUT_SHORT, GATE_TABLES, 0));
+    expect("byuid by a cut sheet", refused(gate_sheet_byuid(TEXT(sheet), 80, 5, 0, 1, 432), GATE_CUT_SHORT, GATE_TABLES, 0));
+    expect("portacl by a cut sheet", refused(gate_sheet_portacl(TEXT(sheet), BIND(0, 80)), GATE_CUT_SHORT, GATE_TABLES, 0));
+    expect("verdict by a sheet of four sections", refused(gate_sheet_verdict(TEXT(old_sheet), REQUEST(3)), GATE_CUT_SHORT, GATE_TABLES, 0));
 }
 
+#define PACK(room) gate_pack(OUT(room), TEXT(allow), TEXT(deny), TEXT(byuid), TEXT(portacl), TEXT(tables))
+
 static int zero_parts(struct gate_parts p) {
-    return !(p.allow_place | p.allow_len | p.deny_place | p.deny_len | p.byuid_place | p.byuid_len | p.portacl_place | p.portacl_len);
+    return !(p.allow_place | p.allow_len | p.deny_place | p.deny_len | p.byuid_place | p.byuid_len | p.portacl_place | p.portacl_len |
+             p.tables_place | p.tables_len);
 }
 
 static void sheets(void) {
@@ -239,12 +298,21 @@ static void sheets(void) {
     expect("a sound sheet", c.number == GATE_ANSWERED && c.section == 0 && c.line == 0 && untouched());
     struct gate_parts p = gate_unpack(TEXT(sheet));
     expect("its texts", p.number == GATE_ANSWERED && p.allow_place == 4 && p.allow_len == 21 && p.deny_place == 29 && p.deny_len == 9 &&
-           p.byuid_place == 42 && p.byuid_len == 13 && p.portacl_place == 59 && p.portacl_len == 27 && untouched());
-    expect("packing in exact room", wrote(gate_pack(OUT(m.sheet.len), TEXT(allow), TEXT(deny), TEXT(byuid), TEXT(portacl)), TEXT(sheet)));
+           p.byuid_place == 42 && p.byuid_len == 13 && p.portacl_place == 59 && p.portacl_len == 27 && p.tables_place == 86 &&
+           p.tables_len == m.tables.len && untouched());
+    expect("packing in exact room", wrote(PACK(m.sheet.len), TEXT(sheet)));
     begin(), lend();
-    expect("packing in less room", unwritten(gate_pack(OUT(m.sheet.len - 1), TEXT(allow), TEXT(deny), TEXT(byuid), TEXT(portacl)), GATE_NO_ROOM, 0, 0));
+    expect("packing in less room", unwritten(PACK(m.sheet.len - 1), GATE_NO_ROOM, 0, 0));
+    SET(tables, ""), lend();
+    expect("packing no fifth text", unwritten(PACK(0), GATE_CUT_SHORT, GATE_TABLES, 0));
+    SET(tables, "\0\0\0"), lend();
+    expect("packing a byte behind the last table", unwritten(PACK(0), GATE_TRAILING_BYTES, 0, 0));
+    SET(tables, "\0\1\1a\0\0\0\2/b"), lend();
+    expect("packing a table that names none", unwritten(PACK(0), GATE_TABLE_NAME, GATE_TABLES, 1));
+    SET(tables, "\0\1\1a\0\0\0\2a,"), lend();
+    expect("packing a bad table", unwritten(PACK(0), GATE_BAD_TABLE, GATE_TABLES, 1));
     SET(deny, "ALL"), lend();
-    expect("packing a bad text", unwritten(gate_pack(OUT(0), TEXT(allow), TEXT(deny), TEXT(byuid), TEXT(portacl)), GATE_UNENDED, GATE_DENY, 1));
+    expect("packing a bad text", unwritten(PACK(0), GATE_UNENDED, GATE_DENY, 1));
     m.sheet.bytes[m.sheet.len++] = 0, lend();
     c = gate_check(TEXT(sheet));
     expect("a byte too many", c.number == GATE_TRAILING_BYTES && c.section == 0 && c.line == 0 && untouched());
@@ -288,6 +356,7 @@ static void no_address(void) {
         uint32_t client = end ? GATE_IPV4 : GATE_NO_ADDRESS, server = end ? GATE_NO_ADDRESS : GATE_IPV6;
 #define NO_ADDRESS HOSTS(client, server), 1, TEXT(user_name)
         expect("a verdict on no address", refused(gate_verdict(TEXT(allow), TEXT(deny), NO_ADDRESS), GATE_BAD_REQUEST, 0, 0));
+        expect("the same with tables", refused(gate_tables_verdict(TEXT(allow), TEXT(deny), TEXT(tables), NO_ADDRESS), GATE_BAD_REQUEST, 0, 0));
         expect("the same by a sheet", refused(gate_sheet_verdict(TEXT(sheet), NO_ADDRESS), GATE_BAD_REQUEST, 0, 0));
         expect("its command", command_refused(gate_command(OUT(100), TEXT(allow), TEXT(deny), NO_ADDRESS, 7), GATE_BAD_REQUEST, 0, 0));
         expect("its command by a sheet", command_refused(gate_sheet_command(OUT(100), TEXT(sheet), NO_ADDRESS, 7), GATE_BAD_REQUEST, 0, 0));
@@ -296,24 +365,24 @@ static void no_address(void) {
 }
 
 /* What is handed over in each position that takes bytes or groups. */
-enum position { ALLOW, DENY, BYUID, PORTACL, SHEET, GIVEN_COMMAND, ADDRESS, DAEMON, CLIENT_NAME, SERVER_NAME, USER_NAME, LENT_OUT, LENT_GROUPS, POSITIONS };
+enum position { ALLOW, DENY, BYUID, PORTACL, TABLES, SHEET, OLD_SHEET, GIVEN_COMMAND, ADDRESS, DAEMON, CLIENT_NAME, SERVER_NAME, USER_NAME, LENT_OUT, LENT_GROUPS, POSITIONS };
 static struct {
     const void *start;
     size_t len;
 } given[POSITIONS];
 
 static struct answers {
-    struct gate_answer verdict, sheet_verdict, byuid, sheet_byuid, portacl, sheet_portacl;
+    struct gate_answer verdict, tables_verdict, sheet_verdict, byuid, sheet_byuid, portacl, sheet_portacl;
     struct gate_command_answer command, sheet_command;
     struct gate_checked check;
     struct gate_parts parts;
-    struct gate_written packed, expanded, written;
+    struct gate_written packed, upgraded, expanded, written;
     uint64_t address[3];
 } here, null;
 
 static void give_all(void) {
-    const struct text *t[] = {&m.allow, &m.deny, &m.byuid, &m.portacl, &m.sheet, &m.command, &m.address, &m.daemon, &m.client_name,
-                              &m.server_name, &m.user_name};
+    const struct text *t[] = {&m.allow, &m.deny, &m.byuid, &m.portacl, &m.tables, &m.sheet, &m.old_sheet, &m.command, &m.address, &m.daemon,
+                              &m.client_name, &m.server_name, &m.user_name};
     begin();
     SET(server_name, "station");
     for (int i = ALLOW; i <= USER_NAME; i++)
@@ -332,6 +401,7 @@ static void give_all(void) {
 static void call_all(struct answers *a, uint32_t state) {
     struct gate_address read = gate_read_address(GIVEN(ADDRESS));
     a->verdict = gate_verdict(GIVEN(ALLOW), GIVEN(DENY), GIVEN_REQUEST(state));
+    a->tables_verdict = gate_tables_verdict(GIVEN(ALLOW), GIVEN(DENY), GIVEN(TABLES), GIVEN_REQUEST(state));
     a->sheet_verdict = gate_sheet_verdict(GIVEN(SHEET), GIVEN_REQUEST(state));
     a->command = gate_command(GIVEN_OUT, GIVEN(ALLOW), GIVEN(DENY), GIVEN_REQUEST(state), 7);
     a->sheet_command = gate_sheet_command(GIVEN_OUT, GIVEN(SHEET), GIVEN_REQUEST(state), 7);
@@ -341,7 +411,8 @@ static void call_all(struct answers *a, uint32_t state) {
     a->sheet_portacl = gate_sheet_portacl(GIVEN(SHEET), GIVEN_BIND);
     a->check = gate_check(GIVEN(SHEET));
     a->parts = gate_unpack(GIVEN(SHEET));
-    a->packed = gate_pack(GIVEN_OUT, GIVEN(ALLOW), GIVEN(DENY), GIVEN(BYUID), GIVEN(PORTACL));
+    a->packed = gate_pack(GIVEN_OUT, GIVEN(ALLOW), GIVEN(DENY), GIVEN(BYUID), GIVEN(PORTACL), GIVEN(TABLES));
+    a->upgraded = gate_upgrade(GIVEN_OUT, GIVEN(OLD_SHEET));
     a->expanded = gate_expand(GIVEN_OUT, GIVEN(GIVEN_COMMAND), GIVEN_REQUEST(state), 7);
     a->written = gate_write_address(GIVEN_OUT, read.kind, read.high, read.low);
     a->address[0] = read.number, a->address[1] = read.high, a->address[2] = read.low;
@@ -373,11 +444,15 @@ static const struct answers *without(int position, uint32_t state) {
 }
 
 static void null_answers(void) {
-    expect("no allow text", without(ALLOW, 1)->verdict.word == GATE_DENIED && null.command.word == GATE_DENIED);
-    expect("no texts to pack", without(BYUID, 1)->packed.count == 73 && without(PORTACL, 1)->packed.count == 59);
+    expect("no allow text", without(ALLOW, 1)->verdict.word == GATE_DENIED && null.command.word == GATE_DENIED &&
+           null.tables_verdict.word == GATE_DENIED);
+    expect("no texts to pack", without(BYUID, 1)->packed.count == m.sheet.len - 13 && without(PORTACL, 1)->packed.count == m.sheet.len - 27);
+    expect("no fifth text", without(TABLES, 1)->packed.number == GATE_CUT_SHORT && null.packed.section == GATE_TABLES &&
+           null.tables_verdict.number == GATE_CUT_SHORT && null.verdict.number == GATE_ANSWERED);
+    expect("no sheet to upgrade", without(OLD_SHEET, 1)->upgraded.number == GATE_CUT_SHORT && null.upgraded.section == GATE_ALLOW);
     expect("no sheet", without(SHEET, 1)->check.number == GATE_CUT_SHORT && null.check.section == GATE_ALLOW && null.sheet_verdict.number == GATE_CUT_SHORT &&
            null.sheet_command.number == GATE_CUT_SHORT);
-    expect("no daemon", without(DAEMON, 1)->verdict.number == GATE_BAD_REQUEST && null.expanded.number == GATE_BAD_REQUEST &&
+    expect("no daemon", without(DAEMON, 1)->verdict.number == GATE_BAD_REQUEST && null.tables_verdict.number == GATE_BAD_REQUEST && null.expanded.number == GATE_BAD_REQUEST &&
            null.command.number == GATE_BAD_REQUEST && null.sheet_command.number == GATE_BAD_REQUEST);
     expect("no name", without(CLIENT_NAME, 0)->verdict.number == GATE_ANSWERED && without(CLIENT_NAME, 2)->verdict.number == GATE_BAD_REQUEST &&
            null.command.number == GATE_BAD_REQUEST && null.sheet_command.number == GATE_BAD_REQUEST);
@@ -386,7 +461,7 @@ static void null_answers(void) {
     expect("no user", without(USER_NAME, 0)->verdict.number == GATE_ANSWERED && without(USER_NAME, 2)->verdict.number == GATE_BAD_REQUEST &&
            null.command.number == GATE_BAD_REQUEST && null.sheet_command.number == GATE_BAD_REQUEST);
     expect("no groups", without(LENT_GROUPS, 1)->portacl.word == GATE_DENIED && null.byuid.word == GATE_GRANTED);
-    expect("no room", without(LENT_OUT, 1)->packed.number == GATE_NO_ROOM && null.expanded.number == GATE_NO_ROOM && null.written.number == GATE_NO_ROOM);
+    expect("no room", without(LENT_OUT, 1)->packed.number == GATE_NO_ROOM && null.upgraded.number == GATE_NO_ROOM && null.expanded.number == GATE_NO_ROOM && null.written.number == GATE_NO_ROOM);
     expect("no room for a rule's command", without(LENT_OUT, 2)->command.number == GATE_NO_ROOM && null.sheet_command.number == GATE_NO_ROOM &&
            null.verdict.word == GATE_GRANTED);
     expect("no room is enough for none", without(LENT_OUT, 1)->command.word == GATE_DENIED && null.sheet_command.word == GATE_DENIED);
@@ -418,7 +493,7 @@ static void command_rooms(void) {
     memset(name, 'n', sizeof name), memset(user, 'u', sizeof user);
     for (size_t i = 0; i < sizeof allow; i++)
         allow[i] = (uint8_t)(i < 5 ? "a:1.:"[i] : i < sizeof allow - 1 ? "%c"[(i - 5) % 2] : '\n');
-    size_t len = (size_t)gate_pack(sheet, sizeof sheet, allow, sizeof allow, NULL, 0, NULL, 0, NULL, 0).count;
+    size_t len = (size_t)gate_pack(sheet, sizeof sheet, allow, sizeof allow, NULL, 0, NULL, 0, NULL, 0, (const uint8_t *)"\0\0", 2).count;
 #define LONGEST allow, 1, GATE_NAME_KNOWN, GATE_IPV4, 0, 0x01000000, name, sizeof name, GATE_NAME_UNKNOWN, GATE_ADDRESS_UNKNOWN, 0, 0, NULL, 0, \
                 GATE_USER_KNOWN, user, sizeof user, 7
     expect("a rule's longest command", gate_command(out, sizeof out, allow, sizeof allow, NULL, 0, LONGEST).count == most);
@@ -435,15 +510,18 @@ static void unread(void) {
         return;
     }
     const uint8_t *name = page;
+#define NAMING (const uint8_t *)"ALL@/a: ALL\nALL: /a, a@/A\n", 26
 #define UNREAD(state, user) TEXT(daemon), state, GATE_IPV4, 0, 0x0a000001, name, 64, state, GATE_IPV6, 1, 2, name, 64, user, name, 64
     begin();
     SET(allow, "sshd@LOCAL, sshd@.x, sshd@x: ALL\nsshd: LOCAL, .x.example, van7, x@.x, a@LOCAL: log\n");
     SET(deny, "ALL: ALL: %n%N%h%H%u%c%s\n");
     SET(command, "%n%N%h%H%u%c%s");
-    m.sheet.len = (size_t)gate_pack(m.sheet.bytes, sizeof m.sheet.bytes, TEXT(allow), TEXT(deny), TEXT(byuid), TEXT(portacl)).count;
+    SET(tables, "\0\1\1a\0\0\0\x15LOCAL .x.example van7");
+    m.sheet.len = (size_t)gate_pack(m.sheet.bytes, sizeof m.sheet.bytes, TEXT(allow), TEXT(deny), TEXT(byuid), TEXT(portacl), TEXT(tables)).count;
     for (uint32_t state = GATE_NAME_UNKNOWN; state < GATE_NAME_KNOWN; state++) {
         for (uint32_t user = GATE_USER_NOT_FETCHED; user < GATE_USER_KNOWN; user++) {
             expect("a verdict on names that are not known", gate_verdict(TEXT(allow), TEXT(deny), UNREAD(state, user)).word == GATE_DENIED);
+            expect("the same with tables", gate_tables_verdict(NAMING, TEXT(deny), TEXT(tables), UNREAD(state, user)).word == GATE_DENIED);
             expect("the same by a sheet", gate_sheet_verdict(TEXT(sheet), UNREAD(state, user)).word == GATE_DENIED);
             uint64_t count = gate_expand(OUT(sizeof m.out), TEXT(command), UNREAD(state, user), 7).count;
             expect("their expansion", count > 0);
@@ -457,6 +535,8 @@ static void unread(void) {
 int main(void) {
     verdicts();
     mapped();
+    tables();
+    upgrades();
     commands();
     sheet_commands();
     byuid();

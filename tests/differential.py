@@ -1,9 +1,9 @@
 #!/usr/bin/env python3
 """differential.py LIBRARY CASES [SEED]: every export of the gate beside tests/reference.py, on generated inputs.
 
-Inputs are rule-shaped, near misses and damaged texts, sheets and commands, and requests with numbers outside their kinds. Each answer
-is compared whole, and every byte of the lent output, with some beyond it. Prints one line, and exits with 1 at the first difference,
-which it shows, or where some kind of answer never came up.
+Inputs are rule-shaped, near misses and damaged texts, tables, sheets and commands, and requests with numbers outside their kinds. Each
+answer is compared whole, and every byte of the lent output, with some beyond it. Prints one line, and exits with 1 at the first
+difference, which it shows, or where some kind of answer never came up.
 """
 import ctypes
 import random
@@ -14,7 +14,7 @@ from reference import BAD
 
 U8P, SIZE, U32, U64 = ctypes.c_char_p, ctypes.c_size_t, ctypes.c_uint32, ctypes.c_uint64
 WORDS = {0: None, 1: "granted", 2: "denied", 3: "ask", 4: "no line", 5: "not ruled", 6: "exempt"}
-PARTS = ("allow", "deny", "byuid", "portacl")
+PARTS = ("allow", "deny", "byuid", "portacl", "tables")
 NO_ADDRESS = 255
 
 
@@ -39,11 +39,11 @@ def load(path):
     bind = [U32, U32, U64, U64, U32]
     portacl = text + [U32] * 5 + [ctypes.POINTER(U32), SIZE] + [U32, U32]
     for name, arguments, answer in (
-            ("verdict", text * 2 + request, Answer), ("sheet_verdict", text + request, Answer),
+            ("verdict", text * 2 + request, Answer), ("sheet_verdict", text + request, Answer), ("tables_verdict", text * 3 + request, Answer),
             ("command", out + text * 2 + request + [U32], Command), ("sheet_command", out + text + request + [U32], Command),
             ("byuid", text + [U32] + bind, Answer), ("sheet_byuid", text + bind, Answer),
             ("portacl", portacl, Answer), ("sheet_portacl", portacl, Answer),
-            ("check", text, Check), ("unpack", text, Parts), ("pack", out + text * 4, Written),
+            ("check", text, Check), ("unpack", text, Parts), ("pack", out + text * 5, Written), ("upgrade", out + text, Written),
             ("expand", out + text + request + [U32], Written),
             ("read_address", text, Address), ("write_address", out + [U32, U64, U64], Written)):
         function = getattr(lib, "gate_" + name)
@@ -192,7 +192,9 @@ HOSTS = [
 ]
 HALVES = [b"ALL", b"KNOWN", b"UNKNOWN", b"LOCAL", b"PARANOID", b"fitter", b"Fitter", b"sshd", b"x.", b".", b"u" * 64, b"u" * 65, b"EXCEPT", b"!"]
 PLAIN_DAEMONS = DAEMONS + [b"ALL", b"ALL", b"KNOWN", b"sshd@10.0.0.1", b"ALL@.x.example", b"x" * 65, b"sshd."]
-ODD = [b"@x", b"/etc/x", b"x@", b"x@@y", b"x@/y", b"a@b@c", b"@", b"!@/y"]
+ODD = [b"@x", b"/etc/x", b"x@", b"x@@y", b"x@/y", b"a@b@c", b"@", b"!@/y", b"/", b"/!", b"x@/", b"/v@x", b"/v@@x", b"a@/v@x", b"/vans", b"/" + b"n" * 65,
+       b"/v@/v", b"LOCAL@/v", b"/EXCEPT"]
+NOBODY = dict(daemon=b"", client=(None, None), server=(None, None), user=None)
 COMMANDS = [b"", b" ", b"/bin/log %u", b" spawn %h %% ", b"%", b"%z", b"a \\\n b %\\\nc", b"%U", b"[:] %a:%A"]
 
 
@@ -247,24 +249,172 @@ def joined_line(rng):
 
 
 def sound_lines(rng, most, known=[]):
-    """out of some thousands, found once"""
+    """out of some thousands that name no table, found once"""
     while len(known) < 5000:
         line = joined_line(rng)
-        if not ref.hosts_fault(1, line + b"\n"):
+        if ref.verdict(line + b"\n", b"", NOBODY) == (13, 0, 0):
             known.append(line)
     return [rng.choice(known) for _ in range(most)]
+
+
+def damaged_text(rng, text):
+    """another byte, or no last newline; mostly neither"""
+    if rng.random() < 0.15 and text:
+        at = rng.randrange(len(text))
+        text = text[:at] + bytes([rng.choice([0, 9, 10, 13, 32, 35, 37, 44, 47, 58, 64, 91, 92, 93, 127, 200])]) + text[at + rng.randrange(2):]
+    return text[:-1] if rng.random() < 0.1 else text
 
 
 def hosts_text(rng, sound):
     most = rng.choice([0, 1, 2, 3, 6])
     lines = sound_lines(rng, most) if sound else [joined_line(rng) for _ in range(most)]
     text = b"".join(line + b"\n" for line in lines)
-    if not sound and rng.random() < 0.15 and text:
-        at = rng.randrange(len(text))
-        text = text[:at] + bytes([rng.choice([0, 9, 10, 13, 32, 35, 37, 44, 58, 64, 91, 92, 93, 127, 200])]) + text[at + rng.randrange(2):]
-    if not sound and rng.random() < 0.1:
-        text = text[:-1]
-    return text
+    return text if sound else damaged_text(rng, text)
+
+
+# Tables
+
+SOUND_HOSTS = [h for h in HOSTS if ref.pattern(h)]
+# none equals another but for its case
+TABLE_NAMES = [b"vans", b"Depot", b"a", b"b", b"c", b"d", b"e", b"f", b"x.", b".x", b"ALL", b"Except", b"10", b"-_.", b"n" * 64]
+BAD_NAMES = [b"", b"", b"n" * 65, b"n" * 255, b"a/b", b"/a", b"a b", b"v!", b"v,", b"v@x", b"\xe4", b"a\0", b"a\n"]
+BAD_WORDS = [b"EXCEPT", b"except", b"a,b", b"host,", b",", b"fitter@host", b"fitter@/vans", b"fitter@/missing", b"@vans", b"/", b"/!", b"/" + b"n" * 65, b"#", b"a:b",
+             b"\\", b"\r", b"host\r", b"10.0.0.1/33", b"host.", b"10", b"[::1", b"n" * 256, b"\0", b"\xff", b"x@", b"a\\"]
+
+
+def other_case(rng, name):
+    return rng.choice([name, name, name.upper(), name.lower(), name.swapcase()])
+
+
+def table_text(rng, words):
+    """words parted in every way that parts them"""
+    gaps = [b" ", b"\n", b"\t", b"\n\n", b" \t\n "]
+    return rng.choice([b"", b"", b" ", b"\n"]) + b"".join(w + rng.choice(gaps) for w in words[:-1]) + b"".join(words[-1:]) + rng.choice([b"", b"\n", b" "])
+
+
+def sound_tables(rng):
+    """a level for each, and each names tables of later levels alone: four deep at most"""
+    names = rng.sample(TABLE_NAMES, rng.choice([1, 2, 2, 3, 4, 5, 8]))
+    levels = sorted(rng.randrange(4) for _ in names)
+    tables = []
+    for name, level in zip(names, levels):
+        words = [rng.choice(SOUND_HOSTS) for _ in range(rng.choice([0, 0, 1, 1, 2, 3]))]
+        words += [b"/" + other_case(rng, other) for other, later in zip(names, levels) if later > level and rng.random() < 0.6]
+        rng.shuffle(words)
+        tables.append((other_case(rng, name), table_text(rng, words)))
+    rng.shuffle(tables)
+    return tables
+
+
+def chain(names):
+    """each names the next, and the last a host"""
+    return [(name, b"/" + following) for name, following in zip(names, names[1:])] + [(names[-1], b"0.0.0.0/0 [::]/0")]
+
+
+def faulty_tables(rng):
+    tables, kind, at = sound_tables(rng), rng.randrange(9), 0
+    at = rng.randrange(len(tables))
+    name, text = tables[at]
+    if kind == 0:  # missing
+        tables[at] = name, text + rng.choice([b" /missing", b"\n/g", b"\t/x", b" /vans2"])
+    elif kind == 1:  # twice
+        tables.insert(rng.randrange(len(tables) + 1), (other_case(rng, name), table_text(rng, [rng.choice(SOUND_HOSTS)])))
+    elif kind == 2:  # a ring, of one or of all
+        ring = rng.sample(tables, rng.choice([1, len(tables)]))
+        tables = [(n, t + b" /" + ring[(ring.index((n, t)) + 1) % len(ring)][0]) if (n, t) in ring else (n, t) for n, t in tables]
+    elif kind == 3:  # chains of four to six
+        tables = chain(rng.sample(TABLE_NAMES, rng.choice([4, 5, 5, 5, 6])))
+        rng.shuffle(tables)
+    elif kind == 4:
+        tables[at] = name, table_text(rng, [w for w in (rng.choice(BAD_WORDS), rng.choice(SOUND_HOSTS)) for _ in range(rng.choice([1, 1, 2]))])
+    elif kind == 5:
+        tables[at] = rng.choice(BAD_NAMES), text
+        if rng.random() < 0.3:
+            tables.append((tables[at][0], b""))
+    elif kind == 6:
+        tables += [(b"t%d" % i, rng.choice([b"", b"host"])) for i in range(rng.choice([63, 64, 65]) - len(tables))]
+    elif kind == 7:  # at the limit, or over it
+        most = ref.TABLES_LIMIT + rng.choice([0, 0, 1, 2])
+        tables[at] = name, text + rng.choice([b" ", b"\n", b" host"]) * most
+        over = len(ref.section_five(tables)) - most
+        tables[at] = name, tables[at][1][:len(tables[at][1]) - over]
+    else:
+        return faulty_tables(rng) + [(n, t + rng.choice([b"", b" EXCEPT", b" /missing"])) for n, t in faulty_tables(rng)[:2]]
+    return tables
+
+
+def damaged(rng, five):
+    """cut, with bytes behind it, with another count or another byte"""
+    kind = rng.random()
+    if kind < 0.4:
+        return five[:rng.randrange(len(five))]
+    if kind < 0.6:
+        return five + rng.randbytes(rng.choice([1, 1, 2, 100]))
+    if kind < 0.8:
+        count = int.from_bytes(five[:2], "big")
+        return (rng.choice([max(0, count - 1), count + 1, 65, 65535]) & 0xffff).to_bytes(2, "big") + five[2:]
+    at = rng.randrange(len(five))
+    return five[:at] + bytes([rng.choice([0, 1, 2, 32, 33, 47, 255, rng.randrange(256)])]) + five[at + 1:]
+
+
+def tables_of(rng):
+    """a section five, and the names that rules take: of its tables, or of none"""
+    kind = rng.random()
+    if kind < 0.1:
+        return rng.choice([ref.NO_TABLES, ref.NO_TABLES, b"", b"\0"]), [b"vans"]
+    tables = sound_tables(rng) if kind < 0.65 else faulty_tables(rng)
+    names = [name for name, _ in tables if ref.is_table_name(name)] or [b"vans"]
+    five = ref.section_five(tables)
+    return damaged(rng, five) if kind > 0.95 else five, names + ([b"missing"] if rng.random() < 0.08 else [])
+
+
+def naming_line(rng, names):
+    """a rule that names tables: in its clients, behind a user, behind a daemon"""
+    def reference():
+        return b"/" + other_case(rng, rng.choice(names))
+
+    def daemon():
+        return rng.choice([b"ALL", b"ALL", rng.choice(DAEMONS), b"ALL@" + reference(), rng.choice(DAEMONS) + b"@" + reference()])
+
+    def client():
+        return rng.choice([reference(), reference(), reference(), rng.choice([b"ALL", b"KNOWN", b"UNKNOWN", b"fitter", b"Fitter"]) + b"@" + reference(),
+                           rng.choice(SOUND_HOSTS)])
+
+    def some(one):
+        out = one()
+        while rng.random() < 0.4:
+            out += rng.choice([b" ", b", ", b" EXCEPT ", b"\texcept "]) + one()
+        return out
+    line = some(daemon) + rng.choice([b":", b" : "]) + some(client) + rng.choice([b"", b"", b": log %h", b": %c"])
+    if rng.random() < 0.05:
+        at = rng.randrange(len(line) + 1)
+        line = line[:at] + b"\\\n" + line[at:]
+    return line
+
+
+def naming_text(rng, sound, names):
+    """rules that name tables, among others that do not"""
+    lines = sound_lines(rng, rng.choice([0, 0, 1, 2])) if sound else [joined_line(rng)]
+    for _ in range(rng.choice([0, 1, 1, 2])):
+        lines.insert(rng.randrange(len(lines) + 1), naming_line(rng, names))
+    text = b"".join(line + b"\n" for line in lines)
+    return text if sound else damaged_text(rng, text)
+
+
+def nest(words):
+    """tables that name the next so often, and the last with so many names: the most work that one reference can ask for"""
+    names = [b"a", b"b", b"c", b"d"]
+    return [(name, b" ".join([b"/" + names[i + 1]] * many if i < 3 else [b"x"] * many)) for i, (name, many) in enumerate(zip(names, words))]
+
+
+def vast_tables(most):
+    """section fives that cost most where each reference is walked anew, or each name is looked for among all; of so many tables"""
+    yield ref.section_five(nest([1022, 1022, 1022, 1534]))
+    yield ref.section_five(nest([1022, 1022, 1022, 1535]))
+    yield ref.section_five([(b"", b"")] * most)
+    yield ref.section_five([(b"%x" % i, b"") for i in range(most)])
+    yield ref.section_five([(b"%x" % i, b"/%x" % ((i + 1) % (most // 3))) for i in range(most // 3)])
+    yield ref.section_five([(b"a", b"/a " * 4000), (b"b", b"/a /b " * 4000)])
 
 
 def near_mapped(rng):
@@ -337,12 +487,15 @@ def portacl_text(rng):
 
 
 def texts_of(rng):
-    """four texts for a sheet: mostly sound"""
+    """five texts for a sheet: mostly sound"""
     sound = rng.random() < 0.85
     acl = portacl_text(rng)
     while sound and ref.portacl_fault(acl):
         acl = portacl_text(rng)
-    return [hosts_text(rng, sound), hosts_text(rng, sound), byuid_text(rng), acl]
+    if rng.random() < 0.5:
+        return [hosts_text(rng, sound), hosts_text(rng, sound), byuid_text(rng), acl, ref.NO_TABLES]
+    five, names = tables_of(rng)
+    return [naming_text(rng, sound, names), naming_text(rng, sound, names), byuid_text(rng), acl, five]
 
 
 def sheet_of(rng, texts):
@@ -429,15 +582,17 @@ def address_text(rng):
 # What each export is to be seen to answer
 
 FILES = {"4", "5", "6", "7", "8", "9", "10", "11"}
-SHEET = {"1", "2", "3", "12"} | FILES
+TABLES = {"15", "16", "17"}
+SHEET = {"1", "2", "3", "12"} | FILES | TABLES
 VERDICTS = {"granted", "denied", "ask", "13"}
 BYUID = {"granted", "no line", "not ruled", "13"}
 PORTACL = {"granted", "denied", "exempt", "not ruled", "13"}
 KINDS = {
-    "command": VERDICTS | FILES | {"2", "14"}, "sheet_command": VERDICTS | SHEET | {"14"},
-    "verdict": VERDICTS | FILES | {"2"}, "byuid": BYUID | {"2"}, "portacl": PORTACL | {"2", "12"},
+    "command": VERDICTS | FILES | {"2", "14", "15"}, "sheet_command": VERDICTS | SHEET | {"14"},
+    "verdict": VERDICTS | FILES | {"2", "15"}, "tables_verdict": VERDICTS | FILES | TABLES | {"1", "2", "3"}, "byuid": BYUID | {"2"}, "portacl": PORTACL | {"2", "12"},
     "sheet_verdict": VERDICTS | SHEET, "sheet_byuid": BYUID | SHEET, "sheet_portacl": PORTACL | SHEET,
-    "check": SHEET | {"sheet ok"}, "unpack": SHEET | {"answered"}, "pack": {"answered", "2", "12", "14"} | FILES,
+    "check": SHEET | {"sheet ok"}, "unpack": SHEET | {"answered"}, "pack": {"answered", "14"} | SHEET,
+    "upgrade": {"answered", "1", "2", "3", "14"},
     "expand": {"answered", "5", "6", "11", "13", "14"},
     "read_address": {"4", "6", "13"}, "write_address": {"answered", "13", "14"},
 }
@@ -478,6 +633,50 @@ def main():
         compare("verdict", verdict(rng, lib.gate_verdict, [allow, deny], [b"", allow, deny], r), expected, allow, deny, r)
         command_case("command", lib.gate_command, [allow, deny], [b"", allow, deny], expected, r)
 
+    def tables_case():
+        sound = rng.random() < 0.8
+        five, names = tables_of(rng)
+        allow, deny, r = naming_text(rng, sound, names), naming_text(rng, sound, names), rng.choice([request, expansion_request])(rng)
+        if rng.random() < 0.01:
+            allow = (allow + b"\n" * 16385)[:rng.choice([16384, 16385])]
+        expected = ref.verdict(allow, deny, r, five)
+        got = verdict(rng, lib.gate_tables_verdict, [allow, deny, five], [b"", allow, deny], r)
+        compare("tables_verdict", got, expected, allow, deny, five, r)
+        if rng.random() < 0.05:
+            expected = ref.verdict(allow, deny, r)
+            compare("verdict", verdict(rng, lib.gate_verdict, [allow, deny], [b"", allow, deny], r), expected, allow, deny, r)
+            command_case("command", lib.gate_command, [allow, deny], [b"", allow, deny], expected, r)
+
+    def cut_cases():
+        """a sheet with tables, cut at every place, and its section five handed in so"""
+        texts = [b"ALL: /a\n", b"ALL: ALL\n", b"", b"", ref.section_five(sound_tables(rng)[:3])]
+        sheet, r = ref.sheet_of(texts), request(rng)
+        for n in range(len(sheet) + 1):
+            compare("check", check(lib.gate_check, sheet[:n]), ref.check(sheet[:n]), sheet, n)
+        for n in range(len(texts[4]) + 1):
+            expected = ref.verdict(texts[0], texts[1], r, texts[4][:n])
+            got = verdict(rng, lib.gate_tables_verdict, [*texts[:2], texts[4][:n]], [b"", *texts[:2]], r)
+            compare("tables_verdict", got, expected, texts, n, r)
+            got = written(rng, 1000, lib.gate_pack, *(x for text in (*texts[:4], texts[4][:n]) for x in sized(text)))
+            compare("pack", got, ref.pack([*texts[:4], texts[4][:n]], 1000), texts, n)
+
+    def vast_cases():
+        texts = [b"ALL: /a\n" * 2000, b"ALL: /b, b@/a EXCEPT x@/A\n", b"", b"a@/1: ALL EXCEPT /7cf\n"]
+        cases = [(five, allow) for five in vast_tables(2000) for allow in texts] + [(five, texts[3]) for five in vast_tables(65535)]
+        for five, allow in cases:
+            r = request(rng)
+            expected = ref.verdict(allow, b"ALL: ALL\n", r, five)
+            got = verdict(rng, lib.gate_tables_verdict, [allow, b"ALL: ALL\n", five], [b"", allow, b"ALL: ALL\n"], r)
+            compare("tables_verdict", got, expected, allow, five[:100], len(five), r)
+
+    def upgrade_case():
+        texts = texts_of(rng)
+        sheet = sheet_of(rng, texts[:4] + [b""]) if rng.random() < 0.8 else ref.sheet_of(texts)
+        if rng.random() < 0.1:
+            sheet += ref.NO_TABLES
+        room = room_for(rng, ref.upgrade(sheet, 1 << 32))
+        compare("upgrade", written(rng, room, lib.gate_upgrade, *sized(sheet)), ref.upgrade(sheet, room), sheet, room)
+
     def prefix_cases():
         net, address, length = near_prefix(rng, 128)
         allow, deny, r = b"ALL: [%s]/%d\n" % (ref.address_text(("6", net)), length), b"ALL: ALL\n", dict(request(rng), client=(None, ("6", address)))
@@ -501,7 +700,13 @@ def main():
         expected = ref.verdict(allow, deny, r)
         compare("verdict", verdict(rng, lib.gate_verdict, [allow, deny], [b"", allow, deny], r), expected, allow, deny, r)
         command_case("command", lib.gate_command, [allow, deny], [b"", allow, deny], expected, r)
-        sheet = ref.sheet_of([allow, deny, b"", b""])
+        five = ref.section_five([(b"t", b"net.example " + pattern)])
+        if rng.random() < 0.5:
+            allow, deny = allow.replace(pattern, b"/t"), deny.replace(pattern, b"/t")
+            expected = ref.verdict(allow, deny, r, five)
+            got = verdict(rng, lib.gate_tables_verdict, [allow, deny, five], [b"", allow, deny], r)
+            compare("tables_verdict", got, expected, allow, deny, five, r)
+        sheet = ref.sheet_of([allow, deny, b"", b"", five])
         expected = ref.sheet_verdict(sheet, r)
         compare("sheet_verdict", verdict(rng, lib.gate_sheet_verdict, [sheet], [sheet] * 3, r), expected, sheet, r)
         command_case("sheet_command", lib.gate_sheet_command, [sheet], [sheet] * 3, expected, r)
@@ -561,8 +766,13 @@ def main():
         room = room_for(rng, ref.write_address(address, 39))
         compare("write_address", written(rng, room, lib.gate_write_address, *address_args(rng, address)), ref.write_address(address, room), address, room)
 
-    for _ in range(cases):
+    vast_cases()
+    for turn in range(cases):
+        if turn % 1000 == 0:
+            cut_cases()
         hosts_case()
+        tables_case()
+        upgrade_case()
         prefix_cases()
         mapped_cases()
         port_cases()

@@ -1,5 +1,5 @@
 /* Stands before the C library in a program that is run: at the call whose name and turn the environment gives, a signal comes or the
- * call fails. FAULT_CALL is write, fsync or rename, FAULT_TURN counts from 1; FAULT_SIGNAL or FAULT_ERRNO is a number. */
+ * call fails. FAULT_CALL is write, fsync, rename or mkdir, FAULT_TURN counts from 1; FAULT_SIGNAL or FAULT_ERRNO is a number. */
 #define _GNU_SOURCE
 #include <errno.h>
 #include <fcntl.h>
@@ -7,6 +7,7 @@
 #include <stdio.h>
 #include <stdlib.h>
 #include <string.h>
+#include <sys/stat.h>
 #include <sys/syscall.h>
 #include <unistd.h>
 
@@ -29,6 +30,10 @@ ssize_t write(int fd, const void *bytes, size_t len) {
 
 int fsync(int fd) {
     return fails("fsync") ? -1 : (int)syscall(SYS_fsync, fd);
+}
+
+int mkdir(const char *path, mode_t mode) {
+    return fails("mkdir") ? -1 : (int)syscall(SYS_mkdirat, AT_FDCWD, path, mode);
 }
 
 int rename(const char *from, const char *to) {

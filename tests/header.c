@@ -13,6 +13,8 @@ static const char deny[] = "ALL: ALL\n";
 static const char byuid[] = "10.0.0.0/8,80\n";
 static const char upper[] = "10.0.0.0/8,600\n";
 static const char portacl[] = "uid:80:tcp:80,gid:20:udp:53";
+static const char naming[] = "sshd: /vans EXCEPT fitter@/Depot\nweb@/depot: ALL\n";
+static const char tables[] = "\0\2\4vans\0\0\0\x07" "/depot\n\5depot\0\0\0\x13" "10.0.0.1 192.0.2.1\n";
 static uint8_t sheet[GATE_SHEET_LIMIT];
 static size_t sheet_len;
 static const char *unreadable;
@@ -28,7 +30,8 @@ static void expect(const char *what, int holds) {
 static void prepare(void) {
     void *page = mmap(NULL, 4096, PROT_NONE, MAP_PRIVATE | MAP_ANONYMOUS, -1, 0);
     struct gate_written w = gate_pack(sheet, sizeof sheet, gate_bytes(allow, 1), sizeof allow - 1, gate_bytes(deny, 1), sizeof deny - 1,
-                                      gate_bytes(byuid, 1), sizeof byuid - 1, gate_bytes(portacl, 1), sizeof portacl - 1);
+                                      gate_bytes(byuid, 1), sizeof byuid - 1, gate_bytes(portacl, 1), sizeof portacl - 1,
+                                      gate_bytes(tables, 1), sizeof tables - 1);
     expect("the sheet is packed", w.number == GATE_ANSWERED && page != MAP_FAILED);
     sheet_len = (size_t)w.count;
     unreadable = (const char *)page;
@@ -49,14 +52,16 @@ static int commanded(const struct gate_command_answer *c, const struct gate_answ
            c->place == a->place;
 }
 
-/* The same word, file and line by texts and by the sheet. */
+/* The same word, file and line by texts, with tables that no rule names, and by the sheet. */
 static int decided(const struct gate_request *r, uint32_t word, uint32_t file, uint64_t line) {
     struct gate_answer t = gate_verdict_for(allow, sizeof allow - 1, deny, sizeof deny - 1, r);
+    struct gate_answer w = gate_tables_verdict_for(allow, sizeof allow - 1, deny, sizeof deny - 1, tables, sizeof tables - 1, r);
     struct gate_answer s = gate_sheet_verdict_for(sheet, sheet_len, r);
     uint8_t out[64];
     struct gate_command_answer tc = gate_command_for(out, sizeof out, allow, sizeof allow - 1, deny, sizeof deny - 1, r, 7);
     struct gate_command_answer sc = gate_sheet_command_for(out, sizeof out, sheet, sheet_len, r, 7);
     return t.number == GATE_ANSWERED && t.word == word && t.file == file && t.line == line && s.number == GATE_ANSWERED &&
+           w.number == GATE_ANSWERED && w.word == word && w.file == file && w.line == line && w.place == t.place && w.len == t.len &&
            s.word == word && s.file == file && s.line == line && s.len == t.len && commanded(&tc, &t) && commanded(&sc, &s);
 }
 
@@ -64,6 +69,7 @@ static int refused(const struct gate_request *r) {
     return gate_command_for(NULL, 0, allow, sizeof allow - 1, deny, sizeof deny - 1, r, 7).number == GATE_BAD_REQUEST &&
            gate_sheet_command_for(NULL, 0, sheet, sheet_len, r, 7).number == GATE_BAD_REQUEST &&
            gate_verdict_for(allow, sizeof allow - 1, deny, sizeof deny - 1, r).number == GATE_BAD_REQUEST &&
+           gate_tables_verdict_for(allow, sizeof allow - 1, deny, sizeof deny - 1, tables, sizeof tables - 1, r).number == GATE_BAD_REQUEST &&
            gate_sheet_verdict_for(sheet, sheet_len, r).number == GATE_BAD_REQUEST;
 }
 
@@ -117,6 +123,28 @@ static void verdicts(void) {
     expect("no daemon", refused(&r));
     memset(&r, 0, sizeof r);
     expect("zeros have no daemon", refused(&r));
+}
+
+/* Rules that name tables, by texts. */
+static int named(const struct gate_request *r, uint32_t word, uint64_t line) {
+    struct gate_answer a = gate_tables_verdict_for(naming, sizeof naming - 1, deny, sizeof deny - 1, tables, sizeof tables - 1, r);
+    return a.number == GATE_ANSWERED && a.word == word && a.line == line;
+}
+
+static void with_tables(void) {
+    struct gate_request r = request_to("sshd");
+    expect("a table that matches asks for the user behind it", named(&r, GATE_ASK, 1));
+    gate_request_set_user(&r, NULL, 0);
+    expect("a table that names another", named(&r, GATE_GRANTED, 1));
+    gate_request_set_user(&r, "fitter", 6);
+    expect("a user and a table", named(&r, GATE_DENIED, 1));
+    r.daemon = "web", r.daemon_len = 3;
+    expect("the server's end in a table", named(&r, GATE_GRANTED, 2));
+    r.server = gate_host_unknown();
+    expect("not in it", named(&r, GATE_DENIED, 1));
+    expect("a call without tables", gate_verdict_for(naming, sizeof naming - 1, NULL, 0, &r).number == GATE_TABLE_NAME);
+    expect("a fifth text of no bytes", gate_tables_verdict_for(NULL, 0, NULL, 0, NULL, 0, &r).number == GATE_CUT_SHORT);
+    expect("a fifth text of no tables", gate_tables_verdict_for(NULL, 0, NULL, 0, "\0\0", 2, &r).word == GATE_GRANTED);
 }
 
 static void users(void) {
@@ -239,14 +267,15 @@ int main(void) {
     prepare();
     hosts();
     verdicts();
+    with_tables();
     users();
     unread();
     commands();
     ports();
     settings();
-    expect("texts of the numbers", texts(gate_number_text, GATE_NO_ROOM) && !strcmp(gate_number_text(10), "no element kind fits"));
+    expect("texts of the numbers", texts(gate_number_text, GATE_BAD_TABLE) && !strcmp(gate_number_text(10), "no element kind fits"));
     expect("texts of the words", texts(gate_word_text, GATE_EXEMPT) && !strcmp(gate_word_text(GATE_NOT_RULED), "not ruled"));
-    expect("texts of the sections", texts(gate_section_text, GATE_PORTACL) && !strcmp(gate_section_text(GATE_BYUID), "byuid"));
+    expect("texts of the sections", texts(gate_section_text, GATE_TABLES) && !strcmp(gate_section_text(GATE_BYUID), "byuid"));
     if (!failed)
         printf("header: inline calls as expected\n");
     return failed;

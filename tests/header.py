@@ -21,8 +21,9 @@ HEADER, EXPORTS, STRUCTS = "include/gate.h", "crates/gate/src/lib.rt", "crates/c
 FAULTS, SECTIONS = "crates/section/specs/Refusal.antt", "crates/section/specs/Section.antt"
 ANSWERS, REQUESTS = "crates/codes/specs/Answers.antt", "crates/codes/specs/Requests.antt"
 FIELDS, LINES, GROUPS = "crates/elements/specs/Request.antt", "crates/lines/specs/Line.antt", "crates/portacl/specs/Portacl.antt"
+TABLES = "crates/tables/specs/Table.antt"
 CALLERS = {"tests/calls.c": "gate_%s(", "tests/stack.c": '"gate_%s"', "tests/differential.py": '("%s",'}
-FILES = [HEADER, EXPORTS, STRUCTS, FAULTS, SECTIONS, ANSWERS, REQUESTS, FIELDS, LINES, GROUPS]
+FILES = [HEADER, EXPORTS, STRUCTS, FAULTS, SECTIONS, ANSWERS, REQUESTS, FIELDS, LINES, GROUPS, TABLES]
 
 SLICES = {"&[u8]": "const uint8_t *", "&mut [u8]": "uint8_t *", "&[u32]": "const uint32_t *"}
 NUMBERS = {"u32": "uint32_t", "u64": "uint64_t"}
@@ -147,7 +148,10 @@ def numbers(text):
 def limits(text):
     """{macro: number} of sizes; those of outputs follow from the others"""
     fields, found = text[FIELDS], {f"GATE_{name}_LIMIT": limit for name, (_, limit) in sections(text).items()}
-    found["GATE_SHEET_LIMIT"] = sum(4 + limit for limit in found.values())
+    # the tables have no count of bytes before them
+    found["GATE_SHEET_LIMIT"] = sum(4 + limit for limit in found.values()) - 4
+    found["GATE_TABLES_COUNT"] = constant(text[TABLES], r"ltb (\d+) \(length \(tablesOf t\)\)", "the most tables")
+    found["GATE_TABLE_NAME_LIMIT"] = constant(text[TABLES], r"^isTableName n = .*inRange 1 (\d+) \(length n\)", "the limit of a table's name")
     found["GATE_DAEMON_LIMIT"] = constant(fields, r"inRange 1 (\d+) \(length \(r \.daemon\)\)", "the daemon's limit")
     found["GATE_USER_LIMIT"] = constant(fields, r"inRange 1 (\d+) \(length \(r \.userName\)\)", "the user's limit")
     found["GATE_NAME_LIMIT"] = constant(fields, r"inRange 1 (\d+) \(length \(h \.name\)\)", "the name's limit")
@@ -242,8 +246,17 @@ PLANTED = [
     (HEADER, "    uint64_t allow_place, allow_len;\n    uint64_t deny_place", "    uint64_t allow_len, allow_place;\n    uint64_t deny_place"),
     (HEADER, "    uint32_t word;    ", "    uint64_t word;    "),
     (HEADER, "uint64_t count; /* bytes written */", "uint64_t count, more; /* bytes written */"),
-    (HEADER, "GATE_CUT_SHORT = 1, ", "GATE_CUT_SHORT = 15, "),
-    (HEADER, "GATE_NO_ROOM = 14 ", "GATE_NO_ROOM = 14, GATE_LATER = 15 "),
+    (HEADER, "    uint64_t tables_place, tables_len;", "    uint64_t tables_len, tables_place;"),
+    (HEADER, "size_t portacl_len, const uint8_t *tables, size_t tables_len);", "size_t portacl_len);"),
+    (HEADER, "const uint8_t *tables, size_t tables_len,\n", "const uint8_t *table, size_t table_len,\n"),
+    (HEADER, "struct gate_written gate_upgrade(", "struct gate_written gate_update("),
+    (HEADER, "GATE_CUT_SHORT = 1, ", "GATE_CUT_SHORT = 18, "),
+    (HEADER, "GATE_BAD_TABLE = 17 ", "GATE_BAD_TABLE = 17, GATE_LATER = 18 "),
+    (HEADER, "GATE_TOO_DEEP = 16,", "GATE_TOO_DEEP = 19,"),
+    (HEADER, "GATE_TABLES = 5", "GATE_TABLES = 6"),
+    (HEADER, "GATE_TABLES_LIMIT 12288", "GATE_TABLES_LIMIT 12289"),
+    (HEADER, "GATE_TABLES_COUNT 64", "GATE_TABLES_COUNT 65"),
+    (HEADER, "GATE_TABLE_NAME_LIMIT 64", "GATE_TABLE_NAME_LIMIT 255"),
     (HEADER, "GATE_ASK = 3,", "GATE_ASK = 7,"),
     (HEADER, "GATE_UDP = 17", "GATE_UDP = 16"),
     (HEADER, "GATE_MARKED_FILE = 1", "GATE_MARKED_FILE = 2"),
@@ -251,14 +264,16 @@ PLANTED = [
     (HEADER, "GATE_USER_NOT_FETCHED = 0", "GATE_USER_NOT_FETCHED = 1"),
     (HEADER, "GATE_BYUID_LIMIT 8192", "GATE_BYUID_LIMIT 8193"),
     (HEADER, "GATE_NAME_LIMIT 255", "GATE_NAME_LIMIT 256"),
-    (HEADER, "GATE_SHEET_LIMIT 42000", "GATE_SHEET_LIMIT 42001"),
+    (HEADER, "GATE_SHEET_LIMIT 54288", "GATE_SHEET_LIMIT 54292"),
     (HEADER, "GATE_ADDRESS_ROOM 39", "GATE_ADDRESS_ROOM 45"),
     (HEADER, "struct gate_host {", "struct gate_expand { int x; };\nstruct gate_host {"),
     (EXPORTS, "pub extern \"C\" fn gate_unpack", "pub extern \"C\" fn gate_open"),
     (EXPORTS, "    uid: u32,\n) -> GateAnswer", "    uid: u64,\n) -> GateAnswer"),
     (STRUCTS, "    pub kind: u32,\n    pub high: u64,", "    pub high: u64,\n    pub kind: u32,"),
     (STRUCTS, "    pub word: u32,\n    pub file: u32,", "    pub word: u32,\n    pub file: u32,\n    pub looked_at: u64,"),
-    (FAULTS, "faultNumber F.NoRoom = 14", "faultNumber F.NoRoom = 14\nfaultNumber F.BadTable = 15"),
+    (FAULTS, "faultNumber F.BadTable = 17", "faultNumber F.BadTable = 17\nfaultNumber F.Later = 18"),
+    (TABLES, "ltb 64 (length (tablesOf t))", "ltb 63 (length (tablesOf t))"),
+    (TABLES, "inRange 1 64 (length n)", "inRange 1 65 (length n)"),
     (ANSWERS, 'word "no line" 4', 'word "no line" 5'),
     (ANSWERS, 'word "not ruled" 5', 'word "unruled" 5'),
     (ANSWERS, "noAddress = 255", "noAddress = 0"),

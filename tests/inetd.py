@@ -18,7 +18,8 @@ CONNECTIONS, AT_ONCE, TIMEOUT = 2000, 16, 0.4
 GRANTED, REFUSED = b"granted\n", b"refused\n"
 FAMILIES = {"127.0.0.1": socket.AF_INET, "::1": socket.AF_INET6}
 DENY_ALL = b"ALL: ALL: log denied %c\n"
-FULLEST = ref.pack([b"\n" * 16384, b"\n" * 16384, b"\n" * 8192, b"uid:0:tcp:0," * 84 + b"uid:10:tcp:65535"], 42000)
+FULLEST = ref.pack([b"\n" * 16384, b"\n" * 16384, b"\n" * 8192, b"uid:0:tcp:0," * 84 + b"uid:10:tcp:65535",
+                    ref.section_five([(b"t", b"\n" * 12280)])], 54288)
 
 
 def fail(what):
@@ -26,8 +27,8 @@ def fail(what):
     sys.exit(1)
 
 
-def sheet_of(allow, deny=DENY_ALL):
-    return ref.pack([allow, deny, b"", b""], 42000)
+def sheet_of(allow, deny=DENY_ALL, tables=()):
+    return ref.pack([allow, deny, b"", b"", ref.section_five(list(tables))], 54288)
 
 
 class Ident:
@@ -134,6 +135,9 @@ class Tests:
         self.inetd.replace(sheet_of(b"console@[::1]: [::1]/128\nsshd: ALL\n"))
         self.expect("granted, IPv6", "::1", GRANTED, "::1: granted, allow line 1")
         self.expect("denied, IPv4", "127.0.0.1", REFUSED, "denied, deny line 1, would run: log denied 127.0.0.1")
+        self.inetd.replace(sheet_of(b"console: /vans\n", tables=[(b"vans", b"10.20.30. /depot\n"), (b"depot", b"127.0.0.1\n")]))
+        self.expect("granted by a table", "127.0.0.1", GRANTED, "127.0.0.1: granted, allow line 1")
+        self.expect("in no table", "::1", REFUSED, "denied, deny line 1, would run: log denied ::1")
         self.inetd.replace(sheet_of(b"", b""))
         self.expect("no rule", "127.0.0.1", GRANTED, "granted, no rule, line 0")
 
@@ -173,7 +177,10 @@ class Tests:
     def refusals(self):
         good = sheet_of(b"ALL: ALL\n")
         for what, sheet, logged in (
-                ("a cut sheet", good[:-1], "refused 1 (the sheet ends within a section), section 4 (portacl), line 0"),
+                ("a cut sheet", good[:-1], "refused 1 (the sheet ends within a section), section 5 (tables), line 0"),
+                ("a sheet of four sections", good[:-2], "refused 1 (the sheet ends within a section), section 5 (tables), line 0"),
+                ("a rule without its table", ref.sheet_of([b"ALL: /vans\n", b"", b"", b"", ref.NO_TABLES]),
+                 "refused 15 (no table of this name, or two), section 1 (allow), line 1"),
                 ("a sheet cut to nothing", b"", "refused 1 (the sheet ends within a section), section 1 (allow), line 0"),
                 ("a byte more", good + b"\0", "refused 3 (bytes follow the last section), section 0 (no section), line 0"),
                 ("the fullest sheet and a byte", FULLEST + b"\0", "refused 3 (bytes follow the last section), section 0 (no section), line 0"),

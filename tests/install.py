@@ -11,8 +11,8 @@ import tempfile
 
 top = pathlib.Path(__file__).resolve().parent.parent
 FILES = {"lib/libgate.a": 0o644, "lib/pkgconfig/libgate.pc": 0o644, "include/gate.h": 0o644, "bin/gate": 0o755, "bin/checker": 0o755,
-         "share/man/man1/gate.1": 0o644, "share/man/man1/checker.1": 0o644, "share/man/man3/libgate.3": 0o644,
-         "share/man/man5/station-sheet.5": 0o644}
+         "bin/upgrader": 0o755, "share/man/man1/gate.1": 0o644, "share/man/man1/checker.1": 0o644, "share/man/man1/upgrader.1": 0o644,
+         "share/man/man3/libgate.3": 0o644, "share/man/man5/station-sheet.5": 0o644}
 PROGRAM = """#include <gate.h>
 #include <stdio.h>
 int main(void) {
@@ -61,9 +61,12 @@ def one(folder, name, arguments, prefix):
     if installed(destdir) != {f"{prefix[1:]}/{path}": mode for path, mode in FILES.items()}:
         fail(f"{name}: installed {installed(destdir)}")
     program(destdir, prefix)
-    (destdir / "sheet").write_bytes(bytes(16))
+    (destdir / "sheet").write_bytes(bytes(18))
     if run(str(root / "bin/checker"), str(destdir / "sheet")) != "sheet ok\n":
         fail("the checker")
+    (destdir / "sheet").write_bytes(bytes(16))
+    if run(str(root / "bin/upgrader"), str(destdir / "sheet")) != "\0" * 18:
+        fail("the upgrader")
     run(str(root / "bin/gate"), "--version")
 
 

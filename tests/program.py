@@ -28,10 +28,13 @@ STATIONS = int(sys.argv[2]) if len(sys.argv) > 2 else 300
 TOP = pathlib.Path(__file__).resolve().parent.parent
 SCRATCH = tempfile.mkdtemp(prefix="gate-tests-")
 SAMPLE = shutil.copytree(TOP / "sample", SCRATCH + "/sample")
+FLEET = SAMPLE + "/fleet"
 NAMES = ("hosts.allow", "hosts.deny", "byuid", "portacl")
 TEXTS = [(TOP / "sample" / name).read_bytes() for name in NAMES]
-SHEET = ref.pack(TEXTS, 42000)
-COMMANDS = ("check", "match", "byuid", "portacl", "pack", "unpack", "explain", "test")
+SHEET_LIMIT = 54288
+SHEET = ref.pack(TEXTS + [ref.NO_TABLES], SHEET_LIMIT)
+OLD_SHEET = SHEET[:-2]
+COMMANDS = ("check", "match", "byuid", "portacl", "pack", "unpack", "fleet", "upgrade", "explain", "test")
 PAGE = os.sysconf("SC_PAGE_SIZE")
 runs, failures, statuses, skipped = 0, [], set(), []
 
@@ -58,16 +61,29 @@ def expect(what, done, status, out=None, err=None):
         fail(what, f"status {done.returncode}, not {status}", done.stdout, done.stderr, f"wanted {out!r} and {err!r}")
 
 
-def write_station(folder, texts):
+def write_tables(folder, tables):
+    """a file for each pair of a name and a text; those that were there go"""
+    shutil.rmtree(folder, ignore_errors=True)
+    os.mkdir(folder)
+    for name, text in tables:
+        pathlib.Path(os.fsdecode(os.fsencode(folder) + b"/" + name)).write_bytes(text)
+    return str(folder)
+
+
+def write_station(folder, texts, tables=None):
+    """tables: its own, or None where it has no folder of them"""
     folder = pathlib.Path(folder)
     folder.mkdir(exist_ok=True)
     for name, text in zip(NAMES, texts):
         (folder / name).write_bytes(text)
+    shutil.rmtree(folder / "tables", ignore_errors=True)
+    if tables is not None:
+        write_tables(folder / "tables", tables)
     return str(folder)
 
 
-def station(folder, allow=b"", deny=b"", byuid=b"", portacl=b""):
-    return write_station(folder, [allow, deny, byuid, portacl])
+def station(folder, allow=b"", deny=b"", byuid=b"", portacl=b"", tables=None):
+    return write_station(folder, [allow, deny, byuid, portacl], tables)
 
 
 # Arguments
@@ -110,10 +126,10 @@ def test_misread():
     for command, cases in MISREAD.items():
         for case in cases:
             expect(f"{command} {case} is an error", gate(command, SAMPLE, *case), 2, b"", "gate: ")
-    for case in (["15"], ["x"], ["-1"], ["010"], [""], ["1", "2"], ["4294967306"]):
+    for case in (["18"], ["x"], ["-1"], ["010"], [""], ["1", "2"], ["4294967306"]):
         expect(f"explain {case} is an error", gate("explain", *case), 2, b"", "gate: ")
     for case in ([], ["chek"], [""], ["-q"], ["--Version"], ["--version", "x"], ["check"], ["check", SAMPLE, SAMPLE], ["pack", SAMPLE], ["unpack", "x"],
-                 ["test", SAMPLE], ["check", "--warning", SAMPLE], ["check", "-q", "-q", SAMPLE], ["check", "--quiet=1", SAMPLE]):
+                 ["test", SAMPLE], ["fleet", SAMPLE], ["upgrade", "x"], ["fleet", FLEET, "--tables", FLEET + "/tables"], ["check", "--warning", SAMPLE], ["check", "-q", "-q", SAMPLE], ["check", "--quiet=1", SAMPLE]):
         expect(f"gate {case} is an error", gate(*case), 2, b"", "gate: ")
 
 
@@ -174,7 +190,7 @@ def test_answers(folder):
         expect("portacl by " + what, gate("portacl", where, "5", "udp:123", "--groups", "19,20"), 0,
                b"granted\nrule      %s entry 2\ntext      gid:20:udp:123\n" % (at % "portacl").encode(), b"")
         expect("tested by " + what, gate("test", where, SAMPLE + "/requests"), 0, "13 requests, all as expected", b"")
-        expect("checked as " + what, gate("check", "-W", where), 0, "sound, 396 bytes", b"")
+        expect("checked as " + what, gate("check", "-W", where), 0, "sound, 398 bytes", b"")
     expect("no rule", gate("match", station(folder + "/none"), *VAN), 0, "granted\nwhy       no rule", b"")
     expect("no line", gate("byuid", SAMPLE, "432", "10.21.1.2,80"), 1, b"no line\n", b"")
     expect("a verdict by standard input", gate("match", "-", *VAN, stdin=SHEET), 0, "granted\nrule      -(hosts.allow):2\n", b"")
@@ -233,7 +249,7 @@ MARKS = [
     (b" : ALL", " ^"), (b"ALL: ", "     ^"), (b"ALL", "   ^"), (b"a [b: ALL", "  ^"), (b"a [b] c", "       ^"),
     (b"a EXCEPT EXCEPT b: ALL", "  ^~~~~~ ^~~~~~"), (b"EXCEPT a: ALL", "^~~~~~"), (b"ALL: a EXCEPT", "       ^~~~~~"),
     (b"a EXCEPT b: EXCEPT c", "            ^~~~~~"),
-    (b"@a b: c@/d", "^~    ^~~~"), (b"LOCAL: x!, ok", "^~~~~  ^~"), (b"[ x ]: ALL", "^   ^"), (b"ALL: ALL: %a %", "             ^"),
+    (b"@a b: c@@d", "^~    ^~~~"), (b"/a b: c@/d", "^~"), (b"a: /!, b@/, /c@d", "   ^~  ^~~  ^~~~"), (b"LOCAL: x!, ok", "^~~~~  ^~"), (b"[ x ]: ALL", "^   ^"), (b"ALL: ALL: %a %", "             ^"),
     (b"\xc3\xa4: \x01", "^^  ^"),
 ]
 
@@ -286,10 +302,16 @@ def test_checks(folder):
            "hosts.deny:1: warning: never reached")
     for what, sheet, line in (
             ("fifteen bytes", bytes(15), b"-(portacl): the sheet ends within a section: its count, of four bytes, is not there whole [1]\n"),
-            ("seventeen bytes", bytes(17), b"-: bytes follow the last section [3]\n"),
-            ("a cut sheet", SHEET[:-1], b"-(portacl): the sheet ends within a section: its count is 29 bytes, and 28 follow [1]\n")):
+            ("sixteen bytes", bytes(16), b"-(tables): the sheet ends within a section: the count of its tables, of two bytes, is not there whole [1]\n"
+             b"      = a sheet of four sections, from before there were tables: gate upgrade OLD NEW appends an empty fifth\n"),
+            ("seventeen bytes", bytes(17), b"-(tables): the sheet ends within a section: the count of its tables, of two bytes, is not there whole [1]\n"),
+            ("nineteen bytes", bytes(19), b"-: bytes follow the last section [3]\n"),
+            ("a cut table", bytes(17) + b"\2\1a\0\0\0\0\1", b"-(tables): the sheet ends within a section: its count is 2 tables, and table 2 is not there whole [1]\n"),
+            ("two megabytes", bytes(1 << 21), b"-: over 1048576 bytes, and the longest sheet has 54288: it is not looked at\n"),
+            ("a cut sheet", SHEET[:-3], b"-(portacl): the sheet ends within a section: its count is 29 bytes, and 28 follow [1]\n")):
         expect(what, gate("check", "-", stdin=sheet), 1, b"-: 1 fault\n", line)
-    expect("sixteen zero bytes", gate("check", "-", stdin=bytes(16)), 0, b"-: sound, 16 bytes\n", b"")
+    expect("eighteen zero bytes", gate("check", "-", stdin=bytes(18)), 0, b"-: sound, 18 bytes\n", b"")
+    expect("a megabyte", gate("check", "-", stdin=bytes(1 << 20)), 1, b"-: 1 fault\n", b"-: bytes follow the last section [3]\n")
     expect("a text for a sheet", gate("check", SAMPLE + "/hosts.allow"), 1, "1 fault", "give the folder that holds all four")
     most = station(folder + "/most", b"x\n" * 8192, b"x\n" * 8191 + b"x", b"x\n" * 4096, b"," * 1024)
     before = time.monotonic()
@@ -333,15 +355,18 @@ def test_marked(folder):
 
 
 def test_explain(folder):
-    expect("explain lists all", gate("explain"), 0, "\n14  ", b"")
-    for number in range(15):
+    expect("explain lists all", gate("explain"), 0, "\n17  ", b"")
+    for number in range(18):
         done = gate("explain", str(number))
         expect(f"explain {number}", done, 0, "What to do", b"")
-        example = re.search(rb"Example, in (hosts.allow|portacl):\n    (.*)\n", done.stdout)
+        example = re.search(rb"Example, in (hosts.allow|portacl|a table):\n    (.*)\n", done.stdout)
         if not example or number in (4, 6):
             continue
         text = re.sub(rb" \(.*\)", b"", example[2]).replace(b"\\r", b"\r")
-        where = station(folder + "/explained", **{example[1].decode().replace("hosts.", ""): text + (b"\n" if example[1] == b"hosts.allow" else b"")})
+        if example[1] == b"a table":
+            where = station(folder + "/explained", tables=[(b"t", text)])
+        else:
+            where = station(folder + "/explained", **{example[1].decode().replace("hosts.", ""): text + (b"\n" if example[1] == b"hosts.allow" else b"")})
         expect(f"the example of {number}", gate("check", where), 1, ": 1 fault", f"[{number}]\n")
 
 
@@ -422,7 +447,7 @@ def make_device(path):
 
 def test_pack(folder):
     sheet, new = folder + "/station.sheet", folder + "/new.sheet"
-    expect("packing", gate("pack", SAMPLE, sheet), 0, b"%s: 396 bytes\n" % sheet.encode(), b"")
+    expect("packing", gate("pack", SAMPLE, sheet), 0, b"%s: 398 bytes\n" % sheet.encode(), b"")
     expect("packing to standard output", gate("pack", SAMPLE, "-"), 0, SHEET, b"")
     os.chmod(sheet, 0o640)
     expect("packing again", gate("pack", "-q", SAMPLE, sheet), 0, b"", b"")
@@ -433,12 +458,13 @@ def test_pack(folder):
     os.symlink("station.sheet", folder + "/link")
     os.mkfifo(folder + "/fifo")
     device = make_device(folder + "/device")
-    own = station(folder + "/own")
+    own = station(folder + "/own", tables=[(b"vans", b"")])
     for what, where, path, message in (
             ("a folder", SAMPLE, folder, "is a folder"), ("a symbolic link", SAMPLE, folder + "/link", "is a symbolic link"),
             ("no path", SAMPLE, "", "no path"),
             *(("a device", SAMPLE, path, "is no regular file") for path in device), ("a pipe", SAMPLE, folder + "/fifo", "is no regular file"),
             ("a missing folder", SAMPLE, folder + "/none/sheet", "No such file"), ("a text of its own", own, own + "/byuid", "is one of the texts"),
+            ("a table of its own", own, own + "/tables/vans", "is one of the texts"),
             ("a sheet for a folder", sheet, new, "is no folder"), ("a missing station", folder + "/none", new, "No such file"),
             ("a refused station", station(folder + "/bad", b"x\ny\n"), sheet, "refused: 2 faults")):
         expect("packing to or from " + what, gate("pack", where, path), 2, b"", message)
@@ -482,6 +508,243 @@ def test_unpack(folder):
         fail("refusals leave nothing")
 
 
+# Tables
+
+TABLES = sorted((path.name.encode(), path.read_bytes()) for path in (TOP / "sample/fleet/tables").iterdir())
+STATIONS_TEXTS = {name: [(TOP / "sample/fleet" / name / file).read_bytes() for file in NAMES] for name in ("north", "south")}
+SHEETS = {name: ref.pack(texts + [ref.section_five(TABLES)], SHEET_LIMIT) for name, texts in STATIONS_TEXTS.items()}
+
+TABLES_MARKED = b"""\
+./hosts.allow:1: no table of this name [15]
+    1 | sshd: /a, x@/missing
+      |             ^~~~~~~~
+      = there is no table missing: name one that is there, or write its hosts into ./tables/missing
+./tables/vans: table 7: a second table of this name [15]
+      = names are compared without case, and ./tables/VANS is table 1: rename one, or put all their hosts into one
+./tables/vans:3: table 7: no table of this name [15]
+    3 | 10.0.0.0/8 /missing
+      |            ^~~~~~~~
+      = there is no table missing: name one that is there, or write its hosts into ./tables/missing
+./hosts.allow:2: a rule leads more than four tables deep [16]
+    2 | ALL@/A: /VANS
+      |     ^~
+      = /a /b /c /d /e: the table that a rule names is the first, and the fourth may name none
+./tables/vans:1: table 7: no host pattern [17]
+    1 | # vans
+      | ^
+      = a table has no comments: it holds hosts, and nothing else
+./tables/vans:2: table 7: no host pattern [17]
+    2 | van7, EXCEPT fitter@x ::1 /!
+      | ^~~~~ ^~~~~~ ^~~~~~~~ ^~~ ^~
+      = the hosts of a table are parted by blanks, tabs and newlines, not by commas
+      = a table has no EXCEPT: it stands in the rule, as in /name EXCEPT host
+      = a table has no users and no netgroups: a user stands in the rule, as in user@/name
+      = an IPv6 address stands in brackets, and a table has no commands
+      = a table is named by / and 1 to 64 letters, digits, - _ .
+./tables/x~: table 8: its name is not of 1 to 64 letters, digits, - _ . [17]
+      = every file in a folder of tables is one, but for those that begin with a dot: rename it, or take it out
+"""
+CHAIN = [(b"a", b"/b"), (b"b", b"/c"), (b"c", b"/d"), (b"d", b"/e"), (b"e", b"host")]
+
+
+def test_tables(folder):
+    """a station's own tables, and those of another folder"""
+    marked = station(folder + "/marked", b"sshd: /a, x@/missing\nALL@/A: /VANS\n", tables=CHAIN + [
+        (b"VANS", b""), (b"vans", b"# vans\nvan7, EXCEPT fitter@x ::1 /!\n10.0.0.0/8 /missing\n"), (b"x~", b"")])
+    expect("faults of tables with their marks", gate("check", ".", cwd=marked), 1, b".: 7 faults\n", TABLES_MARKED)
+    expect("the same of a sheet", gate("check", "-", stdin=SHEETS["north"].replace(b"/depot\n", b"/depto\n")), 1, b"-: 1 fault\n",
+           "-(tables/vans):3: table 2: no table of this name [15]\n    3 | /depto\n      | ^~~~~~\n      = there is no table depto in this sheet\n")
+    north, tables = FLEET + "/north", FLEET + "/tables"
+    expect("a rule that names a table where there is none", gate("check", north), 1, ": 2 faults\n", "has no folder of tables; give it with --tables FOLDER")
+    expect("with the tables", gate("check", "-W", north, "--tables", tables), 0, "sound, 362 bytes as a sheet", b"")
+    for what, arguments, status, out in (
+            ("match", ["match", north, "console", "10.20.1.9"], 0, "granted\n"), ("byuid", ["byuid", north, "432", "10.20.1.2,80"], 0, "granted\n"),
+            ("portacl", ["portacl", north, "432", "udp:80"], 1, "denied\n"), ("test", ["test", north, north + "/requests"], 0, "8 requests, all as expected")):
+        expect(what + " without tables", gate(*arguments), 2, b"", "no table of this name [15]")
+        expect(what + " with tables", gate(*arguments, "--tables", tables), status, out, b"")
+    with open(folder + "/requests", "wb") as requests:
+        requests.write(b"match sshd 10.1.1.1 --tables x => denied\n")
+    expect("tables in a request", gate("test", SAMPLE, folder + "/requests"), 2, "1 not read", "without the station, --tables and -q")
+    sheet = folder + "/north.sheet"
+    expect("packing with tables", gate("pack", north, sheet, "--tables", tables + "/"), 0, "362 bytes", b"")
+    if pathlib.Path(sheet).read_bytes() != SHEETS["north"]:
+        fail("a sheet with tables", pathlib.Path(sheet).read_bytes(), SHEETS["north"])
+    expect("a sheet has its tables", gate("check", sheet, "--tables", tables), 2, b"", "has its tables with it")
+    expect("a sheet on standard input", gate("check", "-", "--tables", tables, stdin=SHEET), 2, b"", "has its tables with it")
+    own = station(folder + "/own", b"ALL: /vans\n", tables=[(b"vans", b"10.0.0.1/8\n"), (b".hidden", b"EXCEPT"), (b"left", b"")])
+    expect("a station's own tables", gate("check", "-W", own), 0, "sound, 58 bytes as a sheet, 2 warnings", "left: warning: no rule leads to this table")
+    expect("a net in a table", gate("check", "-W", own), 0, None, "tables/vans:1: warning: matches no address")
+    expect("the same folder by its name", gate("check", own, "--tables", own + "/tables"), 0, "sound, 58 bytes", b"")
+    expect("two folders of tables", gate("check", own, "--tables", tables), 2, b"", "own/tables: this station has tables of its own, and is given those of")
+    for what, where, message in (("none", folder + "/none", "none: No such file"), ("a file", sheet, "Not a directory"), ("no path", "", "(empty): No such file")):
+        expect("tables of " + what, gate("check", north, "--tables", where), 2, b"", message)
+    os.mkdir(own + "/tables/deeper")
+    expect("a folder for a table", gate("check", own), 2, b"", "tables/deeper: is no file: a table is a file")
+    os.rmdir(own + "/tables/deeper")
+    os.symlink("nowhere", own + "/tables/dangling")
+    expect("a link to nowhere for a table", gate("check", own), 2, b"", "tables/dangling: No such file")
+    test_table_limits(folder)
+    test_unpacked_tables(folder)
+
+
+def test_table_limits(folder):
+    for count, status, message in ((64, 0, b""), (65, 1, "tables: 65 tables, and the most is 64 [17]"), (1024, 1, "1024 tables"), (1025, 2, "over 1024 files")):
+        where = station(folder + "/many", tables=[(b"t%d" % i, b"") for i in range(count)])
+        expect(f"{count} tables", gate("check", where), status, None, message)
+    for size, status, message in ((12288 - 8, 0, b""), (12288 - 7, 1, "tables: 12289 bytes with their names and counts, and the most is 12288 [17]"),
+                                  (100000, 1, "65545 bytes")):
+        where = station(folder + "/long", tables=[(b"t", b"\n" * size)])
+        expect(f"a table of {size} bytes", gate("check", where), status, None, message)
+    for name, status in ((b"n" * 64, 0), (b"n" * 65, 1), (b"n" * 255, 1), (b"a b", 1), (b"EXCEPT", 0), (b"10", 0), (b"\xc3\xa4", 1)):
+        expect(f"a table called {name}", gate("check", station(folder + "/named", tables=[(name, b"")])), status, None, "[17]" if status else b"")
+    before = time.monotonic()
+    for five in gen.vast_tables(5000):
+        expect("vast tables", gate("check", "-", stdin=ref.sheet_of([b"ALL: /a\n", b"", b"", b"", five])), ref.refused(ref.frame_five(five) or ref.naming_fault(
+            b"ALL: /a\n", b"", five)), None, None)
+    if time.monotonic() - before > 20:
+        fail("vast tables take too long")
+
+
+def test_unpacked_tables(folder):
+    """into a new folder, into one that is there, over tables that are there; and back"""
+    sheet, out = folder + "/tabled.sheet", folder + "/out"
+    pathlib.Path(sheet).write_bytes(SHEETS["north"])
+
+    def has_all(where):
+        texts = [(pathlib.Path(where) / name).read_bytes() for name in NAMES]
+        tables = sorted((path.name.encode(), path.read_bytes()) for path in (pathlib.Path(where) / "tables").iterdir())
+        return texts == STATIONS_TEXTS["north"] and tables == TABLES and sorted(os.listdir(where)) == sorted(NAMES + ("tables",))
+
+    expect("unpacking tables", gate("unpack", sheet, out, umask=0o022), 0, b"%s: hosts.allow, hosts.deny, byuid, portacl, 2 tables\n" % out.encode(), b"")
+    modes = [oct(os.stat(path).st_mode & 0o777) for path in (out, out + "/tables", out + "/tables/vans")]
+    if not has_all(out) or modes != ["0o755", "0o755", "0o644"]:
+        fail("unpacked tables", modes)
+    expect("and packing them again", gate("pack", out, folder + "/again.sheet"), 0, "362 bytes", b"")
+    if pathlib.Path(folder + "/again.sheet").read_bytes() != SHEETS["north"]:
+        fail("a sheet, unpacked and packed, is the same")
+    os.mkdir(folder + "/empty")
+    expect("into an empty folder", gate("unpack", sheet, folder + "/empty", umask=0o022), 0, "2 tables", b"")
+    if not has_all(folder + "/empty") or left_over(folder):
+        fail("unpacked tables in a folder that was there", sorted(pathlib.Path(folder + "/empty").rglob("*")))
+    shutil.rmtree(out + "/tables")
+    (pathlib.Path(out) / "tables").mkdir()
+    (pathlib.Path(out) / "tables/vans").write_bytes(b"mine")
+    for name in NAMES:
+        (pathlib.Path(out) / name).unlink()
+    expect("a table is not replaced", gate("unpack", sheet, out), 2, b"", "tables/vans: is there already")
+    if (pathlib.Path(out) / "tables/vans").read_bytes() != b"mine" or os.listdir(out) != ["tables"]:
+        fail("a table was replaced")
+    expect("but by force", gate("unpack", "-f", sheet, out), 0, "2 tables", b"")
+    if not has_all(out):
+        fail("tables unpacked by force")
+    for name in ("other", "VANS"):
+        (pathlib.Path(out) / "tables" / name).write_bytes(b"")
+        expect("a table that the sheet has not", gate("unpack", "-f", sheet, out), 2, b"", f"tables/{name}: is no table of this sheet: move it away first")
+        (pathlib.Path(out) / "tables" / name).unlink()
+    os.rename(out + "/tables", folder + "/shared")
+    os.symlink(folder + "/shared", out + "/tables")
+    expect("tables that others have too", gate("unpack", "-f", sheet, out), 2, b"", "tables: is a symbolic link, and others may have these tables too")
+    os.unlink(out + "/tables")
+    os.rename(folder + "/shared", out + "/tables")
+    expect("tables where the sheet has none", gate("unpack", "-f", "-", out, stdin=SHEET), 2, b"", "is no table of this sheet")
+    dotted = ref.sheet_of([b"", b"", b"", b"", ref.section_five([(b".x", b"")])])
+    expect("a table that can't be a file", gate("unpack", "-", folder + "/dotted", stdin=dotted), 2, b"", "table 1 is called .x")
+    if os.path.exists(folder + "/dotted") or not has_all(out) or left_over(folder):
+        fail("refusals leave all as it was")
+
+
+def test_fleet(folder):
+    """every station of a folder, with one folder of tables"""
+    fleet = folder + "/fleet"
+    shutil.copytree(FLEET, fleet)
+    tables, sheets = fleet + "/tables", {name: pathlib.Path(fleet) / (name + ".sheet") for name in SHEETS}
+    lines = b"".join(b"%s: %d bytes\n" % (os.fsencode(path), len(SHEETS[name])) for name, path in sorted(sheets.items()))
+    expect("a fleet", gate("fleet", fleet, tables), 0, lines + b"%s: 2 stations, 2 sheets written\n" % fleet.encode(), b"")
+    if any(path.read_bytes() != SHEETS[name] for name, path in sheets.items()) or left_over(fleet):
+        fail("the sheets of a fleet")
+    for name, path in sheets.items():
+        expect(f"what {name} answers", gate("test", path, f"{fleet}/{name}/requests"), 0, "all as expected", b"")
+    expect("a fleet, quiet", gate("fleet", "-q", fleet, tables), 0, b"", b"")
+
+    def expect_kept(what, status, out, err, *options, kept=("north", "south")):
+        for path in sheets.values():
+            path.write_bytes(b"what was there")
+        expect(what, gate("fleet", fleet, tables, *options), status, out, err)
+        for name, path in sheets.items():
+            if path.read_bytes() != (b"what was there" if name in kept else SHEETS[name]):
+                fail(what + ": the sheet of " + name, path.read_bytes()[:40])
+        if left_over(fleet):
+            fail(what + " leaves nothing", left_over(fleet))
+
+    south = pathlib.Path(fleet) / "south"
+    (south / "hosts.deny").write_bytes(b"ALL: ALL\nsshd: /nobody, x!\nALL: /nobody\n")
+    expect_kept("a fleet with a faulty station", 1, "south: 2 faults; %s is as it was\n%s: 2 stations, 1 sheet written\n" % (sheets["south"], fleet),
+                "south/hosts.deny:3: no table of this name [15]", kept=["south"])
+    expect_kept("the same, quiet", 1, b"", "south/hosts.deny:2: no element kind fits [10]", "-q", kept=["south"])
+    (south / "hosts.deny").write_bytes(STATIONS_TEXTS["south"][1])
+    (south / "byuid").unlink()
+    expect_kept("a fleet with a station of three texts", 2, "/south: an error\n%s: 2 stations, 1 sheet written\n" % fleet, "south/byuid: No such file", kept=["south"])
+    (south / "byuid").write_bytes(b"")
+    os.mkdir(fleet + "/empty")
+    expect_kept("a fleet with an empty folder", 2, "3 stations, 2 sheets written", "empty/hosts.allow: No such file", kept=[])
+    os.rename(fleet + "/empty", fleet + "/.hidden")
+    write_tables(fleet + "/south/tables", [(b"vans", b"")])
+    expect_kept("a station with tables of its own", 2, "1 sheet written", "south/tables: this station has tables of its own", kept=["south"])
+    shutil.rmtree(fleet + "/south/tables")
+    (pathlib.Path(tables) / "vans").write_bytes(b"a, b\n/depto\n")
+    expect_kept("a fleet with faulty tables", 1, "south: 2 faults of the tables; ", "tables/vans:2: table 2: no table of this name [15]")
+    done = gate("fleet", fleet, tables)
+    if done.stderr.count(b"[15]") != 1 or done.stderr.count(b"[17]") != 1:
+        fail("faults of the tables are shown once", done.stderr)
+    (pathlib.Path(tables) / "vans").write_bytes(TABLES[1][1])
+    (pathlib.Path(tables) / "spare").write_bytes(b"10.0.0.1/8\n")
+    expect("a table that no station uses", gate("fleet", "-W", fleet, tables), 0, "2 sheets written", "tables/spare: warning: no rule of any station leads to this table")
+    done = gate("fleet", "-W", fleet, tables)
+    if done.stderr.count(b"warning") != 2:
+        fail("warnings of the tables are shown once", done.stderr)
+    os.unlink(tables + "/spare")
+    sheets["south"].unlink()
+    os.mkdir(sheets["south"])
+    expect("a folder in a sheet's place", gate("fleet", fleet, tables), 2, "3 stations, 1 sheet written", "south.sheet: is a folder")
+    os.rmdir(sheets["south"])
+    for what, arguments, message in (("no stations", [tables, tables], "holds no station"), ("no folder", [folder + "/none", tables], "none: No such file"),
+                                     ("no tables", [fleet, folder + "/none"], "none: No such file"), ("a sheet for tables", [fleet, sheets["north"]], "Not a directory")):
+        expect("a fleet of " + what, gate("fleet", *arguments), 2, b"", message)
+    expect("a fleet again", gate("fleet", fleet, tables), 0, "2 stations, 2 sheets written", b"")
+
+
+def test_upgrade(folder):
+    """sheets of four sections"""
+    old, new = pathlib.Path(folder) / "old.sheet", pathlib.Path(folder) / "new.sheet"
+    old.write_bytes(OLD_SHEET)
+    expect("a sheet of four sections", gate("check", old), 1, None, "gate upgrade OLD NEW appends an empty fifth")
+    expect("upgrading", gate("upgrade", old, new), 0, b"%s: 398 bytes, with no tables\n" % os.fsencode(new), b"")
+    if new.read_bytes() != SHEET or old.read_bytes() != OLD_SHEET:
+        fail("an upgraded sheet")
+    expect("upgrading from and to standard streams", gate("upgrade", "-", "-", stdin=OLD_SHEET), 0, SHEET, b"")
+    expect("upgrading in place", gate("upgrade", "-q", old, old), 0, b"", b"")
+    if old.read_bytes() != SHEET:
+        fail("a sheet upgraded in place")
+    faulty = ref.sheet_of([b"x\n", b"ALL: /vans", b"", b",", b""])
+    expect("a sheet with faults in its lines", gate("upgrade", "-", new, stdin=faulty), 0, "bytes, with no tables", "it has faults: gate check shows them")
+    if new.read_bytes() != faulty + bytes(2):
+        fail("an upgraded sheet with faults")
+    full = ref.sheet_of([b"\n" * 16384, b"\n" * 16384, b"\n" * 8192, b"x" * 1024, b""])
+    expect("the longest sheet of four sections", gate("upgrade", "-", new, stdin=full), 0, "42002 bytes", None)
+    for what, sheet, message in (
+            ("a sheet of five sections", SHEET, "has its tables already"), ("one with tables", SHEETS["north"], "has its tables already"),
+            ("a cut one", OLD_SHEET[:-1], "section 4, portacl: it is no sheet of four sections [1]"), ("none", b"", "section 1, allow: it is no sheet of four sections [1]"),
+            ("one with a byte more", OLD_SHEET + b"\0", "bytes follow the fourth section, and are no tables: it is no sheet of four sections [3]"),
+            ("one over a limit", b"\0\0\x40\1" + bytes(20000), "section 1, allow: it is no sheet of four sections [2]"), ("a text", TEXTS[0], "it is no sheet of four sections [2]"),
+            ("two megabytes", bytes(1 << 21), "over 1048576 bytes, and the longest sheet has 54288")):
+        new.write_bytes(b"what was there")
+        expect("upgrading " + what, gate("upgrade", "-", new, stdin=sheet), 2, b"", message)
+        if new.read_bytes() != b"what was there" or left_over(folder):
+            fail("a refused upgrade changes nothing")
+    expect("upgrading nothing", gate("upgrade", folder + "/none", new), 2, b"", "none: No such file")
+    expect("upgrading to a folder", gate("upgrade", old, folder), 2, b"", "is a folder")
+
+
 def faulty(library, call, turn, **what):
     return {**os.environ, "LD_PRELOAD": library, "FAULT_CALL": call, "FAULT_TURN": str(turn), **{"FAULT_" + k.upper(): str(int(v)) for k, v in what.items()}}
 
@@ -515,6 +778,7 @@ def test_faults(folder):
         message = os.strerror(error) + "; nothing was written, and what was there is as it was"
         expect_old(f"{error} at {call} of pack", 2, *pack, message=message, env=faulty(library, call, 1, errno=error))
         expect_old(f"{error} at {call} of unpack", 2, *unpack, message=message, env=faulty(library, call, 1, errno=error))
+    test_faults_with_tables(folder, library)
     expect_old("a folder that can't be synced", 2, *pack, message="perhaps not on disk", kept=False, env=faulty(library, "fsync", 2, errno=errno.EIO))
     if sheet.read_bytes() != SHEET:
         fail("a sheet whose folder was not synced is there")
@@ -528,12 +792,49 @@ def test_faults(folder):
     left = left_over(folder)
     if done.returncode != -signal.SIGKILL or sheet.read_bytes() != old or len(left) != 1:
         fail("a killed pack leaves the sheet as it was, and its temporary file", left)
-    expect("packing beside what a killed pack left", gate(*pack), 0, "396 bytes", b"")
+    expect("packing beside what a killed pack left", gate(*pack), 0, "398 bytes", b"")
     if sheet.read_bytes() != SHEET or left_over(folder) != left:
         fail("a sheet beside what a killed pack left")
     left[0].unlink()
     ignoring = gate(*pack, env=faulty(library, "fsync", 1, signal=signal.SIGHUP), preexec_fn=lambda: signal.signal(signal.SIGHUP, signal.SIG_IGN))
-    expect("a signal that is ignored", ignoring, 0, "396 bytes", b"")
+    expect("a signal that is ignored", ignoring, 0, "398 bytes", b"")
+
+
+def test_faults_with_tables(folder, library):
+    """the same of a sheet with tables, into a new folder and into one that is there, and of a fleet run"""
+    sheet, old = folder + "/tabled.sheet", b"what was there"
+    pathlib.Path(sheet).write_bytes(SHEETS["north"])
+    files = len(NAMES) + len(TABLES)
+
+    def expect_nothing(what, status, message, **how):
+        for is_there in (False, True):
+            with tempfile.TemporaryDirectory(dir=folder) as where:
+                out = pathlib.Path(where) / "out"
+                if is_there:
+                    out.mkdir()
+                expect(what, gate("unpack", sheet, out, **how), status, b"", message)
+                if out.exists() != is_there or is_there and os.listdir(out) or left_over(where):
+                    fail(what + " changes nothing", sorted(pathlib.Path(where).rglob("*")))
+
+    for call in ("write", "fsync"):
+        for turn in range(1, files + 1):
+            expect_nothing(f"a signal at {call} {turn} of tables", -signal.SIGTERM, None, env=faulty(library, call, turn, signal=signal.SIGTERM))
+            expect_nothing(f"an error at {call} {turn} of tables", 2, "nothing was written, and what was there is as it was",
+                           env=faulty(library, call, turn, errno=errno.ENOSPC))
+    expect_nothing("an error at the first rename of tables", 2, None, env=faulty(library, "rename", 1, errno=errno.EACCES))
+    expect("an error at mkdir", gate("unpack", sheet, folder + "/out", env=faulty(library, "mkdir", 1, errno=errno.ENOSPC)), 2, b"", "No space left")
+    if os.path.exists(folder + "/out") or left_over(folder):
+        fail("an error at mkdir leaves nothing")
+    fleet = folder + "/fleet"
+    shutil.copytree(FLEET, fleet)
+    for turn, name in enumerate(sorted(SHEETS), 1):
+        for station_name in SHEETS:
+            (pathlib.Path(fleet) / (station_name + ".sheet")).write_bytes(old)
+        done = gate("fleet", fleet, fleet + "/tables", env=faulty(library, "rename", turn, errno=errno.ENOSPC))
+        expect(f"a fleet in which {name} can't be written", done, 2, "2 stations, 1 sheet written", f"{name}.sheet: No space left on device; nothing was written")
+        kept = [n for n in SHEETS if (pathlib.Path(fleet) / (n + ".sheet")).read_bytes() == old]
+        if kept != [name] or left_over(fleet):
+            fail("of a fleet only what failed is as it was", kept)
 
 
 @contextlib.contextmanager
@@ -585,7 +886,7 @@ def test_full_disk(folder):
             if sheet.read_bytes() != old or left_over(disk) or (disk / "out").exists() or any((disk / "texts" / name).read_bytes() for name in NAMES):
                 fail(f"{what} on a full disk changes nothing", sheet.read_bytes()[:40], sorted(disk.rglob("*")))
         leave_pages(disk, 1)
-        expect("pack into the last page", gate("pack", SAMPLE, sheet), 0, "396 bytes", b"")
+        expect("pack into the last page", gate("pack", SAMPLE, sheet), 0, "398 bytes", b"")
         if sheet.read_bytes() != SHEET or left_over(disk):
             fail("a sheet in the last page is whole")
 
@@ -603,27 +904,92 @@ def hosts_faults(section, text):
     return found
 
 
+def naming_faults(number, texts, tables):
+    """of lines that are sound but for what they name: a missing name comes before one that leads too deep"""
+    found = []
+    for section in (1, 2):
+        for line in ref.lines(texts[section - 1]):
+            if ref.line_faults(line) - {4} or not line.ended and line.raw.endswith(b"\\"):
+                continue
+            names = ref.named_in_rule(line)
+            missing = any(not tables.has(name) for name in names)
+            if missing if number == 15 else not missing and any(map(tables.leads_past, names)):
+                found.append((number, section, line.number))
+    return found
+
+
+def table_faults(number, pairs, tables, five):
+    """one for a name, and one for each line of a table that has a bad word"""
+    found, seen = [], set()
+    if number == 17:
+        found += [(17, 5, 0)] * ((len(pairs) > 64) + (len(five) > 12288))
+    for place, (name, text) in enumerate(pairs, 1):
+        bad_name = ref.lower(name) in seen if number == 15 else not ref.is_table_name(name)
+        seen.add(ref.lower(name))
+        wrong = (lambda w: ref.table_named(w) is not None and not tables.has(ref.table_named(w))) if number == 15 else ref.bad_word
+        lines = sum(any(map(wrong, ref.table_words(line))) for line in text.split(b"\n"))
+        found += [(number, 5, place)] * (bad_name + lines)
+    return found
+
+
 def all_faults(texts):
-    return hosts_faults(1, texts[0]) + hosts_faults(2, texts[1]) + [(12, 4, i) for i, e in enumerate(ref.entries_of(texts[3]), 1) if e is None]
+    """in the order in which the gate would answer with them; the fifth text is soundly framed"""
+    pairs = ref.read_tables(texts[4])[0]
+    tables = ref.Tables(pairs)
+    found = hosts_faults(1, texts[0]) + hosts_faults(2, texts[1]) + [(12, 4, i) for i, e in enumerate(ref.entries_of(texts[3]), 1) if e is None]
+    found += naming_faults(15, texts, tables) + table_faults(15, pairs, tables, texts[4])
+    return found + naming_faults(16, texts, tables) + table_faults(17, pairs, tables, texts[4])
 
 
 def shown_faults(err):
     found = []
-    for file, line, entry, number in re.findall(rb"^[^\n]*\b(hosts\.allow|hosts\.deny|portacl)\)?(?::(\d+))?: (?:entry (\d+): )?[^\n]*\[(\d+)\]$", err, re.M):
-        found.append((int(number), NAMES.index(file.decode()) + 1, int(entry or line or 0)))
+    for line in err.split(b"\n"):
+        table = re.search(rb": table (\d+): [^\n]*\[(\d+)\]$", line)
+        limit = re.search(rb": \d+ (?:tables|bytes with their names and counts), and the most is \d+ \[17\]$", line)
+        own = re.search(rb"\b(hosts\.allow|hosts\.deny|portacl)\)?(?::(\d+))?: (?:entry (\d+): )?[^\n]*\[(\d+)\]$", line)
+        if table:
+            found.append((int(table[2]), 5, int(table[1])))
+        elif limit:
+            found.append((17, 5, 0))
+        elif own:
+            found.append((int(own[4]), NAMES.index(own[1].decode()) + 1, int(own[3] or own[2] or 0)))
     return found
+
+
+def generated_tables(rng):
+    """tables, and the names that rules take"""
+    tables = rng.choice([lambda: [], lambda: gen.sound_tables(rng), lambda: gen.faulty_tables(rng)])()
+    return tables, [name for name, _ in tables if ref.is_table_name(name)] + [b"vans"]
+
+
+def as_files(tables):
+    """them as a folder has them, in its order; None where a name can't be a file's that is read"""
+    names = [name for name, _ in tables]
+    if len(set(names)) < len(names) or any(not name or name.startswith(b".") or b"/" in name or b"\0" in name for name in names):
+        return None
+    return sorted(tables)
 
 
 def test_generated_checks(folder, rng):
     for _ in range(STATIONS // 2):
-        texts = [gen.hosts_text(rng, False), gen.hosts_text(rng, False), gen.byuid_text(rng)[:8192], gen.portacl_text(rng)[:1024]]
+        tables, names = generated_tables(rng)
+        hosts = [gen.naming_text(rng, False, names) if rng.random() < 0.5 else gen.hosts_text(rng, False) for _ in range(2)]
+        texts = hosts + [gen.byuid_text(rng)[:8192], gen.portacl_text(rng)[:1024], ref.section_five(tables)]
         faults = all_faults(texts)
-        if bool(faults) != ref.refused(ref.pack(texts, 42000)) or faults and faults[0] != ref.pack(texts, 42000):
-            fail("the reference agrees with itself", faults, texts)
-        for what, done in (("a folder", gate("check", "-W", write_station(folder + "/generated", texts))),
-                           ("a sheet", gate("check", "-", stdin=ref.sheet_of(texts)))):
+        if bool(faults) != ref.refused(ref.pack(texts, SHEET_LIMIT)) or faults and faults[0] != ref.pack(texts, SHEET_LIMIT):
+            fail("the reference agrees with itself", faults, ref.pack(texts, SHEET_LIMIT), texts)
+        done = gate("check", "-", stdin=ref.sheet_of(texts))
+        if done.returncode != bool(faults) or shown_faults(done.stderr) != faults:
+            fail("all faults of a sheet", texts, done.stderr, shown_faults(done.stderr), faults)
+        files = as_files(tables)
+        if files is not None:
+            faults = all_faults(texts[:4] + [ref.section_five(files)])
+            shared = rng.random() < 0.5
+            where = write_station(folder + "/generated", texts, None if shared else files)
+            option = ["--tables", write_tables(folder + "/shared", files)] if shared else []
+            done = gate("check", "-W", where, *option)
             if done.returncode != bool(faults) or shown_faults(done.stderr) != faults:
-                fail("all faults of " + what, texts, done.stderr, shown_faults(done.stderr), faults)
+                fail("all faults of a folder", texts, done.stderr, shown_faults(done.stderr), faults)
         sheet = gen.sheet_of(rng, texts)
         done, answer = gate("check", "-", stdin=sheet), ref.check(sheet)
         first = re.search(rb"\[(\d+)\]$", done.stderr, re.M)
@@ -642,7 +1008,7 @@ def match_line(r):
 
 
 def match_answer(texts, r):
-    word, file, line, _, command = ref.verdict(texts[0], texts[1], r)
+    word, file, line, _, command = ref.verdict(texts[0], texts[1], r, texts[4])
     if not file:
         return b"granted no rule"
     answer = b"%s %s:%d" % (word.encode(), NAMES[file - 1].encode(), line)
@@ -686,12 +1052,17 @@ def test_generated_answers(folder, rng):
     path, seen = pathlib.Path(folder) / "requests", set()
     for turn in range(STATIONS):
         texts = gen.texts_of(rng)
-        if ref.refused(ref.pack(texts, 42000)):
+        if ref.refused(ref.pack(texts, SHEET_LIMIT)):
             continue
         cases = [(match_line(r), match_answer(texts, r)) for r in (generated_request(rng) for _ in range(8))]
         cases += [case(rng, texts) for case in (byuid_case, portacl_case) for _ in range(4)]
         path.write_bytes(b"".join(b" ".join(words) + b" => x\n" for words, _ in cases))
-        where = write_station(folder + "/generated", texts)
+        files = as_files(ref.read_tables(texts[4])[0])
+        where = folder + "/generated.sheet"
+        if files is not None and rng.random() < 0.7:
+            where = write_station(folder + "/generated", texts, files)
+        else:
+            pathlib.Path(where).write_bytes(ref.sheet_of(texts))
         done = gate("test", "--print", where, str(path))
         expected = b"".join(b" ".join(words) + b" => " + answer + b"\n" for words, answer in cases)
         if done.returncode or done.stdout != expected:
@@ -711,7 +1082,8 @@ def run_all():
     os.chmod(SCRATCH, 0o755)
     test_misread()
     test_read()
-    for test in (test_answers, test_checks, test_marked, test_explain, test_requests, test_reading, test_pack, test_unpack, test_faults, test_full_disk):
+    for test in (test_answers, test_checks, test_marked, test_explain, test_requests, test_reading, test_pack, test_unpack, test_tables, test_fleet,
+                 test_upgrade, test_faults, test_full_disk):
         with tempfile.TemporaryDirectory(dir=SCRATCH) as folder:
             test(folder)
     for test in (test_generated_checks, test_generated_answers):

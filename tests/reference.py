@@ -4,13 +4,15 @@ functions are compared with.
 It shares nothing with the definitions in crates/*/specs and favours the plainest way to say a thing.
 Hosts are pairs (name, address): name is None (unknown), False (paranoid) or bytes; address is None, ("4", n) or ("6", n).
 Users are "not fetched", None (unknown) or bytes. BAD in the place of a state, an address, a port or a protocol stands for what is
-outside its kinds. Refusals are tuples (number, section, line).
+outside its kinds. Refusals are tuples (number, section, line). The tables of request 1 are a list of pairs (name, text).
 """
 import functools
 import ipaddress
 import re
 
 LIMITS = {1: 16384, 2: 16384, 3: 8192, 4: 1024}
+TABLES, TABLES_LIMIT, TABLES_COUNT, TABLES_DEEP = 5, 12288, 64, 4
+NO_TABLES = b"\0\0"
 BLANKS = b" \t"
 NAME = re.compile(rb"[A-Za-z0-9_.-]+\Z")
 OUTSIDE = re.compile(rb"[^\t -~]")
@@ -239,13 +241,33 @@ def halves(e):
     return (e, None) if at < 0 else (e[:at], e[at + 1:])
 
 
-def nine(e):
+def nine(e, in_daemons):
+    """netgroups, and in daemons a / at the start (document 02, request 1)"""
     first, second = halves(e)
-    return e[:1] in (b"@", b"/") or (second is not None and second[:1] in (b"@", b"/"))
+    return e[:1] == b"@" or in_daemons and e[:1] == b"/" or second is not None and second[:1] == b"@"
 
 
 def plain(t):
     return bool(NAME.match(t)) and len(t) <= 64 and not any(same(t, w) for w in WILD)
+
+
+def is_table_name(name):
+    return bool(NAME.match(name)) and len(name) <= 64
+
+
+def table_named(e):
+    """the name in /name, None where e is of another form"""
+    return e[1:] if e.startswith(b"/") and is_table_name(e[1:]) else None
+
+
+@again
+def host_pattern(e):
+    """what it matches, /name first of the kinds: a function of the request's tables and of a host, or None"""
+    if e.startswith(b"/"):
+        name = table_named(e)
+        return None if name is None else (lambda tables, h: tables.matches(name, h))
+    match = pattern(e)
+    return None if match is None else (lambda tables, h: match(h))
 
 
 @again
@@ -253,24 +275,24 @@ def daemon_element(e):
     name, host = halves(e)
     if not (same(name, b"ALL") or plain(name)):
         return None
-    of_host = (lambda h: True) if host is None else pattern(host)
+    of_host = (lambda tables, h: True) if host is None else host_pattern(host)
     if of_host is None:
         return None
-    return lambda r: (same(name, b"ALL") or same(name, r["daemon"])) and of_host(r["server"])
+    return lambda tables, r: (same(name, b"ALL") or same(name, r["daemon"])) and of_host(tables, r["server"])
 
 
 @again
 def client_element(e):
     user, host = halves(e)
     if host is None:
-        match = pattern(e)
-        return None if match is None else (lambda r: match(r["client"]))
-    match = pattern(host)
+        match = host_pattern(e)
+        return None if match is None else (lambda tables, r: match(tables, r["client"]))
+    match = host_pattern(host)
     if match is None or not (any(same(user, w) for w in (b"ALL", b"KNOWN", b"UNKNOWN")) or plain(user)):
         return None
 
-    def look(r):
-        if not match(r["client"]):
+    def look(tables, r):
+        if not match(tables, r["client"]):
             return False
         u = r["user"]
         if u == "not fetched":
@@ -283,6 +305,140 @@ def client_element(e):
             return u is None
         return u is not None and same(u, user)
     return look
+
+
+# Tables (document 02, request 1)
+
+def read_tables(text):
+    """None where section five is cut short; else the tables, and the bytes after the last"""
+    if len(text) < 2:
+        return None
+    tables, at = [], 2
+    for _ in range(int.from_bytes(text[:2], "big")):
+        pair = []
+        for width in (1, 4):
+            begin = at + width
+            end = begin + int.from_bytes(text[at:begin], "big")
+            if len(text) < begin or len(text) < end:
+                return None
+            pair.append(text[begin:end])
+            at = end
+        tables.append(tuple(pair))
+    return tables, text[at:]
+
+
+def section_five(tables):
+    """its bytes"""
+    return len(tables).to_bytes(2, "big") + b"".join(bytes([len(n)]) + n + len(t).to_bytes(4, "big") + t for n, t in tables)
+
+
+def table_words(text):
+    return [w for w in re.split(rb"[ \t\n]", text) if w]
+
+
+def bad_word(w):
+    """in a table: no EXCEPT, no users"""
+    return same(w, b"EXCEPT") or host_pattern(w) is None
+
+
+class Tables:
+    """What the tables of a section five answer: each question about a table, a depth and a host once."""
+
+    def __init__(self, tables):
+        self.named = {}
+        for name, text in tables:
+            self.named.setdefault(lower(name), table_words(text))
+        self.known, self.deep, self.names = {}, {}, {}
+
+    def has(self, name):
+        return lower(name) in self.named
+
+    def names_in(self, name):
+        """the names of the tables that a table names"""
+        if name not in self.names:
+            self.names[name] = {lower(table_named(w)) for w in self.named.get(name, []) if table_named(w) is not None}
+        return self.names[name]
+
+    def leads_past(self, name, depth=TABLES_DEEP):
+        """whether a table leads more than so deep, itself being the first; one that is missing leads nowhere"""
+        if depth == 0:
+            return True
+        key = lower(name), depth
+        if key not in self.deep:
+            self.deep[key] = any(self.leads_past(other, depth - 1) for other in self.names_in(key[0]))
+        return self.deep[key]
+
+    def matches(self, name, host, depth=TABLES_DEEP):
+        """any pattern of that table, and of those that it names, with the remaining depth falling"""
+        key = lower(name), host, depth
+        if key not in self.known:
+            self.known[key] = depth > 0 and any(self.word_matches(w, host, depth - 1) for w in self.named.get(key[0], []))
+        return self.known[key]
+
+    def word_matches(self, w, host, depth):
+        if table_named(w) is not None:
+            return self.matches(table_named(w), host, depth)
+        match = host_pattern(w)
+        return match is not None and match(self, host)
+
+
+def named_in_rule(line):
+    """the names of tables in the elements of both lists"""
+    if line.text.startswith(b"#") or all(b in BLANKS for b in line.text):
+        return []
+    daemons, clients, _ = rule(line)
+    found = []
+    for ws, in_daemons in ((daemons, True), (clients, False)):
+        for w in ws:
+            first, second = halves(w)
+            name = table_named(second) if second is not None else None if in_daemons else table_named(first)
+            if name is not None:
+                found.append(name)
+    return found
+
+
+def rule_fault(number, files, wrong):
+    """of two files without a fault of their own: the first rule that names a table that is wrong"""
+    for section, text in files:
+        for line in lines(text):
+            if any(wrong(name) for name in named_in_rule(line)):
+                return (number, section, line.number)
+    return None
+
+
+def misnamed_table(pairs, tables):
+    """15 in section five: a name given twice, at the later's place, or a name in a table that is missing"""
+    seen = set()
+    for number, (name, text) in enumerate(pairs, 1):
+        missing = any(table_named(w) is not None and not tables.has(table_named(w)) for w in table_words(text))
+        if lower(name) in seen or missing:
+            return (15, TABLES, number)
+        seen.add(lower(name))
+    return None
+
+
+def bad_table(five, pairs):
+    """17"""
+    if len(pairs) > TABLES_COUNT or len(five) > TABLES_LIMIT:
+        return (17, TABLES, 0)
+    for number, (name, text) in enumerate(pairs, 1):
+        if not is_table_name(name) or any(bad_word(w) for w in table_words(text)):
+            return (17, TABLES, number)
+    return None
+
+
+def frame_five(five):
+    """1, then 3"""
+    read = read_tables(five)
+    return (1, TABLES, 0) if read is None else (3, 0, 0) if read[1] else None
+
+
+def naming_fault(allow, deny, five):
+    """15, 16 and 17, in that order; five is None in a call without tables, and else soundly framed"""
+    pairs = [] if five is None else read_tables(five)[0]
+    tables, files = Tables(pairs), ((1, allow), (2, deny))
+    return (rule_fault(15, files, lambda name: not tables.has(name)) or misnamed_table(pairs, tables)
+            or rule_fault(16, files, tables.leads_past) or (None if five is None else bad_table(five, pairs)))
 
 
 # Checks
@@ -310,7 +466,7 @@ def line_faults(line):
     if parts is None:
         return found | {7}
     daemons, clients, command = parts
-    for ws, kind in ((daemons, daemon_element), (clients, client_element)):
+    for ws, kind, in_daemons in ((daemons, daemon_element, True), (clients, client_element, False)):
         if all(same(w, b"EXCEPT") for w in ws):
             found.add(7)
         if misplaced(ws):
@@ -318,7 +474,7 @@ def line_faults(line):
         for w in ws:
             if same(w, b"EXCEPT"):
                 continue
-            if nine(w):
+            if nine(w, in_daemons):
                 found.add(9)
             elif kind(w) is None:
                 found.add(10)
@@ -379,21 +535,26 @@ def list_matches(ws, look):
     return False
 
 
-def verdict(allow, deny, r):
-    """a refusal, or (word, file, line, place of the raw command in that file, its bytes); no place where there are none"""
+def verdict(allow, deny, r, five=None):
+    """a refusal, or (word, file, line, place of the raw command in that file, its bytes); no place where there are none. five: the bytes
+    of section five, None in a call without tables"""
     r = held(r)
-    fault = over(1, allow) or over(2, deny) or hosts_fault(1, allow) or hosts_fault(2, deny) or request_fault(r)
-    if fault:
-        return fault
+    fault = (over(1, allow) or over(2, deny) or (None if five is None else frame_five(five)) or hosts_fault(1, allow)
+             or hosts_fault(2, deny) or naming_fault(allow, deny, five) or request_fault(r))
+    return fault or search(allow, deny, r, Tables([] if five is None else read_tables(five)[0]))
+
+
+def search(allow, deny, r, tables):
+    """the same of texts without a fault and a sound request as it is held"""
     for number, text, word in ((1, allow, "granted"), (2, deny, "denied")):
         for line in lines(text):
             if line.text.startswith(b"#") or all(b in BLANKS for b in line.text):
                 continue
             daemons, clients, command = rule(line)
             try:
-                if not list_matches(daemons, lambda w: daemon_element(w)(r)):
+                if not list_matches(daemons, lambda w: daemon_element(w)(tables, r)):
                     continue
-                if not list_matches(clients, lambda w: client_element(w)(r)):
+                if not list_matches(clients, lambda w: client_element(w)(tables, r)):
                     continue
             except Asks:
                 return ("ask", number, line.number, None, b"")
@@ -560,15 +721,16 @@ def with_command(answer, r, process, room):
 # The station sheet
 
 def texts_fault(texts):
+    """of five texts, the fifth without a count of its own; its frame comes behind the limits of the others"""
     fault = None
-    for section, text in enumerate(texts, 1):
+    for section, text in enumerate(texts[:4], 1):
         fault = fault or over(section, text)
-    return fault or hosts_fault(1, texts[0]) or hosts_fault(2, texts[1]) or portacl_fault(texts[3])
+    return (fault or frame_five(texts[4]) or hosts_fault(1, texts[0]) or hosts_fault(2, texts[1]) or portacl_fault(texts[3])
+            or naming_fault(texts[0], texts[1], texts[4]))
 
 
-@again
-def unpack(sheet):
-    """a refusal, or the (place, length) of each of the four texts"""
+def counted_sections(sheet):
+    """a refusal, or the (place, length) of each of the four texts behind their counts, and where they end"""
     at, parts = 0, []
     for section in LIMITS:
         if len(sheet) < at + 4:
@@ -580,13 +742,22 @@ def unpack(sheet):
             return (1, section, 0)
         parts.append((at + 4, count))
         at += 4 + count
-    if at < len(sheet):
-        return (3, 0, 0)
+    return parts, at
+
+
+@again
+def unpack(sheet):
+    """a refusal, or the (place, length) of each of the five texts"""
+    framed = counted_sections(sheet)
+    if refused(framed):
+        return framed
+    parts, at = framed
+    parts = parts + [(at, len(sheet) - at)]
     return texts_fault([sheet[place:place + n] for place, n in parts]) or parts
 
 
 def sheet_of(texts):
-    return b"".join(len(t).to_bytes(4, "big") + t for t in texts)
+    return b"".join(len(t).to_bytes(4, "big") + t for t in texts[:4]) + texts[4]
 
 
 def pack(texts, room):
@@ -594,12 +765,20 @@ def pack(texts, room):
     return texts_fault(texts) or within(room, sheet_of(texts))
 
 
+def upgrade(sheet, room):
+    """of document 01's sheets of four sections, soundly framed: a refusal, or the bytes written"""
+    framed = counted_sections(sheet)
+    if refused(framed):
+        return framed
+    return (3, 0, 0) if framed[1] < len(sheet) else within(room, sheet + NO_TABLES)
+
+
 def check(sheet):
     return unpack(sheet) if refused(unpack(sheet)) else "sheet ok"
 
 
 def of_sheet(decision, sheet):
-    """decision, a function of the parts and the four texts, by a sheet"""
+    """decision, a function of the parts and the five texts, by a sheet"""
     parts = unpack(sheet)
     return parts if refused(parts) else decision(parts, [sheet[place:place + n] for place, n in parts])
 
@@ -607,7 +786,7 @@ def of_sheet(decision, sheet):
 def sheet_verdict(sheet, r):
     """as verdict, the place being one in the sheet"""
     def decision(parts, texts):
-        answer = verdict(texts[0], texts[1], r)
+        answer = verdict(texts[0], texts[1], r, texts[4])
         if refused(answer) or answer[3] is None:
             return answer
         word, file, line, place, command = answer

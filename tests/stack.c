@@ -17,8 +17,11 @@
 enum { PAGE = 4096, PAINT = 0xa5, BEYOND = 3 };
 
 /* In the order of `exports`; NOTHING is no call at all, and its bytes are not counted. */
-enum export { VERDICT, SHEET_VERDICT, COMMAND, SHEET_COMMAND, BYUID, SHEET_BYUID, PORTACL, SHEET_PORTACL, CHECK, UNPACK, PACK, EXPAND, READ_ADDRESS,
-              WRITE_ADDRESS, NOTHING };
+enum export { VERDICT, TABLES_VERDICT, SHEET_VERDICT, COMMAND, SHEET_COMMAND, BYUID, SHEET_BYUID, PORTACL, SHEET_PORTACL, CHECK, UNPACK, PACK, UPGRADE,
+              EXPAND, READ_ADDRESS, WRITE_ADDRESS, NOTHING };
+
+/* For tables over all limits too. */
+enum { TABLES_ROOM = 1 << 20 };
 
 struct text {
     uint8_t bytes[GATE_ALLOW_LIMIT];
@@ -27,7 +30,11 @@ struct text {
 
 /* What the calls are given. */
 static struct text allow, deny, byuid, portacl, command, address;
-static uint8_t sheet[GATE_SHEET_LIMIT], out[GATE_EXPANSION_ROOM];
+static struct {
+    uint8_t bytes[TABLES_ROOM];
+    size_t len;
+} tables = {{0}, 2};
+static uint8_t sheet[GATE_SHEET_LIMIT + TABLES_ROOM], out[GATE_EXPANSION_ROOM];
 static size_t sheet_len;
 static struct gate_request request;
 static struct gate_settings settings;
@@ -68,7 +75,7 @@ static void line(struct text *t, const char *begin, const char *s, const char *l
     add(t, "\n");
 }
 
-/* The four texts, and the sheet of them. A text that can't be packed is put into a sheet by hand. */
+/* The five texts, and the sheet of them. A text that can't be packed is put into a sheet by hand. */
 static void pack_by_hand(void) {
     const struct text *texts[] = {&allow, &deny, &byuid, &portacl};
     sheet_len = 0;
@@ -79,6 +86,8 @@ static void pack_by_hand(void) {
         memcpy(sheet + sheet_len + 4, texts[i]->bytes, n);
         sheet_len += 4 + n;
     }
+    memcpy(sheet + sheet_len, tables.bytes, tables.len);
+    sheet_len += tables.len;
 }
 
 static void named(struct gate_host *host, const char *name, const char *address_text) {
@@ -89,6 +98,9 @@ static void named(struct gate_host *host, const char *name, const char *address_
 
 /* The calls. Their numbers are kept, so that none is left out. */
 static uint32_t verdict(void) { return gate_verdict_for(allow.bytes, allow.len, deny.bytes, deny.len, &request).number; }
+static uint32_t tables_verdict(void) {
+    return gate_tables_verdict_for(allow.bytes, allow.len, deny.bytes, deny.len, tables.bytes, tables.len, &request).number;
+}
 static uint32_t sheet_verdict(void) { return gate_sheet_verdict_for(sheet, sheet_len, &request).number; }
 static uint32_t with_command(void) {
     return gate_command_for(out, sizeof out, allow.bytes, allow.len, deny.bytes, deny.len, &request, 4294967295u).number;
@@ -101,8 +113,11 @@ static uint32_t sheet_portacl(void) { return gate_sheet_portacl_for(sheet, sheet
 static uint32_t check(void) { return gate_check(sheet, sheet_len).number; }
 static uint32_t unpack(void) { return gate_unpack(sheet, sheet_len).number; }
 static uint32_t pack(void) {
-    return gate_pack(out, sizeof out, allow.bytes, allow.len, deny.bytes, deny.len, byuid.bytes, byuid.len, portacl.bytes, portacl.len).number;
+    return gate_pack(out, sizeof out, allow.bytes, allow.len, deny.bytes, deny.len, byuid.bytes, byuid.len, portacl.bytes, portacl.len, tables.bytes,
+                     tables.len)
+        .number;
 }
+static uint32_t upgrade(void) { return gate_upgrade(out, sizeof out, sheet, sheet_len - tables.len).number; }
 static uint32_t expand(void) { return gate_expand_for(out, sizeof out, command.bytes, command.len, &request, 4294967295u).number; }
 static uint32_t read_address(void) { return gate_read_address(address.bytes, address.len).number; }
 static uint32_t write_address(void) { return gate_host_write(out, sizeof out, &at).number; }
@@ -111,9 +126,9 @@ static uint32_t nothing(void) { return 0; }
 static const struct {
     const char *name;
     uint32_t (*call)(void);
-} exports[] = {{"gate_verdict", verdict}, {"gate_sheet_verdict", sheet_verdict}, {"gate_command", with_command}, {"gate_sheet_command", sheet_command},
+} exports[] = {{"gate_verdict", verdict}, {"gate_tables_verdict", tables_verdict}, {"gate_sheet_verdict", sheet_verdict}, {"gate_command", with_command}, {"gate_sheet_command", sheet_command},
                {"gate_byuid", by_uid}, {"gate_sheet_byuid", sheet_byuid}, {"gate_portacl", port_acl}, {"gate_sheet_portacl", sheet_portacl},
-               {"gate_check", check}, {"gate_unpack", unpack}, {"gate_pack", pack}, {"gate_expand", expand}, {"gate_read_address", read_address},
+               {"gate_check", check}, {"gate_unpack", unpack}, {"gate_pack", pack}, {"gate_upgrade", upgrade}, {"gate_expand", expand}, {"gate_read_address", read_address},
                {"gate_write_address", write_address}, {"nothing", nothing}};
 
 /* In the thread. */
@@ -306,6 +321,76 @@ static void addresses(void) {
     in_thread(READ_ADDRESS);
 }
 
+/* Tables: the deepest that a rule may lead, rings, names without end, and the most of all; each after the deepest lists. */
+
+static void add_table(const char *name, const char *words, size_t times) {
+    size_t name_len = strlen(name), len = strlen(words) * times;
+    uint8_t *at = tables.bytes + tables.len;
+    *at++ = (uint8_t)name_len;
+    memcpy(at, name, name_len);
+    at += name_len;
+    for (int i = 0; i < 4; i++)
+        *at++ = (uint8_t)(len >> 8 * (3 - i));
+    for (size_t i = 0; i < times; i++, at += strlen(words))
+        memcpy(at, words, strlen(words));
+    tables.len = (size_t)(at - tables.bytes);
+    if (++tables.bytes[1] == 0)
+        tables.bytes[0]++;
+}
+
+static void no_tables(void) {
+    tables.len = 2;
+    tables.bytes[0] = tables.bytes[1] = 0;
+}
+
+/* Rules of the deepest lists with a table at their ends. */
+static void ask_tables(const char *what, uint32_t number) {
+    line(&allow, "a:", "a EXCEPT ", "a@/a");
+    line(&deny, "", "a EXCEPT ", "a@/a:a");
+    pack_by_hand();
+    every_call(what);
+    in_thread(TABLES_VERDICT);
+    if (answered != number) {
+        printf("stack: %s: answered %u\n", what, answered);
+        exit(1);
+    }
+    no_tables();
+}
+
+static void many_tables(const char *what, size_t count, const char *words, uint32_t number) {
+    char name[16];
+    add_table("a", words, 1);
+    for (size_t i = 1; i < count; i++) {
+        sprintf(name, "t%zx", i);
+        add_table(name, words, 1);
+    }
+    ask_tables(what, number);
+}
+
+static void table_inputs(void) {
+    add_table("a", "/b ", 1021);
+    add_table("b", "/c ", 1021);
+    add_table("c", "/d ", 1021);
+    add_table("d", "x ", 1533);
+    ask_tables("a full nest", 0);
+    add_table("a", "/a ", 4000);
+    ask_tables("a ring", GATE_TOO_DEEP);
+    add_table("a", "/b", 1);
+    add_table("b", "/c", 1);
+    add_table("c", "/d", 1);
+    add_table("d", "[1:2:3:4:5:6:1.2.3.4]/127", 1);
+    ask_tables("four deep, then an IPv6 net", 0);
+    many_tables("64 tables", 64, "255.255.255.255/255.255.255.255 .example a", 0);
+    many_tables("65 tables", 65, "a", GATE_BAD_TABLE);
+    many_tables("a thousand tables", 1000, "a", GATE_BAD_TABLE);
+    many_tables("60,000 tables", 60000, "/a", GATE_TOO_DEEP);
+    add_table("a", "/missing ", 1000);
+    ask_tables("names that are missing", GATE_TABLE_NAME);
+    add_table("a", "x", 1);
+    tables.len--;
+    ask_tables("a cut table", GATE_CUT_SHORT);
+}
+
 static void every_input(void) {
     request = gate_request_to("a", 1);
     named(&request.client, "a", "1:2:3:4:5:6:102:304");
@@ -321,6 +406,7 @@ static void every_input(void) {
     files();
     ports();
     addresses();
+    table_inputs();
     expansions();
 }
 

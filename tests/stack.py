@@ -24,7 +24,9 @@ def macro(name):
 
 # one frame for a list, and one for each EXCEPT of a line: nine bytes at least, as in `a EXCEPT a`
 LEVELS = 1 + macro("GATE_LINE_LIMIT") // len("a EXCEPT ")
-RECURSIVE = {"lists::walk::clients_included": LEVELS, "lists::walk::daemons_included": LEVELS}
+# one for each depth that a rule may lead to, and one for none
+DEPTHS = 5
+RECURSIVE = {"lists::walk::clients_included": LEVELS, "lists::walk::daemons_included": LEVELS, "views::reach": DEPTHS, "views::deep_notes": DEPTHS}
 
 
 def fail(what):

@@ -123,15 +123,22 @@ def unpack(sheet):
     parts = ref.unpack(sheet)
     if ref.refused(parts):
         return refusal(parts)
-    return b"\n".join(b"%s at %d, %d bytes" % (name, *part) for name, part in zip((b"allow", b"deny", b"byuid", b"portacl"), parts))
+    return b"\n".join(b"%s at %d, %d bytes" % (name, *part) for name, part in zip((b"allow", b"deny", b"byuid", b"portacl", b"tables"), parts))
+
+
+def packed(answer, sheet):
+    if ref.refused(answer):
+        return refusal(answer)
+    return b"%d bytes, %s" % (len(answer), b"the same" if answer.startswith(sheet) else b"others")
 
 
 def pack(room, *texts):
     *texts, sheet = texts
-    answer = ref.pack(texts, min(room, BLOCK))
-    if ref.refused(answer):
-        return refusal(answer)
-    return b"%d bytes, %s" % (len(answer), b"the same" if answer.startswith(sheet) else b"others")
+    return packed(ref.pack(texts, min(room, BLOCK)), sheet)
+
+
+def upgrade(room, old, sheet):
+    return packed(ref.upgrade(old, min(room, BLOCK)), sheet)
 
 
 def expand(*fields):
@@ -142,6 +149,7 @@ def expand(*fields):
 # Each call with the kinds of its fields: t a text, n a number, N any number of numbers.
 CALLS = {
     b"verdict": ("tttttttt", lambda *f: ruling(ref.verdict(*f[6:], request(*f[:6])))),
+    b"tables_verdict": ("ttttttttt", lambda *f: ruling(ref.verdict(*f[6:8], request(*f[:6]), f[8]))),
     b"byuid": ("ntnnt", byuid),
     b"portacl": ("nnnnnnntN", lambda *f: portacl(ref.portacl, *f)),
     b"sheet_verdict": ("ttttttt", lambda *f: ruling(ref.sheet_verdict(f[6], request(*f[:6])))),
@@ -149,7 +157,8 @@ CALLS = {
     b"sheet_portacl": ("nnnnnnntN", lambda *f: portacl(ref.sheet_portacl, *f)),
     b"check": ("t", lambda sheet: shown(ref.check(sheet))),
     b"unpack": ("t", unpack),
-    b"pack": ("nttttt", pack),
+    b"pack": ("ntttttt", pack),
+    b"upgrade": ("ntt", upgrade),
     b"expand": ("ttttttnnt", expand),
     b"read_address": ("t", read_address),
     b"write_address": ("nt", lambda room, text: shown(ref.write_address(address(text), min(room, BLOCK)))),

@@ -1,5 +1,5 @@
-// checker FILE: checks a station sheet. Writes one line: `sheet ok`, or the refusal, as `refused 1 section 4 line 0`. A file that
-// can't be read gets a message on standard error instead.
+// checker FILE: checks a station sheet. Writes one line: `sheet ok`, or the refusal, as `refused 1 section 4 line 0`, or that the file is
+// too long. A file that can't be read gets a message on standard error instead.
 use libc::STDERR_FILENO;
 
 fn check(sheet: &[u8]) {
@@ -17,17 +17,23 @@ fn at_end(fd: i32) -> bool {
     libc::read(fd, &mut next) == 0
 }
 
-// A sheet has at most 42,000 bytes: a longer file is refused by its first 42,001, as it would be whole (law unpack-take of sheet).
-fn check_file(fd: i32, name: &[u8]) {
-    let mut sheet = [0u8; 42001];
-    let n = io::read_full(fd, &mut sheet);
-    if n < 42001 {
-        if !at_end(fd) {
-            os::fail(name);
-            return;
-        }
+// A sheet has at most 54,288 bytes. A longer file is read on, to 1 MiB, as the number that its tables are refused by depends on them all.
+fn check_in(room: &mut [u8], fd: i32, name: &[u8]) {
+    let n = io::read_full(fd, room);
+    if n == room.len() {
+        report::text(b"too long: over 1048576 bytes, and the longest sheet has 54288\n");
+        return;
     }
-    check(&sheet[..n]);
+    if !at_end(fd) {
+        os::fail(name);
+        return;
+    }
+    check(&room[..n]);
+}
+
+fn check_file(fd: i32, name: &[u8]) {
+    let mut room = [0u8; 1048577];
+    check_in(&mut room, fd, name);
 }
 
 fn main() {

@@ -17,7 +17,7 @@ use Rattle.address.specs.Address.{readAddress}
 use Rattle.rules.specs.declared.Answer.{Answer}
 use Rattle.rules.specs.declared.Verdict.{Verdict}
 use Rattle.rules.specs.declared.Verdict.the-variants as Ver
-use Rattle.rules.specs.Search.{decide, commandBytes}
+use Rattle.rules.specs.Search.{decide, decideTables, commandBytes}
 use Rattle.expansion.specs.Expand.{expand}
 use Rattle.byuid.specs.declared.Decision.{Decision as ByuidDecision}
 use Rattle.byuid.specs.declared.Decision.the-variants as B
@@ -26,7 +26,7 @@ use Rattle.portacl.specs.declared.Decision.{Decision as PortaclDecision}
 use Rattle.portacl.specs.declared.Decision.the-variants as P
 use Rattle.portacl.specs.Portacl.{decidePortacl}
 use Rattle.sheet.specs.declared.Parts.{Parts}
-use Rattle.sheet.specs.Sheet.{unpack, pack}
+use Rattle.sheet.specs.Sheet.{unpack, pack, upgrade}
 use Rattle.station.specs.Station.{decideSheet, decideByuidSheet, decidePortaclSheet}
 use Rattle.codes.specs.declared.GateCheck.{GateCheck}
 use Rattle.codes.specs.Requests.{request, byuidBind, byuidFileBind, portaclBind, writeBy}
@@ -50,6 +50,9 @@ fault-nonzero F.BadPercent e = omega arith
 fault-nonzero F.BadEntry e = omega arith
 fault-nonzero F.BadRequest e = omega arith
 fault-nonzero F.NoRoom e = omega arith
+fault-nonzero F.TableName e = omega arith
+fault-nonzero F.TooDeep e = omega arith
+fault-nonzero F.BadTable e = omega arith
 
 check-answered : (o : Outcome Parts) → checkAnswer o ≡ accepted → (p : Parts) × (o ≡ answered p)
 unfolding checkAnswer
@@ -74,7 +77,7 @@ front-answered out o t e = rw e (take-at t (drop (length t) out) (length t) refl
 
 -- ## Every decision
 
-fault-range : (f : Fault) → (1 ≤ faultNumber f) × (faultNumber f ≤ 14)
+fault-range : (f : Fault) → (1 ≤ faultNumber f) × (faultNumber f ≤ 17)
 fault-range F.CutShort = (omega arith, omega arith)
 fault-range F.OverLimit = (omega arith, omega arith)
 fault-range F.TrailingBytes = (omega arith, omega arith)
@@ -89,6 +92,9 @@ fault-range F.BadPercent = (omega arith, omega arith)
 fault-range F.BadEntry = (omega arith, omega arith)
 fault-range F.BadRequest = (omega arith, omega arith)
 fault-range F.NoRoom = (omega arith, omega arith)
+fault-range F.TableName = (omega arith, omega arith)
+fault-range F.TooDeep = (omega arith, omega arith)
+fault-range F.BadTable = (omega arith, omega arith)
 
 refusal-decision : (r : Refusal) → Decision (refusalAnswer r)
 refusal-decision r = by-refusal r (fault-range (r .fault) .0) (fault-range (r .fault) .1)
@@ -124,6 +130,7 @@ portacl-decision (answered P.Exempt) = word-decision 6 (omega arith) (omega arit
 pub every-decision : EveryDecision
 every-decision = record {
   verdict-decided = λ allow deny n. verdict-decision (decide allow deny (request n));
+  tables-verdict-decided = λ allow deny tables n. verdict-decision (decideTables allow deny tables (request n));
   sheet-verdict-decided = λ sheet n. verdict-decision (decideSheet sheet (request n));
   byuid-decided = λ text mark port kind high low uid. byuid-decision (decideByuid text (byuidFileBind mark port kind high low uid));
   sheet-byuid-decided = λ sheet port kind high low uid. byuid-decision (decideByuidSheet sheet (byuidBind port kind high low uid));
@@ -133,25 +140,25 @@ every-decision = record {
 
 -- ## Every number
 
-fault-most : (f : Fault) → faultNumber f ≤ 14
+fault-most : (f : Fault) → faultNumber f ≤ 17
 fault-most f = fault-range f .1
 
-written-most : (o : Outcome (List ℕ)) → writtenAnswer o .number ≤ 14
+written-most : (o : Outcome (List ℕ)) → writtenAnswer o .number ≤ 17
 unfolding writtenAnswer
 written-most (refused r) = fault-most (r .fault)
 written-most (answered t) = omega arith
 
-check-most : (o : Outcome Parts) → checkAnswer o .number ≤ 14
+check-most : (o : Outcome Parts) → checkAnswer o .number ≤ 17
 unfolding checkAnswer
 check-most (refused r) = fault-most (r .fault)
 check-most (answered p) = omega arith
 
-parts-most : (o : Outcome Parts) → partsAnswer o .number ≤ 14
+parts-most : (o : Outcome Parts) → partsAnswer o .number ≤ 17
 unfolding partsAnswer
 parts-most (refused r) = fault-most (r .fault)
 parts-most (answered p) = omega arith
 
-address-most : (o : Outcome Addr) → addressAnswer o .number ≤ 14
+address-most : (o : Outcome Addr) → addressAnswer o .number ≤ 17
 unfolding addressAnswer
 address-most (refused r) = fault-most (r .fault)
 address-most (answered A.Unknown) = omega arith
@@ -164,6 +171,7 @@ every-number = record {
   unpack-number = λ sheet. parts-most (unpack sheet);
   read-number = λ text. address-most (readAddress text);
   pack-number = λ ts out. written-most (pack ts (length out));
+  upgrade-number = λ sheet out. written-most (upgrade sheet (length out));
   expand-number = λ command n process out. written-most (expand command (request n) process (length out));
   write-number = λ kind high low out. written-most (writeBy kind high low (length out));
 }
@@ -185,6 +193,7 @@ refusal-writes-nothing = record {
   packing = λ ts out. kept out (pack ts (length out));
   expanding = λ command n process out. kept out (expand command (request n) process (length out));
   writing = λ kind high low out. kept out (writeBy kind high low (length out));
+  upgrading = λ sheet out. kept out (upgrade sheet (length out));
   commanding = λ allow deny n process out.
       command-kept out (together (decide allow deny (request n)) (λ a. expand (commandBytes allow deny a) (request n) process (length out)));
   sheet-commanding = λ sheet n process out.

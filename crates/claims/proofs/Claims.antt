@@ -1,9 +1,9 @@
 -- All claims hold.
 -- Assumes nothing.
 use Rattle.claims.specs.Claims.{Claims}
-use Rattle.claims.proofs.ExampleClaims.{examples, mask-lengths, mapped-addresses}
+use Rattle.claims.proofs.ExampleClaims.{examples, mask-lengths, mapped-addresses, table-examples}
 use Rattle.claims.proofs.AnswerLaws.{refusal-writes-nothing, every-decision, every-number}
-use Rattle.claims.proofs.SheetClaims.{cut-short, longest, unpack-pack, pack-unpack, sheet-as-texts}
+use Rattle.claims.proofs.SheetClaims.{cut-short, longest, unpack-pack, pack-unpack, sheet-as-texts, upgraded}
 use Rattle.claims.proofs.AddressClaims.{read-written, bit-by-bit}
 use Rattle.claims.proofs.CommandClaims.{command-in-turn}
 use Rattle.claims.proofs.UserClaims.{ask-only-unfetched, name-cannot-matter}
@@ -33,4 +33,6 @@ claims = record {
   mapped-addresses = mapped-addresses;
   no-mapped = no-mapped;
   held-as-v4 = held-as-v4;
+  table-examples = table-examples;
+  upgraded = upgraded;
 }

@@ -2,7 +2,7 @@
 -- Assumes nothing.
 use Prim.Native.Nat.{ℕ, _+_, _≤_}
 use native.Mathlib.Omega.{arith}
-use mathlib.Core.List.{List}
+use mathlib.Core.List.{List, []}
 use mathlib.Core.Option.{Option, none, some}
 use mathlib.Core.Path.{_≡_, refl, ap, subst, _∙_}
 use borrow.Author.Tests.{ne-eqb}
@@ -17,12 +17,13 @@ use Rattle.elements.specs.Request.{Request, held}
 use Rattle.rules.specs.declared.Answer.{Answer}
 use Rattle.rules.specs.declared.File.{File}
 use Rattle.rules.specs.declared.File.the-variants.{Neither, Allow, Deny}
-use Rattle.rules.specs.Check.{hostsFault}
-use Rattle.rules.specs.Search.{answer, search, decide, commandBytes}
+use Rattle.tables.specs.Table.{matchOf}
+use Rattle.rules.specs.Check.{hostsFault, tablesFault}
+use Rattle.rules.specs.Search.{answer, search, decideOver, decide, commandBytes}
 use Rattle.rules.proofs.PlaceLaws.{fileLength, search-within}
 use Rattle.expansion.specs.Expand.{expand}
 use Rattle.station.specs.Station.{decideSheet}
-use Rattle.station.proofs.DecideLaws.{answered-search}
+use Rattle.station.proofs.DecideLaws.{over-search}
 use Rattle.codes.specs.declared.GateAnswer.{GateAnswer}
 use Rattle.codes.specs.Requests.{request}
 use Rattle.codes.specs.Answers.{answerNumbers, verdictAnswer, writtenAnswer, command, together, commandAnswer}
@@ -48,11 +49,21 @@ module _ (out : List ℕ) where
 -- the command of the file that decided, by the answer's numbers
 unanswered : (allow deny : List ℕ) (b : Answer) → decide allow deny none ≡ answered b → ⊥
 unfolding decide
-unanswered allow deny b e = by (overLimit S.allow allow orElse overLimit S.deny deny orElse hostsFault S.allow allow orElse hostsFault S.deny deny) e
+unanswered allow deny b e =
+    by (overLimit S.allow allow orElse overLimit S.deny deny orElse hostsFault S.allow allow orElse hostsFault S.deny deny orElse tablesFault allow deny []) e
   where
     by : (o : Option Refusal) → (o before refused (placeless F.BadRequest)) ≡ answered b → ⊥
     by (some g) k = let z : _≡_ {A = ℕ} 0 1 = cc in omega arith
     by none k = let z : _≡_ {A = ℕ} 0 1 = cc in omega arith
+
+answered-search : (allow deny : List ℕ) (r : Request) (b : Answer) → decide allow deny (some r) ≡ answered b → search (matchOf []) allow deny (held r) ≡ b
+unfolding decide
+answered-search allow deny r b e =
+    by (overLimit S.allow allow orElse overLimit S.deny deny orElse hostsFault S.allow allow orElse hostsFault S.deny deny orElse tablesFault allow deny []) e
+  where
+    by : (o : Option Refusal) → (o before decideOver [] allow deny (some r)) ≡ answered b → search (matchOf []) allow deny (held r) ≡ b
+    by (some g) k = let z : _≡_ {A = ℕ} 0 1 = cc in absurd (omega arith)
+    by none k = over-search [] allow deny r b k
 
 command-deciding : (allow deny : List ℕ) (o : Option Request) (b : Answer) → decide allow deny o ≡ answered b
     → commandBytes allow deny b ≡ commandIn (deciding allow deny (answerNumbers b)) (answerNumbers b)
@@ -60,7 +71,7 @@ command-deciding allow deny none b e = absurd (unanswered allow deny b e)
 command-deciding allow deny (some r) b e =
     by (b .file)
     (subst (λ (x : Answer). x .command .place + x .command .len ≤ fileLength allow deny (x .file)) (answered-search allow deny r b e)
-    (search-within allow deny (held r)))
+    (search-within (matchOf []) allow deny (held r)))
   where
     by : (f : File) → b .command .place + b .command .len ≤ fileLength allow deny f
         → commandBytes allow deny (answer (b .verdict) f (b .line) (b .command))

@@ -14,6 +14,7 @@ use Rattle.lines.specs.Rule as Rule
 use Rattle.lines.specs.Command as Command
 use Rattle.elements.specs.Request as Request
 use Rattle.patterns.specs.Pattern as Pattern
+use Rattle.tables.specs.Table as Table
 use Rattle.elements.specs.Element as Element
 use Rattle.lists.specs.Check as ListCheck
 use Rattle.lists.specs.Walk as Walk
@@ -23,9 +24,11 @@ use Rattle.expansion.specs.Expand as Expand
 use Rattle.byuid.specs.Byuid as Byuid
 use Rattle.portacl.specs.Portacl as Portacl
 use Rattle.sheet.specs.Sheet as Sheet
+use Rattle.station.specs.Station as Station
 use Rattle.claims.specs.Examples.{Examples}
 use Rattle.claims.specs.MaskExamples.{MaskExamples}
 use Rattle.claims.specs.MappedExamples.{MappedExamples}
+use Rattle.claims.specs.TableExamples.{TableExamples, entriesOf, five, manyEntries, many}
 
 pub examples : Examples
 unfolding
@@ -41,10 +44,12 @@ unfolding
     Request.wellFormed
     Pattern.wildcard Pattern.isNameByte Pattern.domainPattern Pattern.bracketPattern Pattern.leadingFields Pattern.readMask Pattern.netMask Pattern.dottedPattern
     Pattern.namePattern Pattern.hostPattern
-    Element.halves Element.reservedStart Element.isPlainName Element.daemonName Element.userHalf Element.daemonParts Element.clientParts
+    Element.halves Element.clientReserved Element.daemonReserved Element.namedTable Element.isPlainName Element.daemonName Element.userHalf Element.daemonParts Element.clientParts
     Element.daemonElement Element.clientElement
-    ListCheck.withoutExcept ListCheck.exceptMisplaced ListCheck.ruleFault Walk.included Walk.excluded Walk.ruleFound
-    Check.lineFault Check.hostsFault Search.lineAnswer Search.search Search.decide
+    ListCheck.withoutExcept ListCheck.exceptMisplaced ListCheck.ruleFault ListCheck.ruleNames Walk.included Walk.excluded Walk.ruleFoundBy
+    Check.lineFaultBy Check.hostsFault Check.lineNames Check.namingFault Check.tablesFault Search.lineAnswer Search.search Search.decide
+    Table.readTables Table.readEach Table.readTable Table.afterCount Table.tablesFrame Table.isTableName Table.tableName Table.tableNamed Table.patterns
+    Table.patternWith Table.inTable Table.leadsPast Table.firstTable Table.isMisnamed Table.tableNameFault Table.isBadPattern Table.isUnsound Table.badTableFault
     Expand.inserted Expand.safeByte Expand.pieceText Expand.expansion Expand.expand
     Byuid.readRange Byuid.readNet Byuid.readCommaForm Byuid.readColonForm Byuid.lineGrants Byuid.byuidDecision Byuid.decideByuid
     Portacl.readEntry Portacl.entries Portacl.entryFault Portacl.portaclFault Portacl.portaclDecision Portacl.decidePortacl
@@ -86,10 +91,12 @@ unfolding
     Request.wellFormed
     Pattern.wildcard Pattern.isNameByte Pattern.domainPattern Pattern.bracketPattern Pattern.leadingFields Pattern.readMask Pattern.netMask Pattern.dottedPattern
     Pattern.namePattern Pattern.hostPattern
-    Element.halves Element.reservedStart Element.isPlainName Element.daemonName Element.userHalf Element.daemonParts Element.clientParts
+    Element.halves Element.clientReserved Element.daemonReserved Element.namedTable Element.isPlainName Element.daemonName Element.userHalf Element.daemonParts Element.clientParts
     Element.daemonElement Element.clientElement
-    ListCheck.withoutExcept ListCheck.exceptMisplaced ListCheck.ruleFault Walk.included Walk.excluded Walk.ruleFound
-    Check.lineFault Check.hostsFault Search.lineAnswer Search.search Search.decide
+    ListCheck.withoutExcept ListCheck.exceptMisplaced ListCheck.ruleFault ListCheck.ruleNames Walk.included Walk.excluded Walk.ruleFoundBy
+    Check.lineFaultBy Check.hostsFault Check.lineNames Check.namingFault Check.tablesFault Search.lineAnswer Search.search Search.decide
+    Table.readTables Table.readEach Table.readTable Table.afterCount Table.tablesFrame Table.isTableName Table.tableName Table.tableNamed Table.patterns
+    Table.patternWith Table.inTable Table.leadsPast Table.firstTable Table.isMisnamed Table.tableNameFault Table.isBadPattern Table.isUnsound Table.badTableFault
     Expand.inserted Expand.safeByte Expand.pieceText Expand.expansion Expand.expand
     Byuid.readRange Byuid.readNet Byuid.readCommaForm Byuid.readColonForm Byuid.lineGrants Byuid.byuidDecision Byuid.decideByuid
     Portacl.readEntry Portacl.entries Portacl.entryFault Portacl.portaclFault Portacl.portaclDecision Portacl.decidePortacl
@@ -123,10 +130,12 @@ unfolding
     Request.wellFormed
     Pattern.wildcard Pattern.isNameByte Pattern.domainPattern Pattern.bracketPattern Pattern.leadingFields Pattern.readMask Pattern.netMask Pattern.dottedPattern
     Pattern.namePattern Pattern.hostPattern
-    Element.halves Element.reservedStart Element.isPlainName Element.daemonName Element.userHalf Element.daemonParts Element.clientParts
+    Element.halves Element.clientReserved Element.daemonReserved Element.namedTable Element.isPlainName Element.daemonName Element.userHalf Element.daemonParts Element.clientParts
     Element.daemonElement Element.clientElement
-    ListCheck.withoutExcept ListCheck.exceptMisplaced ListCheck.ruleFault Walk.included Walk.excluded Walk.ruleFound
-    Check.lineFault Check.hostsFault Search.lineAnswer Search.search Search.decide
+    ListCheck.withoutExcept ListCheck.exceptMisplaced ListCheck.ruleFault ListCheck.ruleNames Walk.included Walk.excluded Walk.ruleFoundBy
+    Check.lineFaultBy Check.hostsFault Check.lineNames Check.namingFault Check.tablesFault Search.lineAnswer Search.search Search.decide
+    Table.readTables Table.readEach Table.readTable Table.afterCount Table.tablesFrame Table.isTableName Table.tableName Table.tableNamed Table.patterns
+    Table.patternWith Table.inTable Table.leadsPast Table.firstTable Table.isMisnamed Table.tableNameFault Table.isBadPattern Table.isUnsound Table.badTableFault
     Expand.inserted Expand.safeByte Expand.pieceText Expand.expansion Expand.expand
     Byuid.readRange Byuid.readNet Byuid.readCommaForm Byuid.readColonForm Byuid.lineGrants Byuid.byuidDecision Byuid.decideByuid
     flatMap
@@ -140,4 +149,59 @@ mapped-addresses = record {
   written = refl;
   byuid-dotted = refl;
   byuid-given = refl;
+}
+
+-- Document 02, request 1
+pub table-examples : TableExamples
+unfolding
+    Basics.any Basics.all Basics.first Basics.each
+    Text.equal Text.splitOnce Text.split Text.intercalate Text.lower Text.equalFold
+    Number.fromDigits Number.toDigits Number.numeral Number.readDecimal
+    Refusal.lowest
+    Address.samePrefix Address.readV4 Address.readGroup Address.readLastGroup Address.readGroups Address.readCompressed Address.readV6
+    Address.compress Address.addrText Address.readAddress Address.writeAddress
+    Line.join Line.logicalLines Line.lines Line.hasBadByte
+    Rule.splitSeparator Rule.nonEmpty Rule.elements Rule.parseRule
+    Command.skipBlanks Command.trimmed Command.pieces Command.hasBadPercent
+    Request.wellFormed
+    Pattern.wildcard Pattern.isNameByte Pattern.domainPattern Pattern.bracketPattern Pattern.leadingFields Pattern.readMask Pattern.netMask Pattern.dottedPattern
+    Pattern.namePattern Pattern.hostPattern
+    Element.halves Element.clientReserved Element.daemonReserved Element.namedTable Element.isPlainName Element.daemonName Element.userHalf Element.daemonParts Element.clientParts
+    Element.daemonElement Element.clientElement
+    ListCheck.withoutExcept ListCheck.exceptMisplaced ListCheck.ruleFault ListCheck.ruleNames Walk.included Walk.excluded Walk.ruleFoundBy
+    Check.lineFaultBy Check.hostsFault Check.lineNames Check.namingFault Check.tablesFault Search.lineAnswer Search.search Search.decide
+    Table.readTables Table.readEach Table.readTable Table.afterCount Table.tablesFrame Table.isTableName Table.tableName Table.tableNamed Table.patterns
+    Table.patternWith Table.inTable Table.leadsPast Table.firstTable Table.isMisnamed Table.tableNameFault Table.isBadPattern Table.isUnsound Table.badTableFault
+    Expand.inserted Expand.safeByte Expand.pieceText Expand.expansion Expand.expand
+    Byuid.readRange Byuid.readNet Byuid.readCommaForm Byuid.readColonForm Byuid.lineGrants Byuid.byuidDecision Byuid.decideByuid
+    Portacl.readEntry Portacl.entries Portacl.entryFault Portacl.portaclFault Portacl.portaclDecision Portacl.decidePortacl
+    Sheet.textsFault Sheet.sectionAt Sheet.frame Sheet.unpack
+    flatMap
+    Mapped.isMapped Mapped.unmapped Sheet.sheetOf Sheet.pack Station.decideSheet entriesOf five manyEntries many
+table-examples = record {
+  four-deep = refl;
+  four-deep-other = refl;
+  five-deep = refl;
+  ring = refl;
+  ring-unreached = refl;
+  missing = refl;
+  missing-in-table = refl;
+  twice = refl;
+  missing-first = refl;
+  without-tables = refl;
+  daemon-slash = refl;
+  daemon-table = refl;
+  netgroup = refl;
+  no-name = refl;
+  slash-before-at = refl;
+  asks = refl;
+  asks-not = refl;
+  bad-except = refl;
+  bad-comma = refl;
+  bad-user = refl;
+  bad-name = refl;
+  most-tables = refl;
+  too-many = refl;
+  after-last = refl;
+  cut = refl;
 }

@@ -22,7 +22,8 @@ use Rattle.elements.specs.declared.User.{User}
 use Rattle.elements.specs.Request.{Request, requestOf, heldHost, held}
 use Rattle.elements.proofs.HeldLaws.{held-fits}
 use Rattle.rules.specs.declared.Answer.{Answer}
-use Rattle.rules.specs.Search.{decide}
+use Rattle.tables.specs.Table.{Table, tablesOf}
+use Rattle.rules.specs.Search.{decideOver, decide, decideTables}
 use Rattle.expansion.specs.Expand.{expand}
 use Rattle.sheet.specs.declared.Parts.{Parts}
 use Rattle.sheet.specs.Sheet.{unpack}
@@ -61,16 +62,27 @@ module _ (allow deny : List ℕ) where
   decide-held none = refl
   decide-held (some r) = rw (held-fits r, held-held r)
 
+  tables-held : (tables : List ℕ) (o : Option Request) → decideTables allow deny tables (heldIn o) ≡ decideTables allow deny tables o
+  unfolding decideTables
+  tables-held tables none = refl
+  tables-held tables (some r) = rw (held-fits r, held-held r)
+
+  over-held : (ts : List Table) (o : Option Request) → decideOver ts allow deny (heldIn o) ≡ decideOver ts allow deny o
+  over-held ts none = refl
+  over-held ts (some r) = rw (held-fits r, held-held r)
+
 sheet-held : (sheet : List ℕ) (o : Option Request) → decideSheet sheet (heldIn o) ≡ decideSheet sheet o
 unfolding decideSheet
 sheet-held sheet o = by (unpack sheet)
   where
     decides : Option Request → Parts → Outcome Answer
-    decides q p = decide (bytesAt sheet (p .allow)) (bytesAt sheet (p .deny)) q andThen λ a. answered (inSheet p a)
+    decides q p =
+        decideOver (tablesOf (bytesAt sheet (p .tables))) (bytesAt sheet (p .allow)) (bytesAt sheet (p .deny)) q andThen λ a. answered (inSheet p a)
 
     by : (u : Outcome Parts) → (u andThen decides (heldIn o)) ≡ (u andThen decides o)
     by (refused r) = refl
-    by (answered p) = ap (λ x. x andThen λ a. answered (inSheet p a)) (decide-held (bytesAt sheet (p .allow)) (bytesAt sheet (p .deny)) o)
+    by (answered p) = ap (λ x. x andThen λ a. answered (inSheet p a))
+        (over-held (bytesAt sheet (p .allow)) (bytesAt sheet (p .deny)) (tablesOf (bytesAt sheet (p .tables))) o)
 
 expand-held : (command : List ℕ) (o : Option Request) (process room : ℕ) → expand command (heldIn o) process room ≡ expand command o process room
 unfolding expand
@@ -130,6 +142,8 @@ module _ (n : RequestNumbers) (c s : HostNumbers) (same-c : SameHost (n .client)
 pub held-as-v4 : HeldAsV4
 held-as-v4 = record {
   alike-by-texts = λ allow deny n c s same-c same-s. ap verdictAnswer (same-outcome n c s same-c same-s (decide allow deny) (decide-held allow deny));
+  alike-by-tables = λ allow deny tables n c s same-c same-s.
+      ap verdictAnswer (same-outcome n c s same-c same-s (decideTables allow deny tables) (tables-held allow deny tables));
   alike-by-sheet = λ sheet n c s same-c same-s. ap verdictAnswer (same-outcome n c s same-c same-s (decideSheet sheet) (sheet-held sheet));
   alike-written = λ command n c s same-c same-s process out. ap (wrote out)
       (same-outcome n c s same-c same-s (λ o. expand command o process (length out)) (λ o. expand-held command o process (length out)));

@@ -1,42 +1,44 @@
--- Demands 1 and 2 of the station sheet. Each follows from what an accepted sheet is, by the laws of `sheet`: four sections
--- in turn, each within its limit, to the sheet's end.
--- A sheet of 42,000 bytes: blank lines alone, byuid bytes of any kind, and a list of 85 entries; its checks are computed.
+-- Demands 1 and 2 of the station sheet: each follows from what an accepted sheet is, by the laws of `sheet`.
 -- Assumes nothing.
 use Prim.Native.Nat.{ℕ}
-use Prim.Native.Char.{code}
-use mathlib.Core.List.{List, [], _∷_, _++_}
-use mathlib.Core.Option.{none}
-use mathlib.Core.Path.{_≡_, refl, sym, ap, _∙_}
 use native.Mathlib.Omega.{arith}
-use lib.ListN.{length, replicate}
-use Rattle.text.specs.Basics.{any, all, first}
-use Rattle.text.specs.Text.{bytes, equal, split, splitOnce, intercalate}
-use Rattle.text.specs.Number.{fromDigits, toDigits, numeral, readDecimal}
-use Rattle.section.specs.Refusal.{Outcome, refused, answered, _>>=_, lowest}
-use Rattle.section.specs.Section.{bytesAt}
+use mathlib.Core.Bool.{Bool, true, false}
+use mathlib.Core.List.{List, [], _∷_, _++_}
+use mathlib.Core.Option.{Option, none, some}
+use mathlib.Core.Path.{_≡_, refl, sym, ap, _∙_}
+use lib.Dec.{ltb}
+use lib.ListN.{length, take}
+use Rattle.text.specs.Basics.{_orElse_, given}
+use Rattle.section.specs.declared.Fault.the-variants as F
+use Rattle.section.specs.declared.Refusal.{Refusal}
+use Rattle.section.specs.Refusal.{Outcome, refused, answered, _>>=_, _before_, placeless, refusing, withinRoom}
+use Rattle.section.specs.Section as S
+use Rattle.section.specs.Section.{bytesAt, overLimit}
+use Rattle.tables.specs.Table.{tablesOf, tablesFrame}
+use Rattle.elements.specs.Request.{Request}
 use Rattle.rules.specs.declared.Answer.{Answer}
 use Rattle.rules.specs.declared.File.{File}
 use Rattle.rules.specs.declared.File.the-variants.{Neither, Allow, Deny}
-use Rattle.rules.specs.Search.{answer, decide}
-use Rattle.lines.specs.Line.{join, logicalLines, lines, hasBadByte}
-use Rattle.rules.specs.Check.{lineFault, hostsFault}
-use Rattle.portacl.specs.Portacl.{readEntry, entries, entryFault, portaclFault}
+use Rattle.rules.specs.Check.{hostsFault, tablesFault}
+use Rattle.rules.specs.Search.{answer, decideOver, decideTables}
+use Rattle.portacl.specs.Portacl.{portaclFault}
 use Rattle.sheet.specs.declared.Parts.{Parts}
-use Rattle.sheet.specs.Sheet.{Texts, textsAt, textsFault, unpack, sheetOf, pack}
+use Rattle.sheet.specs.Sheet.{Texts, textsAt, textsFault, unpack, sheetOf, pack, fourFrame, upgrade}
+use Rattle.sheet.proofs.FrameLaws.{partsOf, unpack-answered, answered-same}
+use Rattle.sheet.proofs.SheetLaws as Laws
+use Rattle.sheet.proofs.LongestLaws as Long
 use Rattle.station.specs.Station.{inSheet, decideSheet, decideByuidSheet, decidePortaclSheet}
 use Rattle.codes.specs.Requests.{RequestNumbers, request, markOf, byuidFileBind}
-use Rattle.gate.specs.Calls.{gateVerdict, gateSheetVerdict, gateUnpack}
-use Rattle.sheet.proofs.FrameLaws.{frame-cut, textsFault-none, partsOf, sheetOf-inTurn, framed-partsOf, textsAt-partsOf, sheetOf-textsAt, unpack-answered, answered-unpack, pack-answered, answered-pack}
 use Rattle.codes.specs.Answers.{answerNumbers, foundParts, verdictAnswer, byuidAnswer, portaclAnswer, checkAnswer, partsAnswer, writtenAnswer}
-use Rattle.sheet.proofs.LongSheetLaws.{unpack-take}
-use Rattle.claims.specs.Claims.{AreBytes, Accepted, CutShort, Longest, UnpackPack, PackUnpack, textsOf, placedIn, SheetAsTexts}
+use Rattle.gate.specs.Calls.{gateTablesVerdict, gateSheetVerdict, gateUnpack}
+use Rattle.claims.specs.Claims.{AreBytes, Accepted, CutShort, Longest, UnpackPack, PackUnpack, textsOf, placedIn, SheetAsTexts, Upgraded}
 use Rattle.claims.proofs.AnswerLaws.{accepted-parts, parts-accepted, written-answered, front-answered}
 
 pub cut-short : CutShort
-unfolding unpack decideSheet decideByuidSheet decidePortaclSheet checkAnswer partsAnswer verdictAnswer byuidAnswer portaclAnswer
+unfolding decideSheet decideByuidSheet decidePortaclSheet checkAnswer partsAnswer verdictAnswer byuidAnswer portaclAnswer
 cut-short sheet n e less =
     let p = accepted-parts sheet e in
-    let h = frame-cut sheet n less (unpack-answered sheet (p .0) (p .1) .0) in (
+    let h = Laws.cut-short sheet n (p .0) (p .1) less in (
       h .0,
       h .1,
       h .2,
@@ -49,14 +51,6 @@ cut-short sheet n e less =
       },
     )
 
-packed-parts : (ts : Texts) (room : ℕ) (sheet : List ℕ) → pack ts room ≡ answered sheet → (unpack sheet ≡ answered (partsOf ts))
-    × (textsAt sheet (partsOf ts) ≡ ts)
-packed-parts ts room sheet e =
-    let a = pack-answered ts room sheet e in
-    let is = sym (a .1) ∙ sheetOf-inTurn ts in
-    let same = textsAt-partsOf ts sheet is in
-    (answered-unpack (framed-partsOf ts sheet is (textsFault-none ts (a .0))) (ap textsFault same ∙ a .0), same)
-
 -- the texts that gate_unpack finds
 texts-found : (sheet : List ℕ) (p : Parts) → unpack sheet ≡ answered p → textsOf sheet ≡ textsAt sheet p
 unfolding partsAnswer
@@ -65,72 +59,78 @@ texts-found sheet p e = rw e
 pub unpack-pack : UnpackPack
 unpack-pack ts out e =
     let w = written-answered out (pack ts (length out)) e in
-    let h = packed-parts ts (length out) (w .0) (w .1) in
+    let h = Laws.unpack-pack ts (length out) (w .0) (w .1) in
     rw (w .2) (parts-accepted (w .0) (partsOf ts) (h .0), texts-found (w .0) (partsOf ts) (h .0) ∙ h .1)
 
 pub pack-unpack : PackUnpack
 unfolding writtenAnswer
 pack-unpack sheet out b e h =
     let p = accepted-parts sheet e in
-    let a = unpack-answered sheet (p .0) (p .1) in
-    let same = sheetOf-textsAt b (a .0) in
     let packed : pack (textsOf sheet) (length out) ≡ answered sheet =
-    ap (λ ts. pack ts (length out)) (texts-found sheet (p .0) (p .1)) ∙ answered-pack (textsAt sheet (p .0)) (length out) (a .1) (rw same h)
-    ∙ ap answered same in
+    ap (λ ts. pack ts (length out)) (texts-found sheet (p .0) (p .1)) ∙ Laws.pack-unpack sheet (p .0) (length out) b (p .1) h in
     (ap writtenAnswer packed, front-answered out (pack (textsOf sheet) (length out)) sheet packed)
-
--- ## The longest sheet
-
-abbrev longestTexts : Texts
-longestTexts = record {
-  allow = replicate 16384 (code "\n");
-  deny = replicate 16384 (code "\n");
-  byuid = replicate 8192 (code "\n");
-  portacl = intercalate (bytes ",") (replicate 84 (bytes "uid:0:tcp:0") ++ (bytes "uid:10:tcp:65535" ∷ []));
-}
-
-longestTexts-sound : textsFault longestTexts ≡ none
-unfolding textsFault hostsFault lineFault lowest lines logicalLines join hasBadByte portaclFault entryFault entries readEntry readDecimal numeral fromDigits split splitOnce equal intercalate first any all
-longestTexts-sound = refl
-
-longest-bytes : AreBytes (sheetOf longestTexts)
-unfolding sheetOf toDigits intercalate all
-longest-bytes = refl
-
-longest-length : length (sheetOf longestTexts) ≡ 42000
-unfolding sheetOf toDigits intercalate
-longest-length = refl
 
 pub longest : Longest
 longest = record {
-  at-most = λ sheet e.
-      let p = accepted-parts sheet e in
-      let f = unpack-answered sheet (p .0) (p .1) .0 in
-      omega (
-        arith,
-        f .allow .place,
-        f .allow .limit,
-        f .deny .place,
-        f .deny .limit,
-        f .byuid .place,
-        f .byuid .limit,
-        f .portacl .place,
-        f .portacl .limit,
-        f .end,
-      );
-  reached =
-      let h = packed-parts longestTexts 42000 (sheetOf longestTexts) (answered-pack longestTexts 42000 longestTexts-sound (omega (arith, longest-length))) in
-      (sheetOf longestTexts, longest-bytes, parts-accepted (sheetOf longestTexts) (partsOf longestTexts) (h .0), longest-length);
-  enough = λ sheet. ap checkAnswer (unpack-take sheet);
+  at-most = λ sheet e. let p = accepted-parts sheet e in Laws.at-most sheet (p .0) (p .1);
+  reached = (sheetOf Long.longest, Long.longest-bytes, parts-accepted (sheetOf Long.longest) (partsOf Long.longest) Long.reached, Long.longest-length);
+  enough = λ sheet e. let p = accepted-parts (take 54289 sheet) e in Laws.whole sheet (p .0) (p .1);
 }
+
+-- ## Request 1: the upgrade
+
+pub upgraded : Upgraded
+unfolding upgrade
+upgraded sheet out e =
+    let w = written-answered out (upgrade sheet (length out)) e in
+    w .2 ∙ by (fourFrame sheet) (w .0) (w .1)
+  where
+    room : (b : Bool) (x t : List ℕ) → refusing (given b (placeless F.NoRoom)) x ≡ answered t → t ≡ x
+    room true x t k = let z : _≡_ {A = ℕ} 0 1 = cc in absurd (omega arith)
+    room false x t k = sym (answered-same x t k)
+
+    by : (o : Option Refusal) (t : List ℕ) → (refusing o (sheet ++ 0 ∷ 0 ∷ []) >>= withinRoom (length out)) ≡ answered t → t ≡ sheet ++ 0 ∷ 0 ∷ []
+    by none t k = room (ltb (length out) (length (sheet ++ 0 ∷ 0 ∷ []))) (sheet ++ 0 ∷ 0 ∷ []) t k
+    by (some g) t k = let z : _≡_ {A = ℕ} 0 1 = cc in absurd (omega arith)
 
 -- ## By a sheet as by its texts
 
+-- texts without a fault are decided over their tables
+sound-texts : (ts : Texts) (o : Option Request) → textsFault ts ≡ none
+    → decideTables (ts .allow) (ts .deny) (ts .tables) o ≡ decideOver (tablesOf (ts .tables)) (ts .allow) (ts .deny) o
+unfolding textsFault decideTables
+sound-texts ts o e = by (overLimit S.allow (ts .allow)) (overLimit S.deny (ts .deny)) (overLimit S.byuid (ts .byuid)) (overLimit S.portacl (ts .portacl))
+    (tablesFrame (ts .tables)) (hostsFault S.allow (ts .allow)) (hostsFault S.deny (ts .deny)) (portaclFault (ts .portacl))
+    (tablesFault (ts .allow) (ts .deny) (ts .tables)) e
+  where
+    x : Outcome Answer
+    x = decideOver (tablesOf (ts .tables)) (ts .allow) (ts .deny) o
+
+    none-some : (g : Refusal) → some g ≡ none → ⊥
+    none-some g k = let z : _≡_ {A = ℕ} 0 1 = cc in omega arith
+
+    by : (a b c d f g h i j : Option Refusal) → (a orElse b orElse c orElse d orElse f orElse g orElse h orElse i orElse j) ≡ none
+        → ((a orElse b orElse f orElse g orElse h orElse j) before x) ≡ x
+    by (some r) b c d f g h i j k = absurd (none-some r k)
+    by none (some r) c d f g h i j k = absurd (none-some r k)
+    by none none (some r) d f g h i j k = absurd (none-some r k)
+    by none none none (some r) f g h i j k = absurd (none-some r k)
+    by none none none none (some r) g h i j k = absurd (none-some r k)
+    by none none none none none (some r) h i j k = absurd (none-some r k)
+    by none none none none none none (some r) i j k = absurd (none-some r k)
+    by none none none none none none none (some r) j k = absurd (none-some r k)
+    by none none none none none none none none (some r) k = absurd (none-some r k)
+    by none none none none none none none none none k = refl
+
 sheet-verdict : (sheet : List ℕ) (n : RequestNumbers) → Accepted sheet
-    → gateSheetVerdict sheet n ≡ placedIn (gateUnpack sheet) (gateVerdict (textsOf sheet .allow) (textsOf sheet .deny) n)
+    → gateSheetVerdict sheet n
+    ≡ placedIn (gateUnpack sheet) (gateTablesVerdict (textsOf sheet .allow) (textsOf sheet .deny) (textsOf sheet .tables) n)
 unfolding decideSheet partsAnswer verdictAnswer
-sheet-verdict sheet n e = let p = accepted-parts sheet e in
-    rw (p .1) (by (p .0) (decide (bytesAt sheet (p .0 .allow)) (bytesAt sheet (p .0 .deny)) (request n)))
+sheet-verdict sheet n e =
+    let p = accepted-parts sheet e in
+    let t : Texts = textsAt sheet (p .0) in
+    rw (p .1, sound-texts t (request n) (unpack-answered sheet (p .0) (p .1) .1))
+    (by (p .0) (decideOver (tablesOf (t .tables)) (t .allow) (t .deny) (request n)))
   where
     file : (p : Parts) (a : Answer) (f : File) → answerNumbers (inSheet p (answer (a .verdict) f (a .line) (a .command)))
         ≡ placedIn (foundParts p) (answerNumbers (answer (a .verdict) f (a .line) (a .command)))

@@ -22,8 +22,10 @@ use Rattle.elements.specs.Code as R
 use Rattle.rules.specs.declared.Answer.{Answer}
 use Rattle.rules.specs.declared.Verdict.{Verdict}
 use Rattle.rules.specs.declared.Verdict.the-variants.{Granted, Denied, Ask}
-use Rattle.rules.specs.Search.{decide}
-use Rattle.rules.proofs.UserLaws.{QuietVerdict, QuietOutcome, decide-same, Fetched, decide-quiet, decide-none-quiet}
+use Rattle.tables.specs.Table.{Table, tablesOf}
+use Rattle.rules.specs.Search.{decideOver, decide, decideTables}
+use Rattle.rules.proofs.UserLaws.{QuietVerdict, QuietOutcome, over-same, decide-same, decideTables-same, Fetched}
+use Rattle.rules.proofs.UserLaws.{over-quiet, over-none-quiet, decide-quiet, decide-none-quiet, decideTables-quiet, decideTables-none-quiet}
 use Rattle.expansion.specs.Expand.{usesUser, expand}
 use Rattle.expansion.proofs.UserLaws.{expand-same}
 use Rattle.sheet.specs.declared.Parts.{Parts}
@@ -33,7 +35,7 @@ use Rattle.codes.specs.declared.GateAnswer.{GateAnswer}
 use Rattle.codes.specs.declared.request.HostNumbers.{HostNumbers}
 use Rattle.codes.specs.Requests.{userState, RequestNumbers, requestNumbers, hostBy, knownUser, request}
 use Rattle.codes.specs.Answers.{verdictWord, verdictAnswer}
-use Rattle.gate.specs.Calls.{wrote, gateVerdict, gateSheetVerdict}
+use Rattle.gate.specs.Calls.{wrote, gateVerdict, gateTablesVerdict, gateSheetVerdict}
 use Rattle.claims.specs.Claims.{asUser, Permitted, named, unknown, Decided, is-granted, is-denied, SameFor, deciding, commandIn, NameCannotMatter, AskOnlyUnfetched}
 
 -- ## The request
@@ -118,7 +120,8 @@ same-for call same command n e d user name p = record {
 -- an accepted sheet decides as its two texts do
 module _ (sheet : List ℕ) where
   decides : Option Request → Parts → Outcome Answer
-  decides q p = decide (bytesAt sheet (p .allow)) (bytesAt sheet (p .deny)) q andThen λ a. answered (inSheet p a)
+  decides q p =
+      decideOver (tablesOf (bytesAt sheet (p .tables))) (bytesAt sheet (p .allow)) (bytesAt sheet (p .deny)) q andThen λ a. answered (inSheet p a)
 
   quiet : (p : Parts) (o : Outcome Answer) → QuietOutcome (o andThen λ a. answered (inSheet p a)) → QuietOutcome o
   quiet p (refused f) h = tt
@@ -137,22 +140,27 @@ module _ (sheet : List ℕ) where
       by (refused f) h = refl
       by (answered p) h =
           ap (λ o. o andThen λ a. answered (inSheet p a))
-          (decide-same r t u name fits (bytesAt sheet (p .allow)) (bytesAt sheet (p .deny))
-          (quiet p (decide (bytesAt sheet (p .allow)) (bytesAt sheet (p .deny)) (some (R.withUser r U.NotFetched t))) h))
+          (over-same r t u name fits none (tablesOf (bytesAt sheet (p .tables))) (bytesAt sheet (p .allow)) (bytesAt sheet (p .deny))
+          (quiet p (decideOver (tablesOf (bytesAt sheet (p .tables))) (bytesAt sheet (p .allow)) (bytesAt sheet (p .deny)) (some (R.withUser r U.NotFetched t))) h))
 
-  sheet-quiet : (q : Option Request) → ((a d : List ℕ) → QuietOutcome (decide a d q)) → QuietOutcome (decideSheet sheet q)
+  sheet-quiet : (q : Option Request) → ((ts : List Table) (a d : List ℕ) → QuietOutcome (decideOver ts a d q)) → QuietOutcome (decideSheet sheet q)
   unfolding decideSheet decides
   sheet-quiet q h = by (unpack sheet)
     where
       by : (o : Outcome Parts) → QuietOutcome (o andThen decides q)
       by (refused f) = tt
-      by (answered p) = placed-quiet p (decide (bytesAt sheet (p .allow)) (bytesAt sheet (p .deny)) q) (h (bytesAt sheet (p .allow)) (bytesAt sheet (p .deny)))
+      by (answered p) =
+          placed-quiet p (decideOver (tablesOf (bytesAt sheet (p .tables))) (bytesAt sheet (p .allow)) (bytesAt sheet (p .deny)) q)
+          (h (tablesOf (bytesAt sheet (p .tables))) (bytesAt sheet (p .allow)) (bytesAt sheet (p .deny)))
 
 pub name-cannot-matter : NameCannotMatter
 name-cannot-matter = record {
   by-texts = λ allow deny n.
       same-for (decide allow deny) (λ r t u name fits. decide-same r t u name fits allow deny)
       (commandIn (deciding allow deny (gateVerdict allow deny n)) (gateVerdict allow deny n)) n;
+  by-tables = λ allow deny tables n.
+      same-for (decideTables allow deny tables) (λ r t u name fits. decideTables-same r t u name fits allow deny tables)
+      (commandIn (deciding allow deny (gateTablesVerdict allow deny tables n)) (gateTablesVerdict allow deny tables n)) n;
   by-sheet = λ sheet n. same-for (decideSheet sheet) (sheet-same sheet) (commandIn sheet (gateSheetVerdict sheet n)) n;
 }
 
@@ -203,6 +211,8 @@ module _ (n : RequestNumbers) (call : Option Request → Outcome Answer) (none-q
 pub ask-only-unfetched : AskOnlyUnfetched
 ask-only-unfetched = record {
   asked-by-texts = λ allow deny n. unfetched n (decide allow deny) (decide-none-quiet allow deny) (λ r h. decide-quiet r h allow deny);
-  asked-by-sheet = λ sheet n. unfetched n (decideSheet sheet) (sheet-quiet sheet none decide-none-quiet)
-      (λ r h. sheet-quiet sheet (some r) (λ a d. decide-quiet r h a d));
+  asked-by-tables = λ allow deny tables n. unfetched n (decideTables allow deny tables) (decideTables-none-quiet allow deny tables)
+      (λ r h. decideTables-quiet r h allow deny tables);
+  asked-by-sheet = λ sheet n. unfetched n (decideSheet sheet) (sheet-quiet sheet none (λ ts a d. over-none-quiet none ts a d))
+      (λ r h. sheet-quiet sheet (some r) (λ ts a d. over-quiet none ts a d r h));
 }

@@ -3,7 +3,7 @@
 -- Assumes nothing: these are statements.
 use Prim.Native.Nat.{ℕ, _+_, _*_, _≤_, _<_, _^_}
 use mathlib.Core.Bool.{true, false}
-use mathlib.Core.List.{List}
+use mathlib.Core.List.{List, [], _∷_, _++_}
 use mathlib.Core.Path.{_≡_}
 use lib.ListN.{length, take}
 use lib.Dec.{ltb, eqb}
@@ -28,12 +28,13 @@ use Rattle.codes.specs.declared.request.HostNumbers.{HostNumbers}
 use Rattle.codes.specs.Requests.{RequestNumbers, hostNumbers, requestNumbers}
 use Rattle.codes.specs.Answers.{granted, denied, ask, noLine, wordAnswer}
 use Rattle.codes.specs.Answers.{refusalAnswer, refusedCheck, accepted, refusedParts, countWritten, withCount, addressWith}
-use Rattle.gate.specs.Calls.{gateVerdict, gateSheetVerdict, gateByuid, gateSheetByuid, gatePortacl, gateSheetPortacl}
-use Rattle.gate.specs.Calls.{gateCheck, gateUnpack, gateReadAddress, Wrote, gatePack, gateExpand, gateWriteAddress}
+use Rattle.gate.specs.Calls.{gateVerdict, gateTablesVerdict, gateSheetVerdict, gateByuid, gateSheetByuid, gatePortacl, gateSheetPortacl}
+use Rattle.gate.specs.Calls.{gateCheck, gateUnpack, gateReadAddress, Wrote, gatePack, gateUpgrade, gateExpand, gateWriteAddress}
 use Rattle.gate.specs.Calls.{WroteCommand, gateCommand, gateSheetCommand}
 use Rattle.claims.specs.Examples.{Examples}
 use Rattle.claims.specs.MaskExamples.{MaskExamples}
 use Rattle.claims.specs.MappedExamples.{MappedExamples}
+use Rattle.claims.specs.TableExamples.{TableExamples}
 
 -- numbers that fit a byte
 abbrev pub AreBytes : List ℕ → Type 0
@@ -66,14 +67,15 @@ pub record RefusedBy (r : Refusal) (sheet : List ℕ) : Type 0 where
 -- "An accepted sheet cut short anywhere is refused, never half used": by 1, at the section that is cut
 abbrev pub CutShort : Type 0
 CutShort = (sheet : List ℕ) (n : ℕ) → Accepted sheet → n < length sheet
-    → (s : ℕ) × (1 ≤ s) × (s ≤ 4) × RefusedBy (refusal F.CutShort s 0) (take n sheet)
+    → (s : ℕ) × (1 ≤ s) × (s ≤ 5) × RefusedBy (refusal F.CutShort s 0) (take n sheet)
 
--- "The longest sheet is 42,000 bytes."
+-- document 02, request 1: "the longest sheet 54,288"
 pub record Longest : Type 0 where
-  pub at-most : (sheet : List ℕ) → Accepted sheet → length sheet ≤ 42000
-  pub reached : (sheet : List ℕ) × AreBytes sheet × Accepted sheet × (length sheet ≡ 42000)
-  -- so a reader may stop after one byte more
-  pub enough : (sheet : List ℕ) → gateCheck (take 42001 sheet) ≡ gateCheck sheet
+  pub at-most : (sheet : List ℕ) → Accepted sheet → length sheet ≤ 54288
+  pub reached : (sheet : List ℕ) × AreBytes sheet × Accepted sheet × (length sheet ≡ 54288)
+  -- so a reader that stops after one byte more accepts no other sheet. The number of a refusal needs the whole sheet: a section five
+  -- over its limit is 17, and 15 and 16, which come before it, are looked for in all of it
+  pub enough : (sheet : List ℕ) → Accepted (take 54289 sheet) → take 54289 sheet ≡ sheet
 
 -- "A refusal .. writes nothing": a lent output is as it was
 pub record RefusalWritesNothing : Type 0 where
@@ -82,18 +84,20 @@ pub record RefusalWritesNothing : Type 0 where
       → gateExpand command n process out .out ≡ out
   pub writing : (kind high low : ℕ) (out : List ℕ) → (gateWriteAddress kind high low out .answer .number ≡ 0 → ⊥)
       → gateWriteAddress kind high low out .out ≡ out
+  pub upgrading : (sheet out : List ℕ) → (gateUpgrade sheet out .answer .number ≡ 0 → ⊥) → gateUpgrade sheet out .out ≡ out
   pub commanding : (allow deny : List ℕ) (n : RequestNumbers) (process : ℕ) (out : List ℕ) → (gateCommand allow deny n process out .answer .number ≡ 0 → ⊥)
       → gateCommand allow deny n process out .out ≡ out
   pub sheet-commanding : (sheet : List ℕ) (n : RequestNumbers) (process : ℕ) (out : List ℕ) → (gateSheetCommand sheet n process out .answer .number ≡ 0 → ⊥)
       → gateSheetCommand sheet n process out .out ≡ out
 
--- a decision is a word, or a refusal by one of the fourteen numbers "and gives no verdict"
+-- a decision is a word, or a refusal by one of the seventeen numbers "and gives no verdict"
 pub data Decision : GateAnswer → Type 0 where
   by-word : (a : GateAnswer) → a .number ≡ 0 → a .section ≡ 0 → 1 ≤ a .word → a .word ≤ 6 → Decision a
-  by-refusal : (r : Refusal) → 1 ≤ refusalAnswer r .number → refusalAnswer r .number ≤ 14 → Decision (refusalAnswer r)
+  by-refusal : (r : Refusal) → 1 ≤ refusalAnswer r .number → refusalAnswer r .number ≤ 17 → Decision (refusalAnswer r)
 
 pub record EveryDecision : Type 0 where
   pub verdict-decided : (allow deny : List ℕ) (n : RequestNumbers) → Decision (gateVerdict allow deny n)
+  pub tables-verdict-decided : (allow deny tables : List ℕ) (n : RequestNumbers) → Decision (gateTablesVerdict allow deny tables n)
   pub sheet-verdict-decided : (sheet : List ℕ) (n : RequestNumbers) → Decision (gateSheetVerdict sheet n)
   pub byuid-decided : (text : List ℕ) (mark port kind high low uid : ℕ) → Decision (gateByuid text mark port kind high low uid)
   pub sheet-byuid-decided : (sheet : List ℕ) (port kind high low uid : ℕ) → Decision (gateSheetByuid sheet port kind high low uid)
@@ -101,25 +105,27 @@ pub record EveryDecision : Type 0 where
   pub sheet-portacl-decided : (sheet : List ℕ) (s : Settings) (uid : ℕ) (groups : List ℕ) (protocol port : ℕ)
       → Decision (gateSheetPortacl sheet s uid groups protocol port)
 
--- the other calls give none but the fourteen numbers, and 0, either
+-- the other calls give none but the seventeen numbers, and 0, either
 pub record EveryNumber : Type 0 where
-  pub check-number : (sheet : List ℕ) → gateCheck sheet .number ≤ 14
-  pub unpack-number : (sheet : List ℕ) → gateUnpack sheet .number ≤ 14
-  pub read-number : (text : List ℕ) → gateReadAddress text .number ≤ 14
-  pub pack-number : (ts : Texts) (out : List ℕ) → gatePack ts out .answer .number ≤ 14
-  pub expand-number : (command : List ℕ) (n : RequestNumbers) (process : ℕ) (out : List ℕ) → gateExpand command n process out .answer .number ≤ 14
-  pub write-number : (kind high low : ℕ) (out : List ℕ) → gateWriteAddress kind high low out .answer .number ≤ 14
+  pub check-number : (sheet : List ℕ) → gateCheck sheet .number ≤ 17
+  pub unpack-number : (sheet : List ℕ) → gateUnpack sheet .number ≤ 17
+  pub read-number : (text : List ℕ) → gateReadAddress text .number ≤ 17
+  pub pack-number : (ts : Texts) (out : List ℕ) → gatePack ts out .answer .number ≤ 17
+  pub upgrade-number : (sheet out : List ℕ) → gateUpgrade sheet out .answer .number ≤ 17
+  pub expand-number : (command : List ℕ) (n : RequestNumbers) (process : ℕ) (out : List ℕ) → gateExpand command n process out .answer .number ≤ 17
+  pub write-number : (kind high low : ℕ) (out : List ℕ) → gateWriteAddress kind high low out .answer .number ≤ 17
 
 -- ## Demand 2
 
--- the four texts that gate_unpack finds in a sheet
+-- the five texts that gate_unpack finds in a sheet
 abbrev pub textsOf : List ℕ → Texts
 textsOf sheet =
     let p : GateParts = gateUnpack sheet in
     texts (bytesAt sheet (part (p .«allow_place») (p .«allow_len»))) (bytesAt sheet (part (p .«deny_place») (p .«deny_len»)))
     (bytesAt sheet (part (p .«byuid_place») (p .«byuid_len»))) (bytesAt sheet (part (p .«portacl_place») (p .«portacl_len»)))
+    (bytesAt sheet (part (p .«tables_place») (p .«tables_len»)))
 
--- "A sheet packed from four accepted texts unpacks to those texts": the bytes that gate_pack wrote are accepted
+-- "A sheet packed from four accepted texts unpacks to those texts", and "demand 2 packs this section as a fifth text": the bytes that gate_pack wrote are accepted
 abbrev pub UnpackPack : Type 0
 UnpackPack = (ts : Texts) (out : List ℕ) → gatePack ts out .answer .number ≡ 0 → Accepted (front (gatePack ts out)) × (textsOf (front (gatePack ts out)) ≡ ts)
 
@@ -153,7 +159,7 @@ placedIn p a = record {
 -- an accepted sheet decides as its texts do
 pub record SheetAsTexts : Type 0 where
   pub same-verdict : (sheet : List ℕ) (n : RequestNumbers) → Accepted sheet
-      → gateSheetVerdict sheet n ≡ placedIn (gateUnpack sheet) (gateVerdict (textsOf sheet .allow) (textsOf sheet .deny) n)
+      → gateSheetVerdict sheet n ≡ placedIn (gateUnpack sheet) (gateTablesVerdict (textsOf sheet .allow) (textsOf sheet .deny) (textsOf sheet .tables) n)
   pub same-byuid : (sheet : List ℕ) (port kind high low uid : ℕ) → Accepted sheet
       → gateSheetByuid sheet port kind high low uid ≡ gateByuid (textsOf sheet .byuid) plain port kind high low uid
   pub same-portacl : (sheet : List ℕ) (s : Settings) (uid : ℕ) (groups : List ℕ) (protocol port : ℕ) → Accepted sheet
@@ -187,6 +193,7 @@ pub record CommandInTurn : Type 0 where
 -- ""Ask" comes nowhere else": only for a user not fetched, so who has fetched is never asked again
 pub record AskOnlyUnfetched : Type 0 where
   pub asked-by-texts : (allow deny : List ℕ) (n : RequestNumbers) → gateVerdict allow deny n .word ≡ ask .number → n .user ≡ 0
+  pub asked-by-tables : (allow deny tables : List ℕ) (n : RequestNumbers) → gateTablesVerdict allow deny tables n .word ≡ ask .number → n .user ≡ 0
   pub asked-by-sheet : (sheet : List ℕ) (n : RequestNumbers) → gateSheetVerdict sheet n .word ≡ ask .number → n .user ≡ 0
 
 -- ## Demand 3
@@ -212,16 +219,26 @@ pub record SameFor (call : RequestNumbers → GateAnswer) (command : List ℕ) (
   pub same-expansion : (process : ℕ) (out : List ℕ) → usesUser command ≡ false → gateExpand command (asUser n user name) process out
       ≡ gateExpand command n process out
 
--- "Take any rules, and any request whose user was not fetched and that is granted or denied": by two texts, and by a sheet
+-- "Take any rules, and any request whose user was not fetched and that is granted or denied": by two texts, with tables ("Demand 3 stands,
+-- as tables hold no users"), and by a sheet
 pub record NameCannotMatter : Type 0 where
   pub by-texts : (allow deny : List ℕ) (n : RequestNumbers) → n .user ≡ 0 → Decided (gateVerdict allow deny n .number) (gateVerdict allow deny n .word)
       → (user : ℕ) (name : List ℕ) → Permitted user name
       → SameFor (gateVerdict allow deny) (commandIn (deciding allow deny (gateVerdict allow deny n)) (gateVerdict allow deny n)) n user name
+  pub by-tables : (allow deny tables : List ℕ) (n : RequestNumbers) → n .user ≡ 0
+      → Decided (gateTablesVerdict allow deny tables n .number) (gateTablesVerdict allow deny tables n .word)
+      → (user : ℕ) (name : List ℕ) → Permitted user name
+      → SameFor (gateTablesVerdict allow deny tables)
+      (commandIn (deciding allow deny (gateTablesVerdict allow deny tables n)) (gateTablesVerdict allow deny tables n)) n user name
   pub by-sheet : (sheet : List ℕ) (n : RequestNumbers) → n .user ≡ 0 → Decided (gateSheetVerdict sheet n .number) (gateSheetVerdict sheet n .word)
       → (user : ℕ) (name : List ℕ) → Permitted user name
       → SameFor (gateSheetVerdict sheet) (commandIn sheet (gateSheetVerdict sheet n)) n user name
 
 -- ## Document 02
+
+-- request 1: "a small program appends the two zero bytes of an empty count"
+abbrev pub Upgraded : Type 0
+Upgraded = (sheet out : List ℕ) → gateUpgrade sheet out .answer .number ≡ 0 → front (gateUpgrade sheet out) ≡ sheet ++ 0 ∷ 0 ∷ []
 
 -- request 5: comparing whole words, and "only the last word under a mask", is "equal to a comparison bit by bit at every length": of
 -- addresses of any width w, so of 32 bits (same_prefix_v4) and of 128 (same_prefix_v6, by which `[v6]/m` matches) alike
@@ -274,6 +291,8 @@ withHosts n client server = requestNumbers (n .daemon) client (n .clientName) se
 pub record HeldAsV4 : Type 0 where
   pub alike-by-texts : (allow deny : List ℕ) (n : RequestNumbers) (c s : HostNumbers) → SameHost (n .client) c → SameHost (n .server) s
       → gateVerdict allow deny n ≡ gateVerdict allow deny (withHosts n c s)
+  pub alike-by-tables : (allow deny tables : List ℕ) (n : RequestNumbers) (c s : HostNumbers) → SameHost (n .client) c → SameHost (n .server) s
+      → gateTablesVerdict allow deny tables n ≡ gateTablesVerdict allow deny tables (withHosts n c s)
   pub alike-by-sheet : (sheet : List ℕ) (n : RequestNumbers) (c s : HostNumbers) → SameHost (n .client) c → SameHost (n .server) s
       → gateSheetVerdict sheet n ≡ gateSheetVerdict sheet (withHosts n c s)
   pub alike-written : (command : List ℕ) (n : RequestNumbers) (c s : HostNumbers) → SameHost (n .client) c → SameHost (n .server) s
@@ -303,3 +322,5 @@ pub record Claims : Type 0 where
   pub mapped-addresses : MappedExamples
   pub no-mapped : NoMapped
   pub held-as-v4 : HeldAsV4
+  pub table-examples : TableExamples
+  pub upgraded : Upgraded

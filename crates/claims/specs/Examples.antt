@@ -2,7 +2,7 @@
 -- Assumes nothing: these are statements.
 use Prim.Native.Nat.{ℕ}
 use Prim.Native.String.{String}
-use mathlib.Core.Bool.{Bool, true}
+use mathlib.Core.Bool.{Bool, true, false}
 use mathlib.Core.List.{List, [], _∷_}
 use mathlib.Core.Option.{some}
 use mathlib.Core.Path.{_≡_}
@@ -44,7 +44,7 @@ requestBy name addr user =
 
 -- what a client list finds of a client with that name and address
 abbrev pub listFinds : String → String → Addr → Found
-listFinds list name addr = included (λ e. lookAt (requestBy name addr "fitter") (clientElement e)) (elements (bytes list))
+listFinds list name addr = included (λ e. lookAt (requestBy name addr "fitter") (clientElement (λ n h. false) e)) (elements (bytes list))
 
 -- the settings of mac_portacl(4) as it starts
 abbrev pub settings : Settings
@@ -69,6 +69,8 @@ pub record Examples : Type 0 where
   pub p8 : decidePortacl (bytes "uid:80:tcp:80") settings (some udp80) ≡ answered P.Denied
   pub p9 : expand (bytes "/bin/log %u") (some (requestBy "x" Unknown "a;b")) 1 99 ≡ answered (bytes "/bin/log a_b")
   pub p10 : (readAddress (bytes "2620:106:e002:f00f:0:0:0:21") >>= λ a. writeAddress a 99) ≡ answered (bytes "2620:106:e002:f00f::21")
-  pub p11-accepted : unpack (replicate 16 0) ≡ answered (record { allow = part 4 0; deny = part 8 0; byuid = part 12 0; portacl = part 16 0 })
-  pub p11-short : unpack (replicate 15 0) ≡ refused (refusal F.CutShort 4 0)
-  pub p11-long : unpack (replicate 17 0) ≡ refused (placeless F.TrailingBytes)
+  -- document 02, request 1: "P11 reads 18, 17 and 19"
+  pub p11-accepted : unpack (replicate 18 0)
+      ≡ answered (record { allow = part 4 0; deny = part 8 0; byuid = part 12 0; portacl = part 16 0; tables = part 16 2 })
+  pub p11-short : unpack (replicate 17 0) ≡ refused (refusal F.CutShort 5 0)
+  pub p11-long : unpack (replicate 19 0) ≡ refused (placeless F.TrailingBytes)

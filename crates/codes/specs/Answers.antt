@@ -133,6 +133,8 @@ refusedParts r = record {
   «byuid_len» = 0;
   «portacl_place» = 0;
   «portacl_len» = 0;
+  «tables_place» = 0;
+  «tables_len» = 0;
 }
 
 abbrev pub foundParts : Parts → GateParts
@@ -148,6 +150,8 @@ foundParts p = record {
   «byuid_len» = p .byuid .len;
   «portacl_place» = p .portacl .place;
   «portacl_len» = p .portacl .len;
+  «tables_place» = p .tables .place;
+  «tables_len» = p .tables .len;
 }
 
 unfoldable pub partsAnswer : Outcome Parts → GateParts

@@ -180,6 +180,8 @@ fn not_unpacked(r: Refusal) -> GateParts
         byuid_len: 0,
         portacl_place: 0,
         portacl_len: 0,
+        tables_place: 0,
+        tables_len: 0,
     }
 }
 
@@ -190,6 +192,7 @@ fn found_parts(p: Parts) -> GateParts
     let deny = p.deny;
     let byuid = p.byuid;
     let portacl = p.portacl;
+    let tables = p.tables;
     GateParts {
         number: 0,
         section: 0,
@@ -202,6 +205,8 @@ fn found_parts(p: Parts) -> GateParts
         byuid_len: byuid.len as u64,
         portacl_place: portacl.place as u64,
         portacl_len: portacl.len as u64,
+        tables_place: tables.place as u64,
+        tables_len: tables.len as u64,
     }
 }
 

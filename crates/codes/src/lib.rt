@@ -60,6 +60,8 @@ pub struct GateParts {
     pub byuid_len: u64,
     pub portacl_place: u64,
     pub portacl_len: u64,
+    pub tables_place: u64,
+    pub tables_len: u64,
 }
 
 // An address as numbers.

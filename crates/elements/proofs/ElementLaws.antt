@@ -21,7 +21,10 @@ use Rattle.patterns.specs.declared.pattern.Wildcard.{Wildcard}
 use Rattle.patterns.specs.declared.pattern.Wildcard.the-variants as W
 use Rattle.patterns.specs.Host.{Endpoint, nameCase}
 use Rattle.patterns.specs.Pattern.{Pattern, isNameByte, hostPattern}
-use Rattle.patterns.specs.Code.{wildcardOf, wildcardPattern, matchesPattern, hostMatches}
+use Rattle.tables.specs.Table.{Matcher, isTableName, tableName, patternWith}
+use Rattle.views.specs.declared.Naming.{Naming}
+use Rattle.views.specs.declared.Naming.the-variants as N
+use Rattle.patterns.specs.Code.{wildcardOf, wildcardPattern, matchesPattern}
 use Rattle.patterns.proofs.TestLaws.{firstAmong-head, indexOf-length}
 use Rattle.patterns.proofs.PatternLaws.{wildcard-of, isSome-given}
 use Rattle.elements.specs.declared.User.{User}
@@ -29,8 +32,8 @@ use Rattle.elements.specs.declared.User.the-variants as U
 use Rattle.elements.specs.declared.Found.{Found}
 use Rattle.elements.specs.declared.Found.the-variants.{No, Ask}
 use Rattle.elements.specs.Request.{Request, requestOf, userCase, wellFormed}
-use Rattle.elements.specs.Element.{halves, reservedStart, isPlainName, daemonName, userHalf, foundIf, daemonParts, clientParts, daemonElement, clientElement, lookAt}
-use Rattle.elements.specs.Code.{userFits, atSign, nameFits, nameEquals, userTest, userFound, askIf, nobody, daemonRequest, clientRequest}
+use Rattle.elements.specs.Element.{halves, clientReserved, daemonReserved, namedTable, isPlainName, daemonName, userHalf, foundIf, daemonParts, clientParts, daemonElement, clientElement, lookAt}
+use Rattle.elements.specs.Code.{namingWith, elementNaming, userFits, atSign, nameFits, nameEquals, userTest, userFound, askIf, nobody, daemonRequest, clientRequest}
 
 -- ## Halves
 
@@ -65,27 +68,61 @@ module _ (e : List ℕ) (at : ℕ) (is-at : at ≡ atSign e) where
 
 -- ## Reserved marks
 
-pub reservedMarks-nil : (s : List ℕ) → length s ≡ 0 → false ≡ firstAmong "@/" s
-reservedMarks-nil [] h = refl
-reservedMarks-nil (x ∷ s) h = absurd (omega arith)
+pub sign-nil : (s : List ℕ) → length s ≡ 0 → false ≡ firstAmong "@" s
+sign-nil [] h = refl
+sign-nil (x ∷ s) h = absurd (omega arith)
 
-pub reservedMarks-head : (s : List ℕ) → (length s ≡ 0 → ⊥) → (eqb (getD s 0 0) 64 || eqb (getD s 0 0) 47) ≡ firstAmong "@/" s
+pub sign-head : (s : List ℕ) → (length s ≡ 0 → ⊥) → eqb (getD s 0 0) 64 ≡ firstAmong "@" s
 unfolding any
-reservedMarks-head s h = sym (firstAmong-head "@/" s h ∙ rw (Bool.or-false (eqb (getD s 0 0) 47)))
+sign-head s h = sym (firstAmong-head "@" s h ∙ Bool.or-false (eqb (getD s 0 0) 64))
 
-module _ (e : List ℕ) (x : Bool) (is-x : x ≡ firstAmong "@/" e) where
-  pub reservedStart-first : x ≡ true → true ≡ reservedStart e
-  unfolding reservedStart
-  reservedStart-first q = rw (← is-x, q)
+module _ (e : List ℕ) (x : Bool) (is-x : x ≡ firstAmong "@" e) where
+  pub clientReserved-first : x ≡ true → true ≡ clientReserved e
+  unfolding clientReserved
+  clientReserved-first q = rw (← is-x, q)
 
   module _ (nx : x ≡ false) (at : ℕ) (is-at : at ≡ atSign e) where
-    pub reservedStart-whole : at ≡ length e → false ≡ reservedStart e
-    unfolding reservedStart
-    reservedStart-whole h = rw (← is-x, nx, halves-none e at is-at h)
+    pub clientReserved-whole : at ≡ length e → false ≡ clientReserved e
+    unfolding clientReserved
+    clientReserved-whole h = rw (← is-x, nx, halves-none e at is-at h)
 
-    pub reservedStart-half : (at ≡ length e → ⊥) → (r : Bool) → r ≡ firstAmong "@/" (take (length e - (at + 1)) (drop (at + 1) e)) → r ≡ reservedStart e
-    unfolding reservedStart
-    reservedStart-half h r q = rw (← is-x, nx, halves-some e at is-at h) (q ∙ ap (firstAmong "@/") (take-rest e (at + 1)))
+    pub clientReserved-half : (at ≡ length e → ⊥) → (r : Bool) → r ≡ firstAmong "@" (take (length e - (at + 1)) (drop (at + 1) e)) → r ≡ clientReserved e
+    unfolding clientReserved
+    clientReserved-half h r q = rw (← is-x, nx, halves-some e at is-at h) (q ∙ ap (firstAmong "@") (take-rest e (at + 1)))
+
+module _ (e : List ℕ) (x : Bool) (is-x : x ≡ firstAmong "/" e) where
+  pub daemonReserved-slash : x ≡ true → true ≡ daemonReserved e
+  unfolding daemonReserved
+  daemonReserved-slash q = rw (← is-x, q)
+
+  pub daemonReserved-client : x ≡ false → (r : Bool) → r ≡ clientReserved e → r ≡ daemonReserved e
+  unfolding daemonReserved
+  daemonReserved-client q r k = rw (← is-x, q) k
+
+-- ## Tables
+
+pub slash-some : (t : List ℕ) (x : Bool) → x ≡ firstAmong "/" t → x ≡ true → 1 ≤ length t
+slash-some [] x is-x q = absurd (Bool.true≢false (sym q ∙ is-x))
+slash-some (y ∷ t) x is-x q = omega arith
+
+module _ (f : List ℕ → Naming) (t : List ℕ) where
+  pub naming-plain : (x : Bool) → x ≡ firstAmong "/" t → x ≡ false → N.Sound ≡ namingWith f (tableName t)
+  unfolding tableName
+  naming-plain x is-x q = rw (← is-x, q)
+
+  pub naming-slash : (x : Bool) → x ≡ firstAmong "/" t → x ≡ true → (n : List ℕ) → n ≡ take (length t - 1) (drop 1 t)
+      → (r : Naming) → r ≡ namingWith f (given (isTableName n) n) → r ≡ namingWith f (tableName t)
+  unfolding tableName
+  naming-slash x is-x q n is-n r k = rw (← is-x, q, ← (take-rest t 1), ← is-n) k
+
+module _ (f : List ℕ → Naming) (e : List ℕ) (at : ℕ) (is-at : at ≡ atSign e) (r : Naming) where
+  pub elementNaming-whole : at ≡ length e → r ≡ namingWith f (tableName e) → r ≡ elementNaming f e
+  unfolding elementNaming namedTable
+  elementNaming-whole h q = rw (halves-none e at is-at h) q
+
+  pub elementNaming-half : (at ≡ length e → ⊥) → r ≡ namingWith f (tableName (take (length e - (at + 1)) (drop (at + 1) e))) → r ≡ elementNaming f e
+  unfolding elementNaming namedTable
+  elementNaming-half h q = rw (halves-some e at is-at h) (q ∙ ap (λ (t : List ℕ). namingWith f (tableName t)) (take-rest e (at + 1)))
 
 -- ## Names
 
@@ -316,33 +353,61 @@ two-sound (some a) (some b) f = refl
 abbrev pub after : List ℕ → ℕ → List ℕ
 after e at = take (length e - (at + 1)) (drop (at + 1) e)
 
-module _ (e : List ℕ) (at : ℕ) (is-at : at ≡ atSign e) where
+module _ (m : Matcher) (e : List ℕ) (at : ℕ) (is-at : at ≡ atSign e) where
   module _ (h : at ≡ length e) where
-    pub daemonElement-whole : (r : Bool) → r ≡ isSome (daemonName e) → r ≡ isSome (daemonElement e)
+    pub daemonElement-whole : (r : Bool) → r ≡ isSome (daemonName e) → r ≡ isSome (daemonElement m e)
     unfolding daemonElement daemonParts
     daemonElement-whole r q = rw (halves-none e at is-at h) (q ∙ sym (one-sound (daemonName e) _))
 
-    pub clientElement-whole : (r : Bool) → r ≡ isSome (hostPattern e) → r ≡ isSome (clientElement e)
+    pub clientElement-whole : (r : Bool) → r ≡ isSome (patternWith m e) → r ≡ isSome (clientElement m e)
     unfolding clientElement clientParts
-    clientElement-whole r q = rw (halves-none e at is-at h) (q ∙ sym (one-sound (hostPattern e) _))
+    clientElement-whole r q = rw (halves-none e at is-at h) (q ∙ sym (one-sound (patternWith m e) _))
 
   module _ (h : at ≡ length e → ⊥) (x : Bool) where
     parted : halves e ≡ some (take at e, after e at)
     parted = halves-some e at is-at h ∙ ap (λ (s : List ℕ). some (take at e, s)) (sym (take-rest e (at + 1)))
 
-    pub daemonElement-both : isSome (daemonElement e) ≡ (isSome (daemonName (take at e)) && isSome (hostPattern (after e at)))
+    pub daemonElement-both : isSome (daemonElement m e) ≡ (isSome (daemonName (take at e)) && isSome (patternWith m (after e at)))
     unfolding daemonElement daemonParts
-    daemonElement-both = rw parted (two-sound (daemonName (take at e)) (hostPattern (after e at)) _)
+    daemonElement-both = rw parted (two-sound (daemonName (take at e)) (patternWith m (after e at)) _)
 
-    pub clientElement-both : isSome (clientElement e) ≡ (isSome (userHalf (take at e)) && isSome (hostPattern (after e at)))
+    pub clientElement-both : isSome (clientElement m e) ≡ (isSome (userHalf (take at e)) && isSome (patternWith m (after e at)))
     unfolding clientElement clientParts
-    clientElement-both = rw parted (two-sound (userHalf (take at e)) (hostPattern (after e at)) _)
+    clientElement-both = rw parted (two-sound (userHalf (take at e)) (patternWith m (after e at)) _)
+
+-- whether a text is an element needs no tables
+pattern-sound : (m k : Matcher) (e : List ℕ) → isSome (patternWith m e) ≡ isSome (patternWith k e)
+unfolding patternWith
+pattern-sound m k e = by (firstAmong "/" e) (tableName e)
+  where
+    by : (b : Bool) (o : Option (List ℕ)) → isSome (if b then (o >>= λ n. some (m n)) else hostPattern e) ≡ isSome (if b then (o >>= λ n. some (k n)) else hostPattern e)
+    by true none = refl
+    by true (some n) = refl
+    by false o = refl
+
+pub daemon-sound : (m k : Matcher) (e : List ℕ) → isSome (daemonElement m e) ≡ isSome (daemonElement k e)
+unfolding daemonElement daemonParts
+daemon-sound m k e = by (halves e)
+  where
+    by : (h : Option (List ℕ × List ℕ)) → isSome (daemonParts m e h) ≡ isSome (daemonParts k e h)
+    by none = refl
+    by (some p) = two-sound (daemonName (p .0)) (patternWith m (p .1)) _ ∙ ap (λ (b : Bool). isSome (daemonName (p .0)) && b) (pattern-sound m k (p .1))
+        ∙ sym (two-sound (daemonName (p .0)) (patternWith k (p .1)) _)
+
+pub client-sound : (m k : Matcher) (e : List ℕ) → isSome (clientElement m e) ≡ isSome (clientElement k e)
+unfolding clientElement clientParts
+client-sound m k e = by (halves e)
+  where
+    by : (h : Option (List ℕ × List ℕ)) → isSome (clientParts m e h) ≡ isSome (clientParts k e h)
+    by none = one-sound (patternWith m e) _ ∙ pattern-sound m k e ∙ sym (one-sound (patternWith k e) _)
+    by (some p) = two-sound (userHalf (p .0)) (patternWith m (p .1)) _ ∙ ap (λ (b : Bool). isSome (userHalf (p .0)) && b) (pattern-sound m k (p .1))
+        ∙ sym (two-sound (userHalf (p .0)) (patternWith k (p .1)) _)
 
 -- ## What an element finds
 
-module _ (e : List ℕ) (at : ℕ) (is-at : at ≡ atSign e) (d : List ℕ) (s : Endpoint) where
+module _ (m : Matcher) (e : List ℕ) (at : ℕ) (is-at : at ≡ atSign e) (d : List ℕ) (s : Endpoint) where
   pub daemon-found-whole : at ≡ length e → (x : Bool) → x ≡ holds (λ f. f d) (daemonName e) → (r : Found) → r ≡ foundIf x → r
-      ≡ lookAt (daemonRequest d s) (daemonElement e)
+      ≡ lookAt (daemonRequest d s) (daemonElement m e)
   unfolding daemonElement daemonParts
   daemon-found-whole h x q r k = rw (halves-none e at is-at h) (k ∙ ap foundIf q ∙ by (daemonName e))
     where
@@ -351,9 +416,9 @@ module _ (e : List ℕ) (at : ℕ) (is-at : at ≡ atSign e) (d : List ℕ) (s :
       by (some f) = refl
 
   module _ (h : at ≡ length e → ⊥) (x : Bool) (is-x : x ≡ holds (λ f. f d) (daemonName (take at e))) where
-    pub daemon-found-both : lookAt (daemonRequest d s) (daemonElement e) ≡ foundIf (x && hostMatches (after e at) s)
-    unfolding daemonElement daemonParts hostMatches
-    daemon-found-both = rw (parted e at is-at h x, is-x) (by (daemonName (take at e)) (hostPattern (after e at)))
+    pub daemon-found-both : lookAt (daemonRequest d s) (daemonElement m e) ≡ foundIf (x && matchesPattern (patternWith m (after e at)) s)
+    unfolding daemonElement daemonParts
+    daemon-found-both = rw (parted m e at is-at h x, is-x) (by (daemonName (take at e)) (patternWith m (after e at)))
       where
         by : (o : Option (List ℕ → Bool)) (p : Pattern)
             → lookAt (daemonRequest d s) (o >>= λ f. p >>= λ g. some (λ r. foundIf (f (r .daemon) && g (r .server))))
@@ -362,22 +427,22 @@ module _ (e : List ℕ) (at : ℕ) (is-at : at ≡ atSign e) (d : List ℕ) (s :
         by (some f) none = ap foundIf (sym (Bool.and-false (f d)))
         by (some f) (some g) = refl
 
-module _ (e : List ℕ) (at : ℕ) (is-at : at ≡ atSign e) (c : Endpoint) (u : User) (name : List ℕ) where
-  pub client-found-whole : at ≡ length e → (x : Bool) → x ≡ hostMatches e c → (r : Found) → r ≡ foundIf x → r
-      ≡ lookAt (clientRequest c u name) (clientElement e)
-  unfolding clientElement clientParts hostMatches
-  client-found-whole h x q r k = rw (halves-none e at is-at h) (k ∙ ap foundIf q ∙ by (hostPattern e))
+module _ (m : Matcher) (e : List ℕ) (at : ℕ) (is-at : at ≡ atSign e) (c : Endpoint) (u : User) (name : List ℕ) where
+  pub client-found-whole : at ≡ length e → (x : Bool) → x ≡ matchesPattern (patternWith m e) c → (r : Found) → r ≡ foundIf x → r
+      ≡ lookAt (clientRequest c u name) (clientElement m e)
+  unfolding clientElement clientParts
+  client-found-whole h x q r k = rw (halves-none e at is-at h) (k ∙ ap foundIf q ∙ by (patternWith m e))
     where
       by : (p : Pattern) → foundIf (matchesPattern p c) ≡ lookAt (clientRequest c u name) (p >>= λ g. some (λ r. foundIf (g (r .client))))
       by none = refl
       by (some g) = refl
 
-  module _ (h : at ≡ length e → ⊥) (x : Bool) (is-x : x ≡ hostMatches (after e at) c) where
-    pub client-found-both : lookAt (clientRequest c u name) (clientElement e) ≡ (if x then userFound (take at e) u name else No)
-    unfolding clientElement clientParts hostMatches
+  module _ (h : at ≡ length e → ⊥) (x : Bool) (is-x : x ≡ matchesPattern (patternWith m (after e at)) c) where
+    pub client-found-both : lookAt (clientRequest c u name) (clientElement m e) ≡ (if x then userFound (take at e) u name else No)
+    unfolding clientElement clientParts
     client-found-both =
-        rw (parted e at is-at h x, is-x, userFound-is (take at e) u name, ← (finds-same (take at e) (clientRequest c u name)))
-        (by (userHalf (take at e)) (hostPattern (after e at)))
+        rw (parted m e at is-at h x, is-x, userFound-is (take at e) u name, ← (finds-same (take at e) (clientRequest c u name)))
+        (by (userHalf (take at e)) (patternWith m (after e at)))
       where
         by : (o : Option (Request → Bool)) (p : Pattern)
             → lookAt (clientRequest c u name) (o >>= λ f. p >>= λ g. some (λ r. if g (r .client) then userCase r Ask (foundIf (f r)) (foundIf (f r)) else No))
@@ -394,9 +459,9 @@ module _ (e : List ℕ) (at : ℕ) (is-at : at ≡ atSign e) (c : Endpoint) (u :
 -- ## What elements look at
 
 -- a daemon element looks at the daemon and the server alone
-pub daemonElement-request : (q : Request) (e : List ℕ) → lookAt q (daemonElement e) ≡ lookAt (daemonRequest (q .daemon) (q .server)) (daemonElement e)
+pub daemonElement-request : (m : Matcher) (q : Request) (e : List ℕ) → lookAt q (daemonElement m e) ≡ lookAt (daemonRequest (q .daemon) (q .server)) (daemonElement m e)
 unfolding daemonElement daemonParts
-daemonElement-request q e = by (halves e)
+daemonElement-request m q e = by (halves e)
   where
     whole : (o : Option (List ℕ → Bool)) → lookAt q (o >>= λ f. some (λ r. foundIf (f (r .daemon))))
         ≡ lookAt (daemonRequest (q .daemon) (q .server)) (o >>= λ f. some (λ r. foundIf (f (r .daemon))))
@@ -409,15 +474,15 @@ daemonElement-request q e = by (halves e)
     both (some f) none = refl
     both (some f) (some g) = refl
 
-    by : (h : Option (List ℕ × List ℕ)) → lookAt q (daemonParts e h) ≡ lookAt (daemonRequest (q .daemon) (q .server)) (daemonParts e h)
+    by : (h : Option (List ℕ × List ℕ)) → lookAt q (daemonParts m e h) ≡ lookAt (daemonRequest (q .daemon) (q .server)) (daemonParts m e h)
     by none = whole (daemonName e)
-    by (some p) = both (daemonName (p .0)) (hostPattern (p .1))
+    by (some p) = both (daemonName (p .0)) (patternWith m (p .1))
 
 -- a client element looks at the client and the user alone
-pub clientElement-request : (q : Request) (e : List ℕ) → lookAt q (clientElement e)
-    ≡ lookAt (clientRequest (q .client) (q .user) (q .userName)) (clientElement e)
+pub clientElement-request : (m : Matcher) (q : Request) (e : List ℕ) → lookAt q (clientElement m e)
+    ≡ lookAt (clientRequest (q .client) (q .user) (q .userName)) (clientElement m e)
 unfolding clientElement clientParts
-clientElement-request q e = by (halves e)
+clientElement-request m q e = by (halves e)
   where
     r : Request
     r = clientRequest (q .client) (q .user) (q .userName)
@@ -433,9 +498,9 @@ clientElement-request q e = by (halves e)
     both (some f) none k = refl
     both (some f) (some g) k = ap (λ (z : Found). if g (q .client) then z else No) k
 
-    by : (h : Option (List ℕ × List ℕ)) → lookAt q (clientParts e h) ≡ lookAt r (clientParts e h)
-    by none = whole (hostPattern e)
-    by (some p) = both (userHalf (p .0)) (hostPattern (p .1)) (finds-same (p .0) q ∙ sym (finds-same (p .0) r))
+    by : (h : Option (List ℕ × List ℕ)) → lookAt q (clientParts m e h) ≡ lookAt r (clientParts m e h)
+    by none = whole (patternWith m e)
+    by (some p) = both (userHalf (p .0)) (patternWith m (p .1)) (finds-same (p .0) q ∙ sym (finds-same (p .0) r))
 
 -- ## Sizes
 

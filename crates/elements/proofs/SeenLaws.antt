@@ -3,24 +3,31 @@
 use Prim.Native.Nat.{ℕ, suc, _-_, _<_, _≤_}
 use mathlib.Core.Bool.{Bool, true, false, not, _&&_, and-assoc, and-false, and-true as and-true-r, true≢false}
 use mathlib.Core.List.{List, [], _∷_}
-use mathlib.Core.Option.{none}
+use mathlib.Core.Option.{none, some}
 use mathlib.Core.Path.{_≡_, refl, sym, ap, ap₂, _∙_}
 use native.Mathlib.Numerals.{add-one}
 use native.Mathlib.Omega.{arith}
 use borrow.Author.Tests.{eqb-true, eq-eqb, not-true}
 use lib.Bits.{bitAnd}
 use lib.Dec.{eqb, leb, ltb}
-use lib.ListN.{length, take}
-use Rattle.text.specs.Basics.{if_then_else_, holds, isSome, any, all}
+use lib.ListN.{length, take, drop}
+use Rattle.text.specs.Basics.{if_then_else_, _>>=_, given, holds, isSome, any, all}
 use Rattle.text.specs.Text.{firstAmong, equalFold}
 use Rattle.text.specs.Scan.{spanLen, indexOf}
 use Rattle.text.proofs.BasicLaws.{and-true}
+use Rattle.text.proofs.ScanLaws.{take-rest}
 use Rattle.patterns.specs.declared.HostSeen.{HostSeen}
 use Rattle.patterns.specs.declared.pattern.Wildcard.{Wildcard}
 use Rattle.patterns.specs.declared.pattern.Wildcard.the-variants as W
 use Rattle.patterns.specs.Host.{Endpoint}
-use Rattle.patterns.specs.Pattern.{isNameByte, hostPattern}
-use Rattle.patterns.specs.Code.{Named, wordSize, wildcardOf, matchesPattern, hostMatches, hostSeen, patternSeen}
+use Rattle.patterns.specs.Pattern.{Pattern, isNameByte, hostPattern}
+use Rattle.tables.specs.Table.{Matcher, isTableName, tableName, patternWith}
+use Rattle.tables.specs.Code.{tablesIn}
+use Rattle.views.specs.declared.Naming.{Naming}
+use Rattle.views.specs.declared.Naming.the-variants as N
+use Rattle.views.specs.declared.Reference.{Reference}
+use Rattle.views.specs.View.{notedMatch, namingOf, referenceOf}
+use Rattle.patterns.specs.Code.{Named, wordSize, wildcardOf, matchesPattern, hostSeen, patternSeen}
 use Rattle.patterns.proofs.PatternLaws.{wildcardOf-sized}
 use Rattle.classes.specs.Class.{Describes}
 use Rattle.elements.specs.declared.User.{User}
@@ -29,9 +36,11 @@ use Rattle.elements.specs.declared.Found.the-variants.{No}
 use Rattle.elements.specs.declared.element.ElementFault.{ElementFault}
 use Rattle.elements.specs.declared.element.KindSeen.{KindSeen}
 use Rattle.elements.specs.Request.{Request}
-use Rattle.elements.specs.Element.{Element, reservedStart, daemonName, userHalf, foundIf, daemonElement, clientElement, lookAt}
+use Rattle.elements.specs.Element.{Element, clientReserved, daemonReserved, daemonName, userHalf, foundIf, daemonElement, clientElement, lookAt}
+use Rattle.elements.specs.Code.{View, Kind, noted, tableSeen, namingWith, elementNaming, daemonKind, clientKind}
 use Rattle.elements.specs.Code.{atSign, nameFits, nameEquals, daemonSeen, userFound, daemonRequest, clientRequest, faultOf, elementFault, sought, kindSeen, elementSeen}
-use Rattle.elements.proofs.ElementLaws.{reservedStart-whole, daemonAt, daemonName-is, isSome-daemonAt, daemonAt-equals, after}
+use Rattle.elements.proofs.ElementLaws.{clientReserved-whole, daemonReserved-client, elementNaming-whole, naming-plain}
+use Rattle.elements.proofs.ElementLaws.{daemonAt, daemonName-is, isSome-daemonAt, daemonAt-equals, after}
 use Rattle.elements.proofs.ElementLaws.{daemonElement-whole, clientElement-whole, daemonElement-both, clientElement-both}
 use Rattle.elements.proofs.ElementLaws.{daemon-found-whole, client-found-whole, daemon-found-both, client-found-both}
 
@@ -113,69 +122,69 @@ foundIf-sought : (look x : Bool) → foundIf (look && x) ≡ sought look (foundI
 foundIf-sought true x = refl
 foundIf-sought false x = refl
 
-module _ (e : List ℕ) (at : ℕ) (is-at : at ≡ atSign e) (look : Bool) (d : List ℕ) (s : Endpoint) (n : HostSeen) where
+module _ (m : Matcher) (e : List ℕ) (at : ℕ) (is-at : at ≡ atSign e) (look : Bool) (d : List ℕ) (s : Endpoint) (n : HostSeen) where
   pub daemonKind-whole : at ≡ length e → n ≡ daemonSeen look (daemonName e) d → (f : Found) → f ≡ foundIf (n .matches)
-      → kind (n .sound) f ≡ kindSeen look (daemonRequest d s) (daemonElement e)
+      → kind (n .sound) f ≡ kindSeen look (daemonRequest d s) (daemonElement m e)
   unfolding daemonSeen kindSeen
   daemonKind-whole h is-n f is-f = ap₂ kind
-      (daemonElement-whole e at is-at h (n .sound) (ap (λ (x : HostSeen). x .sound) is-n))
+      (daemonElement-whole m e at is-at h (n .sound) (ap (λ (x : HostSeen). x .sound) is-n))
       (is-f ∙ ap (λ (x : HostSeen). foundIf (x .matches)) is-n ∙ foundIf-sought look (holds (λ f. f d) (daemonName e))
-      ∙ ap (sought look) (daemon-found-whole e at is-at d s h (holds (λ f. f d) (daemonName e)) refl (foundIf (holds (λ f. f d) (daemonName e))) refl))
+      ∙ ap (sought look) (daemon-found-whole m e at is-at d s h (holds (λ f. f d) (daemonName e)) refl (foundIf (holds (λ f. f d) (daemonName e))) refl))
 
   pub daemonKind-halves : at < length e → n ≡ daemonSeen look (daemonName (take at e)) d → (g : HostSeen) → g
-      ≡ patternSeen (n .matches) (hostPattern (after e at)) s
-      → (f : Found) → f ≡ foundIf (g .matches) → kind (n .sound && g .sound) f ≡ kindSeen look (daemonRequest d s) (daemonElement e)
-  unfolding daemonSeen kindSeen patternSeen hostMatches
+      ≡ patternSeen (n .matches) (patternWith m (after e at)) s
+      → (f : Found) → f ≡ foundIf (g .matches) → kind (n .sound && g .sound) f ≡ kindSeen look (daemonRequest d s) (daemonElement m e)
+  unfolding daemonSeen kindSeen patternSeen
   daemonKind-halves h is-n g is-g f is-f =
       let parted : at ≡ length e → ⊥ = λ q. omega arith in
       let x : Bool = holds (λ f. f d) (daemonName (take at e)) in
-      let y : Bool = matchesPattern (hostPattern (after e at)) s in
+      let y : Bool = matchesPattern (patternWith m (after e at)) s in
       ap₂ kind
-      (ap₂ _&&_ (ap (λ (z : HostSeen). z .sound) is-n) (ap (λ (z : HostSeen). z .sound) is-g) ∙ sym (daemonElement-both e at is-at parted x))
+      (ap₂ _&&_ (ap (λ (z : HostSeen). z .sound) is-n) (ap (λ (z : HostSeen). z .sound) is-g) ∙ sym (daemonElement-both m e at is-at parted x))
       (is-f ∙ ap (λ (z : HostSeen). foundIf (z .matches)) is-g ∙ ap (λ (z : HostSeen). foundIf (z .matches && y)) is-n ∙ ap foundIf (and-assoc look x y)
-      ∙ foundIf-sought look (x && y) ∙ ap (sought look) (sym (daemon-found-both e at is-at d s parted x refl)))
+      ∙ foundIf-sought look (x && y) ∙ ap (sought look) (sym (daemon-found-both m e at is-at d s parted x refl)))
 
-module _ (e : List ℕ) (at : ℕ) (is-at : at ≡ atSign e) (look : Bool) (c : Endpoint) (u : User) (name : List ℕ) (g : HostSeen) where
-  pub clientKind-whole : at ≡ length e → g ≡ patternSeen look (hostPattern e) c → (f : Found) → f ≡ foundIf (g .matches)
-      → kind (g .sound) f ≡ kindSeen look (clientRequest c u name) (clientElement e)
-  unfolding patternSeen kindSeen hostMatches
+module _ (m : Matcher) (e : List ℕ) (at : ℕ) (is-at : at ≡ atSign e) (look : Bool) (c : Endpoint) (u : User) (name : List ℕ) (g : HostSeen) where
+  pub clientKind-whole : at ≡ length e → g ≡ patternSeen look (patternWith m e) c → (f : Found) → f ≡ foundIf (g .matches)
+      → kind (g .sound) f ≡ kindSeen look (clientRequest c u name) (clientElement m e)
+  unfolding patternSeen kindSeen
   clientKind-whole h is-g f is-f = ap₂ kind
-      (clientElement-whole e at is-at h (g .sound) (ap (λ (x : HostSeen). x .sound) is-g))
-      (is-f ∙ ap (λ (x : HostSeen). foundIf (x .matches)) is-g ∙ foundIf-sought look (matchesPattern (hostPattern e) c)
-      ∙ ap (sought look) (client-found-whole e at is-at c u name h (matchesPattern (hostPattern e) c) refl (foundIf (matchesPattern (hostPattern e) c)) refl))
+      (clientElement-whole m e at is-at h (g .sound) (ap (λ (x : HostSeen). x .sound) is-g))
+      (is-f ∙ ap (λ (x : HostSeen). foundIf (x .matches)) is-g ∙ foundIf-sought look (matchesPattern (patternWith m e) c)
+      ∙ ap (sought look) (client-found-whole m e at is-at c u name h (matchesPattern (patternWith m e) c) refl (foundIf (matchesPattern (patternWith m e) c)) refl))
 
-  module _ (h : at < length e) (is-g : g ≡ patternSeen look (hostPattern (after e at)) c) (x : Bool) (is-x : x ≡ isSome (userHalf (take at e))) where
+  module _ (h : at < length e) (is-g : g ≡ patternSeen look (patternWith m (after e at)) c) (x : Bool) (is-x : x ≡ isSome (userHalf (take at e))) where
     parted : at ≡ length e → ⊥
     parted q = omega arith
 
-    sound : (x && g .sound) ≡ isSome (clientElement e)
+    sound : (x && g .sound) ≡ isSome (clientElement m e)
     unfolding patternSeen
-    sound = ap₂ _&&_ is-x (ap (λ (z : HostSeen). z .sound) is-g) ∙ sym (clientElement-both e at is-at parted x)
+    sound = ap₂ _&&_ is-x (ap (λ (z : HostSeen). z .sound) is-g) ∙ sym (clientElement-both m e at is-at parted x)
 
-    found : sought look (lookAt (clientRequest c u name) (clientElement e)) ≡ (if g .matches then userFound (take at e) u name else No)
-    unfolding patternSeen hostMatches
+    found : sought look (lookAt (clientRequest c u name) (clientElement m e)) ≡ (if g .matches then userFound (take at e) u name else No)
+    unfolding patternSeen
     found =
-        ap (sought look) (client-found-both e at is-at c u name parted (matchesPattern (hostPattern (after e at)) c) refl)
-        ∙ by look (matchesPattern (hostPattern (after e at)) c) ∙ sym (ap (λ (z : HostSeen). if z .matches then userFound (take at e) u name else No) is-g)
+        ap (sought look) (client-found-both m e at is-at c u name parted (matchesPattern (patternWith m (after e at)) c) refl)
+        ∙ by look (matchesPattern (patternWith m (after e at)) c) ∙ sym (ap (λ (z : HostSeen). if z .matches then userFound (take at e) u name else No) is-g)
       where
         by : (l m : Bool) → sought l (if m then userFound (take at e) u name else No) ≡ (if l && m then userFound (take at e) u name else No)
         by true m = refl
         by false m = refl
 
     pub clientKind-matched : g .matches ≡ true → (f : Found) → f ≡ userFound (take at e) u name
-        → kind (x && g .sound) f ≡ kindSeen look (clientRequest c u name) (clientElement e)
+        → kind (x && g .sound) f ≡ kindSeen look (clientRequest c u name) (clientElement m e)
     unfolding kindSeen
     clientKind-matched m f is-f = ap₂ kind sound (is-f ∙ sym (found ∙ rw m))
 
-    pub clientKind-missed : g .matches ≡ false → kind (x && g .sound) No ≡ kindSeen look (clientRequest c u name) (clientElement e)
+    pub clientKind-missed : g .matches ≡ false → kind (x && g .sound) No ≡ kindSeen look (clientRequest c u name) (clientElement m e)
     unfolding kindSeen
     clientKind-missed m = ap₂ kind sound (sym (found ∙ rw m))
 
-pub elementSeen-is : (look : Bool) (q : Request) (of : List ℕ → Element) (e : List ℕ) (k : KindSeen) → k ≡ kindSeen look q (of e)
-    → (x : Bool) → x ≡ reservedStart e → (f : ElementFault) → f ≡ faultOf x (k .sound)
+pub elementSeen-is : (look : Bool) (q : Request) (of : Kind) (e : List ℕ) (k : KindSeen) → k ≡ kindSeen look q (of .element e)
+    → (x : Bool) → x ≡ of .reserved e → (n : Naming) → n ≡ of .naming e → (f : ElementFault) → f ≡ faultOf x (k .sound) n
     → record { fault = f; found = k .found } ≡ elementSeen look q of e
 unfolding elementSeen elementFault kindSeen
-elementSeen-is look q of e k is-k x is-x f is-f = rw (is-f, is-x, is-k)
+elementSeen-is look q of e k is-k x is-x n is-n f is-f = rw (is-f, is-x, is-n, is-k)
 
 pub found-kind : (q : Request) (o : Element) (r : KindSeen) → r ≡ kindSeen true q o → r .found ≡ lookAt q o
 unfolding kindSeen
@@ -208,38 +217,106 @@ names-signless [] h = refl
 names-signless (x ∷ t) h =
     rw (name-other x 64 refl (and-true (isNameByte x) (all isNameByte t) h .0)) (names-signless t (and-true (isNameByte x) (all isNameByte t) h .1))
 
--- an element of name bytes is whole, and not reserved
+-- an element of name bytes is whole, begins with no slash, and is not reserved
 module _ (e : List ℕ) (h : all isNameByte e ≡ true) where
   whole : length e ≡ atSign e
   whole = atSign-none e (names-signless e h)
 
-  unreserved : false ≡ reservedStart e
+  slashless : firstAmong "/" e ≡ false
   unfolding all any isNameByte
-  unreserved = reservedStart-whole e false (by e h) refl (length e) whole refl
+  slashless = by e h
     where
-      by : (e : List ℕ) → all isNameByte e ≡ true → false ≡ firstAmong "@/" e
+      by : (e : List ℕ) → all isNameByte e ≡ true → firstAmong "/" e ≡ false
       by [] h = refl
-      by (x ∷ t) h =
-          let first : isNameByte x ≡ true = and-true (isNameByte x) (all isNameByte t) h .0 in
-          sym (rw (name-other x 64 refl first, name-other x 47 refl first))
+      by (x ∷ t) h = rw (name-other x 47 refl (and-true (isNameByte x) (all isNameByte t) h .0))
 
-pub named-client : (e : List ℕ) → Named e → (look : Bool) (c : Endpoint) (u : User) (name : List ℕ) (g : HostSeen) → g ≡ patternSeen look (hostPattern e) c
-    → (f : ElementFault) → f ≡ faultOf false (g .sound) → (x : Found) → x ≡ foundIf (g .matches)
-    → record { fault = f; found = x } ≡ elementSeen look (clientRequest c u name) clientElement e
-named-client e h look c u name g is-g f is-f x is-x =
-    elementSeen-is look (clientRequest c u name) clientElement e (kind (g .sound) x)
-    (clientKind-whole e (length e) (whole e (h .names)) look c u name g refl is-g x is-x) false (unreserved e (h .names)) f is-f
+  client-unreserved : false ≡ clientReserved e
+  unfolding all any isNameByte
+  client-unreserved = clientReserved-whole e false (by e h) refl (length e) whole refl
+    where
+      by : (e : List ℕ) → all isNameByte e ≡ true → false ≡ firstAmong "@" e
+      by [] h = refl
+      by (x ∷ t) h = sym (rw (name-other x 64 refl (and-true (isNameByte x) (all isNameByte t) h .0)))
+
+  daemon-unreserved : false ≡ daemonReserved e
+  daemon-unreserved = daemonReserved-client e false (sym slashless) refl false client-unreserved
+
+  names-none : (f : List ℕ → Naming) → N.Sound ≡ elementNaming f e
+  names-none f = elementNaming-whole f e (length e) whole N.Sound refl (naming-plain f e false (sym slashless) refl)
+
+  plain-pattern : (m : Matcher) → patternWith m e ≡ hostPattern e
+  unfolding patternWith
+  plain-pattern m = rw slashless
+
+pub named-client : (v : View) (e : List ℕ) → Named e → (look : Bool) (c : Endpoint) (u : User) (name : List ℕ) (g : HostSeen)
+    → g ≡ patternSeen look (hostPattern e) c → (f : ElementFault) → f ≡ faultOf false (g .sound) N.Sound → (x : Found) → x ≡ foundIf (g .matches)
+    → record { fault = f; found = x } ≡ elementSeen look (clientRequest c u name) (clientKind v) e
+named-client v e h look c u name g is-g f is-f x is-x =
+    let is-with : g ≡ patternSeen look (patternWith (v .client) e) c = is-g ∙ ap (λ (p : Pattern). patternSeen look p c) (sym (plain-pattern e (h .names) (v .client))) in
+    elementSeen-is look (clientRequest c u name) (clientKind v) e (kind (g .sound) x)
+    (clientKind-whole (v .client) e (length e) (whole e (h .names)) look c u name g refl is-with x is-x) false (client-unreserved e (h .names))
+    N.Sound (names-none e (h .names) (v .naming)) f is-f
 
 -- a daemon element that is told to be a name: x says whether it is as long as a wildcard
-module _ (m : ℕ) (e : List ℕ) (h : Describes m e) (x : Bool) (is-x : x ≡ wordSize (length e)) (t : (not x && ltb m 8) ≡ true) where
+module _ (k : ℕ) (e : List ℕ) (h : Describes k e) (x : Bool) (is-x : x ≡ wordSize (length e)) (t : (not x && ltb k 8) ≡ true) where
   pub names-described : true ≡ all isNameByte e
-  names-described = sym (and-true (not x) (ltb m 8) t .1) ∙ h .names
+  names-described = sym (and-true (not x) (ltb k 8) t .1) ∙ h .names
 
-  pub named-daemon : (look : Bool) (d : List ℕ) (s : Endpoint) (g : HostSeen) → g ≡ hostSeen (nameFits e) (look && nameEquals e d)
-      → (f : ElementFault) → f ≡ faultOf false (g .sound) → (y : Found) → y ≡ foundIf (g .matches)
-      → record { fault = f; found = y } ≡ elementSeen look (daemonRequest d s) daemonElement e
-  named-daemon look d s g is-g f is-f y is-y =
-      let nothing : wildcardOf e ≡ W.Nothing = sym (wildcardOf-sized e x is-x (and-true (not x) (ltb m 8) t .0)) in
-      elementSeen-is look (daemonRequest d s) daemonElement e (kind (g .sound) y)
-      (daemonKind-whole e (length e) (whole e (sym names-described)) look d s g refl (daemonSeen-name e d look (wildcardOf e) refl g nothing is-g) y is-y)
-      false (unreserved e (sym names-described)) f is-f
+  pub named-daemon : (v : View) (look : Bool) (d : List ℕ) (s : Endpoint) (g : HostSeen) → g ≡ hostSeen (nameFits e) (look && nameEquals e d)
+      → (f : ElementFault) → f ≡ faultOf false (g .sound) N.Sound → (y : Found) → y ≡ foundIf (g .matches)
+      → record { fault = f; found = y } ≡ elementSeen look (daemonRequest d s) (daemonKind v) e
+  named-daemon v look d s g is-g f is-f y is-y =
+      let nothing : wildcardOf e ≡ W.Nothing = sym (wildcardOf-sized e x is-x (and-true (not x) (ltb k 8) t .0)) in
+      let names : all isNameByte e ≡ true = sym names-described in
+      elementSeen-is look (daemonRequest d s) (daemonKind v) e (kind (g .sound) y)
+      (daemonKind-whole (v .server) e (length e) (whole e names) look d s g refl (daemonSeen-name e d look (wildcardOf e) refl g nothing is-g) y is-y)
+      false (daemon-unreserved e names) N.Sound (names-none e names (v .naming)) f is-f
+
+-- ## Host halves
+
+module _ (look : Bool) (k : ℕ) (tables notes e : List ℕ) where
+  -- the name test and, where it is looked at, what the notes say
+  module _ (y : Bool) (is-y : y ≡ isTableName (take (length e - 1) (drop 1 e))) where
+    name : isTableName (drop 1 e) ≡ y
+    name = ap isTableName (sym (take-rest e 1)) ∙ sym is-y
+
+    pub table-looked : (look && y) ≡ true → (r : Reference) → r ≡ referenceOf k (tablesIn tables) notes (take (length e - 1) (drop 1 e))
+        → hostSeen y (r .matches) ≡ tableSeen look k tables notes e
+    unfolding referenceOf
+    table-looked h r is-r =
+        let both : (look ≡ true) × (y ≡ true) = and-true look y h in
+        let m : r .matches ≡ notedMatch k (tablesIn tables) notes (drop 1 e) =
+        ap (λ (x : Reference). x .matches) is-r ∙ ap (notedMatch k (tablesIn tables) notes) (take-rest e 1) in
+        ap₂ hostSeen (sym name) (m ∙ sym (rw (name, both .0, both .1)))
+
+    pub table-passed : (look && y) ≡ false → hostSeen y false ≡ tableSeen look k tables notes e
+    table-passed h = ap₂ hostSeen (sym name) (by look y (notedMatch k (tablesIn tables) notes (drop 1 e)) h ∙ sym (rw name))
+      where
+        by : (l s q : Bool) → (l && s) ≡ false → false ≡ (l && (s && q))
+        by false s q z = refl
+        by true true q z = absurd (true≢false z)
+        by true false q z = refl
+
+  module _ (h : Endpoint) (x : Bool) (is-x : x ≡ firstAmong "/" e) (r : HostSeen) where
+    pub half-table : x ≡ true → r ≡ tableSeen look k tables notes e → r ≡ patternSeen look (patternWith (noted k tables notes) e) h
+    unfolding patternSeen patternWith tableName noted
+    half-table q is-r = is-r ∙ sym (rw (← is-x, q) (by (isTableName (drop 1 e))))
+      where
+        by : (b : Bool) → patternSeen look (given b (drop 1 e) >>= λ n. some (noted k tables notes n)) h
+            ≡ hostSeen b (look && (b && notedMatch k (tablesIn tables) notes (drop 1 e)))
+        by true = refl
+        by false = refl
+
+    pub half-plain : x ≡ false → r ≡ patternSeen look (hostPattern e) h → r ≡ patternSeen look (patternWith (noted k tables notes) e) h
+    unfolding patternWith
+    half-plain q is-r = is-r ∙ sym (rw (← is-x, q))
+
+-- a reference that is looked up tells how the table is named
+module _ (k : ℕ) (tables notes n : List ℕ) (y : Bool) (is-y : y ≡ isTableName n) where
+  pub naming-looked : y ≡ true → (r : Reference) → r ≡ referenceOf k (tablesIn tables) notes n
+      → r .naming ≡ namingWith (namingOf (tablesIn tables) notes) (given (isTableName n) n)
+  unfolding referenceOf
+  naming-looked q r is-r = rw (← is-y, q) (ap (λ (z : Reference). z .naming) is-r)
+
+  pub naming-unnamed : y ≡ false → N.Sound ≡ namingWith (namingOf (tablesIn tables) notes) (given (isTableName n) n)
+  naming-unnamed q = rw (← is-y, q)

@@ -1,5 +1,7 @@
 -- Elements as the code reads them: what the contracts of functions that are called by others cite. Nothing here needs to be believed for
 -- the meaning of document 01: its words are those of Request and Element.
+--   viewOf tables notes          == what the notes on the tables say: what a named table matches, and whether it may be named
+--   Kind                         == a kind of list: which of its elements are reserved, what they find, and how they name tables
 --   elementFault kind e          == what is wrong with e as an element of that kind
 --   daemonRequest, clientRequest == a request by what the elements of a list look at
 --   elementSeen look q kind e    == what is wrong with e and, if it is looked at, what it finds of the request q
@@ -11,17 +13,22 @@
 use Prim.Native.Nat.{ℕ, _+_}
 use mathlib.Core.Bool.{Bool, true, false, _&&_}
 use mathlib.Core.List.{List, [], _∷_}
-use mathlib.Core.Option.{Option}
-use lib.ListN.{length}
+use mathlib.Core.Option.{Option, none, some}
+use lib.ListN.{length, drop}
 use Rattle.text.specs.Basics.{if_then_else_, holds, isSome, all}
 use Rattle.text.specs.Text.{inRange, equalFold}
 use Rattle.text.specs.Scan.{indexOf}
 use Rattle.address.specs.declared.Addr.the-variants as A
-use Rattle.patterns.specs.declared.Name.the-variants as N
+use Rattle.patterns.specs.declared.Name.the-variants as Name
 use Rattle.patterns.specs.Host.{Endpoint, endpoint}
 use Rattle.patterns.specs.Pattern.{isNameByte}
 use Rattle.patterns.specs.declared.HostSeen.{HostSeen}
 use Rattle.patterns.specs.Code.{hostSeen}
+use Rattle.tables.specs.Table.{Matcher, isTableName}
+use Rattle.tables.specs.Code.{tablesIn}
+use Rattle.views.specs.declared.Naming.{Naming}
+use Rattle.views.specs.declared.Naming.the-variants as N
+use Rattle.views.specs.View.{namingOf, notedMatch}
 use Rattle.elements.specs.declared.User.{User}
 use Rattle.elements.specs.declared.User.the-variants as U
 use Rattle.elements.specs.declared.Found.{Found}
@@ -32,14 +39,60 @@ use Rattle.elements.specs.declared.element.KindSeen.{KindSeen}
 use Rattle.elements.specs.declared.element.ElementFault.the-variants as E
 use Rattle.elements.specs.declared.request.Request.{Request as Places}
 use Rattle.elements.specs.Request.{Request, requestOf, userCase, heldHost}
-use Rattle.elements.specs.Element.{Element, foundIf, reservedStart, userHalf, lookAt}
+use Rattle.elements.specs.Element.{Element, foundIf, clientReserved, daemonReserved, namedTable, userHalf, daemonElement, clientElement, lookAt}
 
--- what is wrong with an element of a kind of list
-abbrev pub faultOf : Bool → Bool → ElementFault
-faultOf reserved sound = if reserved then E.Reserved else if sound then E.Sound else E.Unknown
+-- what a named table matches by the word k of the notes
+unfoldable pub noted : ℕ → List ℕ → List ℕ → Matcher
+noted k tables notes n h = notedMatch k (tablesIn tables) notes n
 
-unfoldable pub elementFault : (List ℕ → Element) → List ℕ → ElementFault
-elementFault kind e = faultOf (reservedStart e) (isSome (kind e))
+pub record View : Type 0 where
+  pub server : Matcher
+  pub client : Matcher
+  pub naming : List ℕ → Naming
+
+abbrev pub viewOf : List ℕ → List ℕ → View
+viewOf tables notes = record {
+  server = noted 1 tables notes;
+  client = noted 0 tables notes;
+  naming = namingOf (tablesIn tables) notes;
+}
+
+-- whether e, which begins with a slash, names a table and, if it is looked at, whether that matches
+abbrev pub tableSeen : Bool → ℕ → List ℕ → List ℕ → List ℕ → HostSeen
+tableSeen look k tables notes e = let n : List ℕ = drop 1 e in
+    hostSeen (isTableName n) (look && (isTableName n && notedMatch k (tablesIn tables) notes n))
+
+-- how an element names a table; sound where it names none
+abbrev pub namingWith : (List ℕ → Naming) → Option (List ℕ) → Naming
+namingWith f none = N.Sound
+namingWith f (some n) = f n
+
+unfoldable pub elementNaming : (List ℕ → Naming) → List ℕ → Naming
+elementNaming f e = namingWith f (namedTable e)
+
+-- the two kinds of lists
+pub record Kind : Type 0 where
+  pub reserved : List ℕ → Bool
+  pub element : List ℕ → Element
+  pub naming : List ℕ → Naming
+
+abbrev pub daemonKind : View → Kind
+daemonKind v = record { reserved = daemonReserved; element = daemonElement (v .server); naming = elementNaming (v .naming) }
+
+abbrev pub clientKind : View → Kind
+clientKind v = record { reserved = clientReserved; element = clientElement (v .client); naming = elementNaming (v .naming) }
+
+-- what is wrong with an element: 9 before 10, and these before what is wrong with the table that it names
+abbrev pub misnamed : Naming → ElementFault
+misnamed N.Sound = E.Sound
+misnamed N.Missing = E.Missing
+misnamed N.Deep = E.Deep
+
+abbrev pub faultOf : Bool → Bool → Naming → ElementFault
+faultOf reserved sound naming = if reserved then E.Reserved else if sound then misnamed naming else E.Unknown
+
+unfoldable pub elementFault : Kind → List ℕ → ElementFault
+elementFault kind e = faultOf (kind .reserved e) (isSome (kind .element e)) (kind .naming e)
 
 -- what an element finds, if it is looked at
 abbrev pub sought : Bool → Found → Found
@@ -48,12 +101,12 @@ sought look f = if look then f else No
 unfoldable pub kindSeen : Bool → Request → Element → KindSeen
 kindSeen look q o = record { sound = isSome o; found = sought look (lookAt q o) }
 
-unfoldable pub elementSeen : Bool → Request → (List ℕ → Element) → List ℕ → ElementSeen
-elementSeen look q kind e = record { fault = elementFault kind e; found = sought look (lookAt q (kind e)) }
+unfoldable pub elementSeen : Bool → Request → Kind → List ℕ → ElementSeen
+elementSeen look q kind e = record { fault = elementFault kind e; found = sought look (lookAt q (kind .element e)) }
 
 -- a request by what the elements of a daemon list, or of a client list, look at
 abbrev pub nobody : Endpoint
-nobody = endpoint (record { name = N.Unknown; addr = A.Unknown }) []
+nobody = endpoint (record { name = Name.Unknown; addr = A.Unknown }) []
 
 abbrev pub daemonRequest : List ℕ → Endpoint → Request
 daemonRequest d s = requestOf d nobody s U.NotFetched []

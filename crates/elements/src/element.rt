@@ -13,28 +13,36 @@ use patterns::pattern::is_name;
 use patterns::pattern::is_word_size;
 use patterns::pattern::named_seen;
 use patterns::pattern::read_wildcard;
+use tables::word::has_slash;
+use tables::word::is_table_name;
 use text::equal_fold;
+use views::Naming;
+use views::look_up;
 ghost use mathlib.Core.Path.{_≡_};
 ghost use mathlib.Core.Bool.{true, false, _&&_};
 ghost use mathlib.Core.List.{[]};
 ghost use Prim.Native.Nat.{_≤_, _<_};
 ghost use lib.ListN.{length};
-ghost use Rattle.text.specs.Basics.{isSome, all};
+ghost use Rattle.text.specs.Basics.{isSome, all, given};
 ghost use Rattle.text.specs.Text.{firstAmong, inRange};
 ghost use Rattle.patterns.specs.Host.{endpoint, nameCase};
 ghost use Rattle.patterns.specs.Pattern.{isNameByte};
-ghost use Rattle.patterns.specs.Code.{hostSeen};
+ghost use Rattle.patterns.specs.Code.{isDottedByte, hostSeen, patternSeen};
+ghost use Rattle.tables.specs.Table.{isTableName, tableName, patternWith};
 ghost use Rattle.classes.specs.Class.{Describes};
 ghost use Rattle.elements.specs.Request.{requestOf, wellFormed};
-ghost use Rattle.elements.specs.Element.{reservedStart, foundIf, daemonName, userHalf, daemonElement, clientElement, lookAt};
+ghost use Rattle.elements.specs.Element.{clientReserved, daemonReserved, foundIf, daemonName, userHalf, daemonElement, clientElement, lookAt};
+ghost use Rattle.elements.specs.Code.{viewOf, noted, tableSeen, namingWith, elementNaming, daemonKind, clientKind, misnamed};
 ghost use Rattle.elements.specs.Code.{faultOf, kindSeen, elementSeen, daemonSeen, daemonRequest, clientRequest};
 ghost use Rattle.elements.specs.Code.{atSign, nameFits, nameEquals, askIf, userTest, userFound, userFits};
 
-// What is wrong with an element: it begins with a reserved mark, or is of no kind.
+// What is wrong with an element: it begins with a reserved mark, is of no kind, or names a table that is missing or leads too deep.
 pub enum ElementFault {
     Sound,
     Reserved,
     Unknown,
+    Missing,
+    Deep,
 }
 
 // What is wrong with an element, and what it finds, if it is looked at.
@@ -72,31 +80,141 @@ fn sign_place(e: &[u8], mask: u8) -> usize
     at_sign(e)
 }
 
-// Whether s begins with a reserved mark.
-fn starts_reserved(s: &[u8]) -> bool
-    ensures { λ r. ⌜ r ≡ firstAmong "@/" (now (s .entry)) ⌝ }
+// Whether s begins with `@`.
+fn starts_with_sign(s: &[u8]) -> bool
+    ensures { λ r. ⌜ r ≡ firstAmong "@" (now (s .entry)) ⌝ }
 {
     if s.len() == 0 {
         return false;
     }
-    let b = s[0];
-    (b == b'@') | (b == b'/')
+    s[0] == b'@'
 }
 
-// Whether e, or the half after the `@` that parts it, begins with a reserved mark.
-fn is_reserved(e: &[u8], at: usize) -> bool
+// Whether e, or the half after the `@` that parts it, begins with `@`.
+fn is_client_reserved(e: &[u8], at: usize) -> bool
     requires { ⌜ at ≡ atSign (now e) ⌝ }
     requires { ⌜ at ≤ length (now e) ⌝ }
-    ensures { λ r. ⌜ r ≡ reservedStart (now (e .entry)) ⌝ }
+    ensures { λ r. ⌜ r ≡ clientReserved (now (e .entry)) ⌝ }
 {
-    if starts_reserved(e) {
+    if starts_with_sign(e) {
         return true;
     }
     if at == e.len() {
         return false;
     }
     let after = at + 1;
-    starts_reserved(&e[after..])
+    starts_with_sign(&e[after..])
+}
+
+// The same, or e begins with a slash.
+fn is_daemon_reserved(e: &[u8], at: usize) -> bool
+    requires { ⌜ at ≡ atSign (now e) ⌝ }
+    requires { ⌜ at ≤ length (now e) ⌝ }
+    ensures { λ r. ⌜ r ≡ daemonReserved (now (e .entry)) ⌝ }
+{
+    if has_slash(e) {
+        return true;
+    }
+    is_client_reserved(e, at)
+}
+
+// How a table of that name may be named; sound where it is no name.
+fn naming_of_table(name: &[u8], tables: &[u8], notes: &[u64]) -> Naming
+    ensures { λ r.
+        ⌜ r ≡ namingWith (viewOf (now (tables .entry)) (now (notes .entry)) .naming) (given (isTableName (now (name .entry))) (now (name .entry))) ⌝ }
+{
+    if is_table_name(name) {
+        let found = look_up(tables, notes, 0, name);
+        let naming = found.naming;
+        return naming;
+    }
+    Naming::Sound
+}
+
+// How t, a host half, names a table.
+fn naming_of_half(t: &[u8], tables: &[u8], notes: &[u64]) -> Naming
+    ensures { λ r. ⌜ r ≡ namingWith (viewOf (now (tables .entry)) (now (notes .entry)) .naming) (tableName (now (t .entry))) ⌝ }
+{
+    if has_slash(t) {
+        naming_of_table(&t[1..], tables, notes)
+    } else {
+        Naming::Sound
+    }
+}
+
+// How the element e, parted at at, names a table.
+fn naming_of(e: &[u8], at: usize, tables: &[u8], notes: &[u64]) -> Naming
+    requires { ⌜ (at ≡ atSign (now e)) × (at ≤ length (now e)) ⌝ }
+    ensures { λ r. ⌜ r ≡ elementNaming (viewOf (now (tables .entry)) (now (notes .entry)) .naming) (now (e .entry)) ⌝ }
+{
+    if at == e.len() {
+        return naming_of_half(e, tables, notes);
+    }
+    let after = at + 1;
+    naming_of_half(&e[after..], tables, notes)
+}
+
+// Whether e, which begins with a slash, names a table and, if it is looked at, whether that matches.
+fn table_seen(e: &[u8], look: bool, tables: &[u8], notes: &[u64], k: usize) -> HostSeen
+    requires { ⌜ true ≡ firstAmong "/" (now e) ⌝ }
+    ensures { λ r. ⌜ r ≡ tableSeen look k (now (tables .entry)) (now (notes .entry)) (now (e .entry)) ⌝ }
+{
+    let name = &e[1..];
+    let sound = is_table_name(name);
+    if look & sound {
+        let found = look_up(tables, notes, k, name);
+        return HostSeen {
+            sound,
+            matches: found.matches,
+        };
+    }
+    HostSeen {
+        sound,
+        matches: false,
+    }
+}
+
+// Whether e is a host pattern and, if it is looked at, matches; names, dotted: what its bytes tell.
+fn half_seen(
+    e: &[u8],
+    names: bool,
+    dotted: bool,
+    look: bool,
+    tables: &[u8],
+    notes: &[u64],
+    k: usize,
+    host: Host,
+    name: &[u8],
+) -> HostSeen
+    requires { ⌜ (names ≡ all isNameByte (now e)) × (dotted ≡ all isDottedByte (now e)) ⌝ }
+    ensures { λ r.
+        ⌜ r ≡ patternSeen look (patternWith (noted k (now (tables .entry)) (now (notes .entry))) (now (e .entry))) (endpoint host (now (name .entry))) ⌝ }
+{
+    if has_slash(e) {
+        table_seen(e, look, tables, notes, k)
+    } else {
+        host_seen(e, names, dotted, look, host, name)
+    }
+}
+
+// The same of a text of which nothing is known.
+fn half_read(
+    e: &[u8],
+    look: bool,
+    tables: &[u8],
+    notes: &[u64],
+    k: usize,
+    host: Host,
+    name: &[u8],
+) -> HostSeen
+    ensures { λ r.
+        ⌜ r ≡ patternSeen look (patternWith (noted k (now (tables .entry)) (now (notes .entry))) (now (e .entry))) (endpoint host (now (name .entry))) ⌝ }
+{
+    if has_slash(e) {
+        table_seen(e, look, tables, notes, k)
+    } else {
+        host_read(e, look, host, name)
+    }
 }
 
 // Whether t, no wildcard, is a name before `@` or of a daemon.
@@ -245,17 +363,27 @@ fn daemon_halves(
     e: &[u8],
     at: usize,
     look: bool,
+    tables: &[u8],
+    notes: &[u64],
     daemon: &[u8],
     server: Host,
     server_name: &[u8],
 ) -> KindSeen
     requires { ⌜ (at ≡ atSign (now e)) × (at < length (now e)) ⌝ }
-    ensures { λ r. ⌜ r ≡ kindSeen look (daemonRequest (now (daemon .entry)) (endpoint server (now («server_name» .entry)))) (daemonElement (now (e .entry))) ⌝ }
+    ensures { λ r. ⌜ r ≡ kindSeen look (daemonRequest (now (daemon .entry)) (endpoint server (now («server_name» .entry)))) (daemonElement (viewOf (now (tables .entry)) (now (notes .entry)) .server) (now (e .entry))) ⌝ }
 {
     let after = at + 1;
     let t = &e[..at];
     let name = daemon_name_seen(t, is_name(t), look, daemon);
-    let host = host_read(&e[after..], name.matches, server, server_name);
+    let host = half_read(
+        &e[after..],
+        name.matches,
+        tables,
+        notes,
+        1,
+        server,
+        server_name,
+    );
     KindSeen {
         sound: name.sound & host.sound,
         found: found_if(host.matches),
@@ -268,13 +396,15 @@ fn daemon_kind(
     at: usize,
     names: bool,
     look: bool,
+    tables: &[u8],
+    notes: &[u64],
     daemon: &[u8],
     server: Host,
     server_name: &[u8],
 ) -> KindSeen
     requires { ⌜ (at ≡ atSign (now e)) × (at ≤ length (now e)) ⌝ }
     requires { ⌜ names ≡ all isNameByte (now e) ⌝ }
-    ensures { λ r. ⌜ r ≡ kindSeen look (daemonRequest (now (daemon .entry)) (endpoint server (now («server_name» .entry)))) (daemonElement (now (e .entry))) ⌝ }
+    ensures { λ r. ⌜ r ≡ kindSeen look (daemonRequest (now (daemon .entry)) (endpoint server (now («server_name» .entry)))) (daemonElement (viewOf (now (tables .entry)) (now (notes .entry)) .server) (now (e .entry))) ⌝ }
 {
     if at == e.len() {
         let name = daemon_name_seen(e, names, look, daemon);
@@ -283,7 +413,7 @@ fn daemon_kind(
             found: found_if(name.matches),
         };
     }
-    daemon_halves(e, at, look, daemon, server, server_name)
+    daemon_halves(e, at, look, tables, notes, daemon, server, server_name)
 }
 
 // Whether the halves of e, parted at at, make a client element and, if it is looked at, what that finds.
@@ -291,6 +421,8 @@ fn client_halves(
     e: &[u8],
     at: usize,
     look: bool,
+    tables: &[u8],
+    notes: &[u64],
     client: Host,
     client_name: &[u8],
     user: User,
@@ -299,10 +431,10 @@ fn client_halves(
     requires { ⌜ (at ≡ atSign (now e)) × (at < length (now e)) ⌝ }
     ensures { λ r.
         ⌜ r ≡ kindSeen look (clientRequest (endpoint client (now («client_name» .entry))) user (now («user_name» .entry)))
-        (clientElement (now (e .entry))) ⌝ }
+        (clientElement (viewOf (now (tables .entry)) (now (notes .entry)) .client) (now (e .entry))) ⌝ }
 {
     let after = at + 1;
-    let host = host_read(&e[after..], look, client, client_name);
+    let host = half_read(&e[after..], look, tables, notes, 0, client, client_name);
     let t = &e[..at];
     let sound = user_sound(t) & host.sound;
     if host.matches {
@@ -323,6 +455,8 @@ fn client_kind(
     at: usize,
     mask: u8,
     look: bool,
+    tables: &[u8],
+    notes: &[u64],
     client: Host,
     client_name: &[u8],
     user: User,
@@ -332,25 +466,63 @@ fn client_kind(
     requires { ⌜ Describes mask (now e) ⌝ }
     ensures { λ r.
         ⌜ r ≡ kindSeen look (clientRequest (endpoint client (now («client_name» .entry))) user (now («user_name» .entry)))
-        (clientElement (now (e .entry))) ⌝ }
+        (clientElement (viewOf (now (tables .entry)) (now (notes .entry)) .client) (now (e .entry))) ⌝ }
 {
     if at == e.len() {
-        let host = host_seen(e, mask < 8, mask & 241 == 0, look, client, client_name);
+        let host = half_seen(
+            e,
+            mask < 8,
+            mask & 241 == 0,
+            look,
+            tables,
+            notes,
+            0,
+            client,
+            client_name,
+        );
         return KindSeen {
             sound: host.sound,
             found: found_if(host.matches),
         };
     }
-    client_halves(e, at, look, client, client_name, user, user_name)
+    client_halves(
+        e,
+        at,
+        look,
+        tables,
+        notes,
+        client,
+        client_name,
+        user,
+        user_name,
+    )
 }
 
 // What the daemon element e finds of a request; mask: the classes of its bytes.
-pub fn daemon_found(e: &[u8], mask: u8, daemon: &[u8], server: Host, server_name: &[u8]) -> Found
+pub fn daemon_found(
+    e: &[u8],
+    mask: u8,
+    tables: &[u8],
+    notes: &[u64],
+    daemon: &[u8],
+    server: Host,
+    server_name: &[u8],
+) -> Found
     requires { ⌜ Describes mask (now e) ⌝ }
-    ensures { λ r. ⌜ r ≡ lookAt (daemonRequest (now (daemon .entry)) (endpoint server (now («server_name» .entry)))) (daemonElement (now (e .entry))) ⌝ }
+    ensures { λ r. ⌜ r ≡ lookAt (daemonRequest (now (daemon .entry)) (endpoint server (now («server_name» .entry)))) (daemonElement (viewOf (now (tables .entry)) (now (notes .entry)) .server) (now (e .entry))) ⌝ }
 {
     let at = sign_place(e, mask);
-    let kind = daemon_kind(e, at, mask < 8, true, daemon, server, server_name);
+    let kind = daemon_kind(
+        e,
+        at,
+        mask < 8,
+        true,
+        tables,
+        notes,
+        daemon,
+        server,
+        server_name,
+    );
     kind.found
 }
 
@@ -358,6 +530,8 @@ pub fn daemon_found(e: &[u8], mask: u8, daemon: &[u8], server: Host, server_name
 pub fn client_found(
     e: &[u8],
     mask: u8,
+    tables: &[u8],
+    notes: &[u64],
     client: Host,
     client_name: &[u8],
     user: User,
@@ -366,22 +540,44 @@ pub fn client_found(
     requires { ⌜ Describes mask (now e) ⌝ }
     ensures { λ r.
         ⌜ r ≡ lookAt (clientRequest (endpoint client (now («client_name» .entry))) user (now («user_name» .entry)))
-        (clientElement (now (e .entry))) ⌝ }
+        (clientElement (viewOf (now (tables .entry)) (now (notes .entry)) .client) (now (e .entry))) ⌝ }
 {
     let at = sign_place(e, mask);
-    let kind = client_kind(e, at, mask, true, client, client_name, user, user_name);
+    let kind = client_kind(
+        e,
+        at,
+        mask,
+        true,
+        tables,
+        notes,
+        client,
+        client_name,
+        user,
+        user_name,
+    );
     kind.found
 }
 
-// What is wrong with an element: 9 is answered before 10.
-fn fault_of(reserved: bool, sound: bool) -> ElementFault
-    ensures { λ r. ⌜ r ≡ faultOf reserved sound ⌝ }
+// What is wrong with the table that a sound element names.
+fn fault_of_naming(naming: Naming) -> ElementFault
+    ensures { λ r. ⌜ r ≡ misnamed naming ⌝ }
+{
+    match naming {
+        Naming::Sound => ElementFault::Sound,
+        Naming::Missing => ElementFault::Missing,
+        Naming::Deep => ElementFault::Deep,
+    }
+}
+
+// What is wrong with an element: 9 is answered before 10, and these before what is wrong with the table that it names.
+fn fault_of(reserved: bool, sound: bool, naming: Naming) -> ElementFault
+    ensures { λ r. ⌜ r ≡ faultOf reserved sound naming ⌝ }
 {
     if reserved {
         return ElementFault::Reserved;
     }
     if sound {
-        ElementFault::Sound
+        fault_of_naming(naming)
     } else {
         ElementFault::Unknown
     }
@@ -392,20 +588,36 @@ fn daemon_any(
     e: &[u8],
     mask: u8,
     look: bool,
+    tables: &[u8],
+    notes: &[u64],
     daemon: &[u8],
     server: Host,
     server_name: &[u8],
 ) -> ElementSeen
     requires { ⌜ Describes mask (now e) ⌝ }
     ensures { λ r.
-        ⌜ r ≡ elementSeen look (daemonRequest (now (daemon .entry)) (endpoint server (now («server_name» .entry)))) daemonElement
-        (now (e .entry)) ⌝ }
+        ⌜ r ≡ elementSeen look (daemonRequest (now (daemon .entry)) (endpoint server (now («server_name» .entry))))
+        (daemonKind (viewOf (now (tables .entry)) (now (notes .entry)))) (now (e .entry)) ⌝ }
 {
     let at = sign_place(e, mask);
-    let kind = daemon_kind(e, at, mask < 8, look, daemon, server, server_name);
+    let kind = daemon_kind(
+        e,
+        at,
+        mask < 8,
+        look,
+        tables,
+        notes,
+        daemon,
+        server,
+        server_name,
+    );
     let found = kind.found;
     ElementSeen {
-        fault: fault_of(is_reserved(e, at), kind.sound),
+        fault: fault_of(
+            is_daemon_reserved(e, at),
+            kind.sound,
+            naming_of(e, at, tables, notes),
+        ),
         found,
     }
 }
@@ -416,23 +628,25 @@ pub fn daemon_seen(
     e: &[u8],
     mask: u8,
     look: bool,
+    tables: &[u8],
+    notes: &[u64],
     daemon: &[u8],
     server: Host,
     server_name: &[u8],
 ) -> ElementSeen
     requires { ⌜ Describes mask (now e) ⌝ }
     ensures { λ r.
-        ⌜ r ≡ elementSeen look (daemonRequest (now (daemon .entry)) (endpoint server (now («server_name» .entry)))) daemonElement
-        (now (e .entry)) ⌝ }
+        ⌜ r ≡ elementSeen look (daemonRequest (now (daemon .entry)) (endpoint server (now («server_name» .entry))))
+        (daemonKind (viewOf (now (tables .entry)) (now (notes .entry)))) (now (e .entry)) ⌝ }
 {
     if !is_word_size(e.len()) & (mask < 8) {
         let name = name_seen(e, true, look, daemon);
         return ElementSeen {
-            fault: fault_of(false, name.sound),
+            fault: fault_of(false, name.sound, Naming::Sound),
             found: found_if(name.matches),
         };
     }
-    daemon_any(e, mask, look, daemon, server, server_name)
+    daemon_any(e, mask, look, tables, notes, daemon, server, server_name)
 }
 
 // What is wrong with any client element e and, if it is looked at, what it finds.
@@ -440,6 +654,8 @@ fn client_any(
     e: &[u8],
     mask: u8,
     look: bool,
+    tables: &[u8],
+    notes: &[u64],
     client: Host,
     client_name: &[u8],
     user: User,
@@ -447,14 +663,29 @@ fn client_any(
 ) -> ElementSeen
     requires { ⌜ Describes mask (now e) ⌝ }
     ensures { λ r.
-        ⌜ r ≡ elementSeen look (clientRequest (endpoint client (now («client_name» .entry))) user (now («user_name» .entry))) clientElement
-        (now (e .entry)) ⌝ }
+        ⌜ r ≡ elementSeen look (clientRequest (endpoint client (now («client_name» .entry))) user (now («user_name» .entry)))
+        (clientKind (viewOf (now (tables .entry)) (now (notes .entry)))) (now (e .entry)) ⌝ }
 {
     let at = sign_place(e, mask);
-    let kind = client_kind(e, at, mask, look, client, client_name, user, user_name);
+    let kind = client_kind(
+        e,
+        at,
+        mask,
+        look,
+        tables,
+        notes,
+        client,
+        client_name,
+        user,
+        user_name,
+    );
     let found = kind.found;
     ElementSeen {
-        fault: fault_of(is_reserved(e, at), kind.sound),
+        fault: fault_of(
+            is_client_reserved(e, at),
+            kind.sound,
+            naming_of(e, at, tables, notes),
+        ),
         found,
     }
 }
@@ -465,6 +696,8 @@ pub fn client_seen(
     e: &[u8],
     mask: u8,
     look: bool,
+    tables: &[u8],
+    notes: &[u64],
     client: Host,
     client_name: &[u8],
     user: User,
@@ -472,17 +705,27 @@ pub fn client_seen(
 ) -> ElementSeen
     requires { ⌜ Describes mask (now e) ⌝ }
     ensures { λ r.
-        ⌜ r ≡ elementSeen look (clientRequest (endpoint client (now («client_name» .entry))) user (now («user_name» .entry))) clientElement
-        (now (e .entry)) ⌝ }
+        ⌜ r ≡ elementSeen look (clientRequest (endpoint client (now («client_name» .entry))) user (now («user_name» .entry)))
+        (clientKind (viewOf (now (tables .entry)) (now (notes .entry)))) (now (e .entry)) ⌝ }
 {
     if !is_word_size(e.len()) & ((mask < 8) & (mask & 241 != 0)) {
         let host = named_seen(e, look, client, client_name);
         return ElementSeen {
-            fault: fault_of(false, host.sound),
+            fault: fault_of(false, host.sound, Naming::Sound),
             found: found_if(host.matches),
         };
     }
-    client_any(e, mask, look, client, client_name, user, user_name)
+    client_any(
+        e,
+        mask,
+        look,
+        tables,
+        notes,
+        client,
+        client_name,
+        user,
+        user_name,
+    )
 }
 
 // Whether s has 1 to max bytes.

@@ -26,8 +26,9 @@ use Rattle.rules.specs.declared.Answer.{Answer}
 use Rattle.rules.specs.declared.Ruling.{Ruling as VerdictRuling}
 use Rattle.rules.specs.declared.Ruling.the-variants as Ver
 use Rattle.rules.specs.Search as Search
-use Rattle.rules.specs.Search.{search, decide, commandBytes}
-use Rattle.rules.specs.Check.{hostsFault}
+use Rattle.tables.specs.Table.{Table, tablesOf, tablesFrame, matchOf}
+use Rattle.rules.specs.Search.{search, decideOver, decide, decideTables, commandBytes}
+use Rattle.rules.specs.Check.{hostsFault, tablesFault}
 use Rattle.expansion.specs.Expand.{expansion, expand}
 use Rattle.lines.specs.Line.{join, hasBadByte, isTooLong}
 use Rattle.lines.specs.Command.{hasBadPercent}
@@ -61,15 +62,30 @@ use Rattle.codes.proofs.AnswerLaws.{verdict-numbers, byuid-numbers, portacl-num
 -- ## Verdicts and expansion: the request that was read is answered as the one handed over
 
 abbrev decidedIn : List ℕ → Option Request → Parts → Outcome Answer
-decidedIn sheet o p = decide (bytesAt sheet (p .allow)) (bytesAt sheet (p .deny)) o >>= λ a. answered (inSheet p a)
+decidedIn sheet o p =
+    decideOver (tablesOf (bytesAt sheet (p .tables))) (bytesAt sheet (p .allow)) (bytesAt sheet (p .deny)) o >>= λ a. answered (inSheet p a)
 
 module _ (names : List ℕ) (q : Places) (n : RequestNumbers)
     (same : fitting wellFormed (some (requestAt names q)) answered ≡ fitting wellFormed (request n) answered) where
+  over-read : (ts : List Table) (allow deny : List ℕ) → decideOver ts allow deny (some (requestAt names q)) ≡ decideOver ts allow deny (request n)
+  over-read ts allow deny = fitting-same wellFormed (λ r. answered (search (matchOf ts) allow deny (held r))) (some (requestAt names q)) (request n) same
+
   decide-read : (allow deny : List ℕ) → decide allow deny (some (requestAt names q)) ≡ decide allow deny (request n)
   unfolding decide
   decide-read allow deny =
-      ap (λ (x : Outcome Answer). (overLimit S.allow allow orElse overLimit S.deny deny orElse hostsFault S.allow allow orElse hostsFault S.deny deny) before x)
-      (fitting-same wellFormed (λ r. answered (search allow deny (held r))) (some (requestAt names q)) (request n) same)
+      ap (λ (x : Outcome Answer). (overLimit S.allow allow orElse overLimit S.deny deny orElse hostsFault S.allow allow orElse hostsFault S.deny deny
+      orElse tablesFault allow deny []) before x) (over-read [] allow deny)
+
+  tables-read : (allow deny tables : List ℕ) → decideTables allow deny tables (some (requestAt names q)) ≡ decideTables allow deny tables (request n)
+  unfolding decideTables
+  tables-read allow deny tables =
+      ap (λ (x : Outcome Answer). (overLimit S.allow allow orElse overLimit S.deny deny orElse tablesFrame tables orElse hostsFault S.allow allow
+      orElse hostsFault S.deny deny orElse tablesFault allow deny tables) before x) (over-read (tablesOf tables) allow deny)
+
+  pub tables-verdict-by : (allow deny tables : List ℕ) (o : VerdictRuling) (a : GateAnswer)
+      → o ≡ Search.verdictRuling (decideTables allow deny tables (some (requestAt names q)))
+      → a ≡ verdictNumbers o → a ≡ verdictAnswer (decideTables allow deny tables (request n))
+  tables-verdict-by allow deny tables o a e f = verdict-numbers _ o a e f ∙ ap verdictAnswer (tables-read allow deny tables)
 
   pub verdict-by : (allow deny : List ℕ) (o : VerdictRuling) (a : GateAnswer) → o ≡ Search.verdictRuling (decide allow deny (some (requestAt names q)))
       → a ≡ verdictNumbers o → a ≡ verdictAnswer (decide allow deny (request n))
@@ -81,7 +97,7 @@ module _ (names : List ℕ) (q : Places) (n : RequestNumbers)
     where
       by : (u : Outcome Parts) → (u >>= decidedIn sheet (some (requestAt names q))) ≡ (u >>= decidedIn sheet (request n))
       by (refused r) = refl
-      by (answered p) = ap (λ (x : Outcome Answer). x >>= λ a. answered (inSheet p a)) (decide-read (bytesAt sheet (p .allow)) (bytesAt sheet (p .deny)))
+      by (answered p) = ap (λ (x : Outcome Answer). x >>= λ a. answered (inSheet p a)) (over-read (tablesOf (bytesAt sheet (p .tables))) (bytesAt sheet (p .allow)) (bytesAt sheet (p .deny)))
 
   pub sheet-verdict-by : (sheet : List ℕ) (o : VerdictRuling) (a : GateAnswer) → o ≡ Search.verdictRuling (decideSheet sheet (some (requestAt names q)))
       → a ≡ verdictNumbers o → a ≡ verdictAnswer (decideSheet sheet (request n))

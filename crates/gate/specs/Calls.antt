@@ -7,7 +7,7 @@ use lib.ListN.{length}
 use Rattle.section.specs.Refusal.{Outcome, answered, _>>=_, lentAfter}
 use Rattle.section.specs.Section.{bytesAt}
 use Rattle.address.specs.Address.{readAddress}
-use Rattle.rules.specs.Search.{decide, commandBytes}
+use Rattle.rules.specs.Search.{decide, decideTables, commandBytes}
 use Rattle.expansion.specs.Expand.{expand}
 use Rattle.byuid.specs.Byuid.{decideByuid}
 use Rattle.portacl.specs.declared.Settings.{Settings}
@@ -28,6 +28,10 @@ use Rattle.codes.specs.Answers.{verdictAnswer, byuidAnswer, portaclAnswer, chec
 
 abbrev pub gateVerdict : List ℕ → List ℕ → RequestNumbers → GateAnswer
 gateVerdict allow deny n = verdictAnswer (decide allow deny (request n))
+
+-- document 02, request 1: by two texts and the text of section five
+abbrev pub gateTablesVerdict : List ℕ → List ℕ → List ℕ → RequestNumbers → GateAnswer
+gateTablesVerdict allow deny tables n = verdictAnswer (decideTables allow deny tables (request n))
 
 abbrev pub gateSheetVerdict : List ℕ → RequestNumbers → GateAnswer
 gateSheetVerdict sheet n = verdictAnswer (decideSheet sheet (request n))
@@ -66,6 +70,10 @@ wrote out o = record { answer = writtenAnswer o; out = lentAfter out o }
 
 abbrev pub gatePack : Texts → List ℕ → Wrote
 gatePack ts out = wrote out (Sheet.pack ts (length out))
+
+-- document 02, request 1: "a small program appends the two zero bytes of an empty count"
+abbrev pub gateUpgrade : List ℕ → List ℕ → Wrote
+gateUpgrade sheet out = wrote out (Sheet.upgrade sheet (length out))
 
 abbrev pub gateExpand : List ℕ → RequestNumbers → ℕ → List ℕ → Wrote
 gateExpand command n process out = wrote out (expand command (request n) process (length out))

@@ -1,7 +1,8 @@
 // The gate's calls for C: bytes as slices, all else as numbers; include/gate.h declares them, codes says what the numbers mean.
-//   gate_verdict, gate_byuid, gate_portacl == the decisions by texts handed in
+//   gate_verdict, gate_tables_verdict, gate_byuid, gate_portacl == the decisions by texts handed in
 //   gate_sheet_verdict, gate_sheet_byuid, gate_sheet_portacl == the decisions by a sheet
 //   gate_check, gate_unpack, gate_pack     == sheets checked, unpacked and packed
+//   gate_upgrade                           == a sheet of four sections with an empty count of tables
 //   gate_expand                            == a command expanded
 //   gate_command, gate_sheet_command       == a verdict, and its command expanded
 //   gate_read_address, gate_write_address  == addresses as text
@@ -19,8 +20,8 @@ use section::Written;
 ghost use mathlib.Core.Path.{_≡_};
 ghost use Rattle.sheet.specs.Sheet.{texts};
 ghost use Rattle.codes.specs.Requests.{hostNumbers, requestNumbers, settingsOf};
-ghost use Rattle.gate.specs.Calls.{gateVerdict, gateSheetVerdict, gateByuid, gateSheetByuid, gatePortacl, gateSheetPortacl};
-ghost use Rattle.gate.specs.Calls.{gateCheck, gateUnpack, gateReadAddress, gatePack, gateExpand, gateCommand, gateSheetCommand, gateWriteAddress};
+ghost use Rattle.gate.specs.Calls.{gateVerdict, gateTablesVerdict, gateSheetVerdict, gateByuid, gateSheetByuid, gatePortacl, gateSheetPortacl};
+ghost use Rattle.gate.specs.Calls.{gateCheck, gateUnpack, gateReadAddress, gatePack, gateUpgrade, gateExpand, gateCommand, gateSheetCommand, gateWriteAddress};
 
 // The verdict by two texts.
 #[no_mangle]
@@ -65,6 +66,52 @@ pub extern "C" fn gate_verdict(
         user_name,
     );
     codes::answer::verdict_numbers(rules::decide(allow, deny, &names, request))
+}
+
+// The verdict by two texts, over the tables of a section five.
+#[no_mangle]
+pub extern "C" fn gate_tables_verdict(
+    allow: &[u8],
+    deny: &[u8],
+    tables: &[u8],
+    daemon: &[u8],
+    client_state: u32,
+    client_kind: u32,
+    client_high: u64,
+    client_low: u64,
+    client_name: &[u8],
+    server_state: u32,
+    server_kind: u32,
+    server_high: u64,
+    server_low: u64,
+    server_name: &[u8],
+    user: u32,
+    user_name: &[u8],
+) -> GateAnswer
+    ensures { λ r.
+        ⌜ r
+        ≡ gateTablesVerdict (now (allow .entry)) (now (deny .entry)) (now (tables .entry))
+        (requestNumbers (now (daemon .entry)) (hostNumbers «client_state» «client_kind» «client_high» «client_low») (now («client_name» .entry))
+        (hostNumbers «server_state» «server_kind» «server_high» «server_low») (now («server_name» .entry)) user (now («user_name» .entry))) ⌝ }
+{
+    let mut names = [0u8; codes::request::NAMES];
+    let request = codes::request::read(
+        &mut names,
+        daemon,
+        client_state,
+        client_kind,
+        client_high,
+        client_low,
+        client_name,
+        server_state,
+        server_kind,
+        server_high,
+        server_low,
+        server_name,
+        user,
+        user_name,
+    );
+    codes::answer::verdict_numbers(rules::decide_tables(allow, deny, tables, &names, request))
 }
 
 // The byuid decision by a text from the plain or the marked file.
@@ -246,13 +293,23 @@ pub extern "C" fn gate_pack(
     deny: &[u8],
     byuid: &[u8],
     portacl: &[u8],
+    tables: &[u8],
 ) -> GateWritten
     ensures answer { λ r. ⌜ r
-        ≡ gatePack (texts (now (allow .entry)) (now (deny .entry)) (now (byuid .entry)) (now (portacl .entry))) (now (out .entry)) .answer ⌝ }
+        ≡ gatePack (texts (now (allow .entry)) (now (deny .entry)) (now (byuid .entry)) (now (portacl .entry)) (now (tables .entry))) (now (out .entry)) .answer ⌝ }
     ensures holds { λ _. ⌜ now (out .exit)
-        ≡ gatePack (texts (now (allow .entry)) (now (deny .entry)) (now (byuid .entry)) (now (portacl .entry))) (now (out .entry)) .out ⌝ }
+        ≡ gatePack (texts (now (allow .entry)) (now (deny .entry)) (now (byuid .entry)) (now (portacl .entry)) (now (tables .entry))) (now (out .entry)) .out ⌝ }
 {
-    codes::answer::written_numbers(sheet::pack::pack(out, allow, deny, byuid, portacl))
+    codes::answer::written_numbers(sheet::pack::pack(out, allow, deny, byuid, portacl, tables))
+}
+
+// Appends an empty count of tables to a sheet of four sections, at the front of out; a refusal leaves out as it was.
+#[no_mangle]
+pub extern "C" fn gate_upgrade(out: &mut [u8], sheet: &[u8]) -> GateWritten
+    ensures answer { λ r. ⌜ r ≡ gateUpgrade (now (sheet .entry)) (now (out .entry)) .answer ⌝ }
+    ensures holds { λ _. ⌜ now (out .exit) ≡ gateUpgrade (now (sheet .entry)) (now (out .entry)) .out ⌝ }
+{
+    codes::answer::written_numbers(sheet::upgrade::upgrade(out, sheet))
 }
 
 // Expands a command for a request at the front of out; a refusal leaves out as it was.

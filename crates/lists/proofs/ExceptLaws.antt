@@ -13,7 +13,8 @@ use Rattle.text.specs.Text.{bytes, splitOnce, charRange, lower, equal, equalFol
 use Rattle.text.proofs.BasicLaws.{and-true}
 use Rattle.lines.specs.Rule.{isExcept}
 use Rattle.patterns.specs.Pattern.{wildcard, isNameByte, namePattern, hostPattern}
-use Rattle.elements.specs.Element.{halves, reservedStart, isPlainName, daemonName, daemonParts, clientParts, daemonElement, clientElement}
+use Rattle.tables.specs.Table.{patternWith}
+use Rattle.elements.specs.Element.{halves, clientReserved, daemonReserved, isPlainName, daemonName, daemonParts, clientParts, daemonElement, clientElement}
 use Rattle.lists.specs.Check.{withoutExcept}
 
 -- ## Every way to write a word
@@ -46,34 +47,48 @@ fold-holds p (x ∷ t) (y ∷ w) h e =
 
 -- ## EXCEPT
 
+-- what is not a fault of a word: its start, its kind in either list, and that it names no table
 abbrev soundElement : List ℕ → Bool
-soundElement w = not (reservedStart w) && (isSome (daemonElement w) && isSome (clientElement w))
+soundElement w =
+    not (daemonReserved w) && (not (clientReserved w) && (isSome (daemonElement (λ n h. false) w) && isSome (clientElement (λ n h. false) w)))
 
 every-case : holdsOf soundElement (bytes "EXCEPT") ≡ true
-unfolding holdsOf any all first splitOnce equal lower equalFold isNameByte wildcard namePattern hostPattern halves reservedStart isPlainName daemonName daemonParts clientParts daemonElement clientElement
+unfolding holdsOf any all first splitOnce equal lower equalFold isNameByte wildcard namePattern hostPattern patternWith halves clientReserved daemonReserved isPlainName daemonName daemonParts clientParts daemonElement clientElement
 every-case = refl
+
+not-false : (b : Bool) → not b ≡ true → b ≡ false
+not-false true k = sym k
+not-false false k = refl
 
 module _ (w : List ℕ) (e : isExcept w ≡ true) where
   except-sound : soundElement w ≡ true
   unfolding equalFold
   except-sound = fold-holds soundElement (bytes "EXCEPT") w every-case e
 
-  kinds : (isSome (daemonElement w) ≡ true) × (isSome (clientElement w) ≡ true)
-  kinds = and-true (isSome (daemonElement w)) (isSome (clientElement w))
-      (and-true (not (reservedStart w)) (isSome (daemonElement w) && isSome (clientElement w)) except-sound .1)
+  abbrev kinds : Bool
+  kinds = isSome (daemonElement (λ n h. false) w) && isSome (clientElement (λ n h. false) w)
 
-  pub except-unreserved : reservedStart w ≡ false
-  except-unreserved = by (reservedStart w) (and-true (not (reservedStart w)) (isSome (daemonElement w) && isSome (clientElement w)) except-sound .0)
-    where
-      by : (b : Bool) → not b ≡ true → b ≡ false
-      by true k = sym k
-      by false k = refl
+  first-two : (daemonReserved w ≡ false) × ((not (clientReserved w) && kinds) ≡ true)
+  first-two =
+      let h = and-true (not (daemonReserved w)) (not (clientReserved w) && kinds) except-sound in
+      (not-false (daemonReserved w) (h .0), h .1)
 
-  pub except-daemon : not (isSome (daemonElement w)) ≡ false
-  except-daemon = ap not (kinds .0)
+  last-two : (clientReserved w ≡ false) × (kinds ≡ true)
+  last-two =
+      let h = and-true (not (clientReserved w)) kinds (first-two .1) in
+      (not-false (clientReserved w) (h .0), h .1)
 
-  pub except-client : not (isSome (clientElement w)) ≡ false
-  except-client = ap not (kinds .1)
+  pub except-daemon-start : daemonReserved w ≡ false
+  except-daemon-start = first-two .0
+
+  pub except-client-start : clientReserved w ≡ false
+  except-client-start = last-two .0
+
+  pub except-daemon : not (isSome (daemonElement (λ n h. false) w)) ≡ false
+  except-daemon = ap not (and-true (isSome (daemonElement (λ n h. false) w)) (isSome (clientElement (λ n h. false) w)) (last-two .1) .0)
+
+  pub except-client : not (isSome (clientElement (λ n h. false) w)) ≡ false
+  except-client = ap not (and-true (isSome (daemonElement (λ n h. false) w)) (isSome (clientElement (λ n h. false) w)) (last-two .1) .1)
 
 -- ## The words of a list
 

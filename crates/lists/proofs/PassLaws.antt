@@ -18,8 +18,8 @@ use Rattle.elements.specs.declared.User.{User}
 use Rattle.elements.specs.declared.element.ElementSeen.{ElementSeen}
 use Rattle.elements.specs.declared.request.Request.{Request as Places}
 use Rattle.elements.specs.Request.{Request}
-use Rattle.elements.specs.Element.{Element, daemonElement, clientElement, lookAt}
-use Rattle.elements.specs.Code.{sought, elementSeen, daemonRequest, clientRequest}
+use Rattle.elements.specs.Element.{lookAt}
+use Rattle.elements.specs.Code.{View, Kind, daemonKind, clientKind, sought, elementSeen, daemonRequest, clientRequest}
 use Rattle.elements.specs.Places.{requestAt}
 use Rattle.lists.specs.declared.Checked.{Checked}
 use Rattle.lists.specs.declared.Checked.the-variants as C
@@ -113,42 +113,42 @@ module _ (m : List ℕ → Found) (side : Side) (s : List ℕ) where
 
 -- ## One list
 
-module _ (kind : List ℕ → Element) (q : Request) (p : ListPass) (e : List ℕ) (ws : List (List ℕ)) where
+module _ (kind : Kind) (q : Request) (p : ListPass) (e : List ℕ) (ws : List (List ℕ)) where
   step-is : (x : Bool) → x ≡ isExcept e → (look : Bool) → look ≡ isLooking (p .side) → (seen : ElementSeen) → seen ≡ elementSeen look q kind e
       → (c : ListCheck) → c ≡ listMore (p .check) (p .after) x (seen .fault)
-      → (side : Side) → side ≡ sideStep (λ w. lookAt q (kind w)) (p .side) x (seen .found) ws
-      → listPass c (not x) side ≡ passStep kind (λ w. lookAt q (kind w)) p e ws
+      → (side : Side) → side ≡ sideStep (λ w. lookAt q (kind .element w)) (p .side) x (seen .found) ws
+      → listPass c (not x) side ≡ passStep kind (λ w. lookAt q (kind .element w)) p e ws
   unfolding passStep elementSeen
   step-is x is-x look is-look seen is-seen c is-c side is-side = rw (is-c, is-side, is-seen, is-look, is-x)
 
-pub daemon-step-is : (d : List ℕ) (s : Endpoint) (p : ListPass) (e next : List ℕ)
+pub daemon-step-is : (v : View) (d : List ℕ) (s : Endpoint) (p : ListPass) (e next : List ℕ)
     → (x : Bool) → x ≡ isExcept e → (look : Bool) → look ≡ isLooking (p .side)
-    → (seen : ElementSeen) → seen ≡ elementSeen look (daemonRequest d s) daemonElement e
+    → (seen : ElementSeen) → seen ≡ elementSeen look (daemonRequest d s) (daemonKind v) e
     → (c : ListCheck) → c ≡ listMore (p .check) (p .after) x (seen .fault)
-    → (side : Side) → side ≡ sideStep (daemonFinds d s) (p .side) x (seen .found) (words next)
-    → listPass c (not x) side ≡ passStep daemonElement (daemonFinds d s) p e (words next)
-daemon-step-is d s p e next = step-is daemonElement (daemonRequest d s) p e (words next)
+    → (side : Side) → side ≡ sideStep (daemonFinds v d s) (p .side) x (seen .found) (words next)
+    → listPass c (not x) side ≡ passStep (daemonKind v) (daemonFinds v d s) p e (words next)
+daemon-step-is v d s p e next = step-is (daemonKind v) (daemonRequest d s) p e (words next)
 
-pub client-step-is : (h : Endpoint) (u : User) (n : List ℕ) (p : ListPass) (e next : List ℕ)
+pub client-step-is : (v : View) (h : Endpoint) (u : User) (n : List ℕ) (p : ListPass) (e next : List ℕ)
     → (x : Bool) → x ≡ isExcept e → (look : Bool) → look ≡ isLooking (p .side)
-    → (seen : ElementSeen) → seen ≡ elementSeen look (clientRequest h u n) clientElement e
+    → (seen : ElementSeen) → seen ≡ elementSeen look (clientRequest h u n) (clientKind v) e
     → (c : ListCheck) → c ≡ listMore (p .check) (p .after) x (seen .fault)
-    → (side : Side) → side ≡ sideStep (clientFinds h u n) (p .side) x (seen .found) (words next)
-    → listPass c (not x) side ≡ passStep clientElement (clientFinds h u n) p e (words next)
-client-step-is h u n p e next = step-is clientElement (clientRequest h u n) p e (words next)
+    → (side : Side) → side ≡ sideStep (clientFinds v h u n) (p .side) x (seen .found) (words next)
+    → listPass c (not x) side ≡ passStep (clientKind v) (clientFinds v h u n) p e (words next)
+client-step-is v h u n p e next = step-is (clientKind v) (clientRequest h u n) p e (words next)
 
-passFrom-cons : (kind : List ℕ → Element) (m : List ℕ → Found) (p : ListPass) (w : List ℕ) (ws : List (List ℕ))
+passFrom-cons : (kind : Kind) (m : List ℕ → Found) (p : ListPass) (w : List ℕ) (ws : List (List ℕ))
     → passFrom kind m p (w ∷ ws) ≡ passFrom kind m (passStep kind m p w ws) ws
 unfolding passFrom passStep
 passFrom-cons kind m p w ws = ap₂ listBoth (listFrom-cons kind w (p .after) (p .check) ws) (side-step m (p .side) w ws)
 
-pub pass-start : (kind : List ℕ → Element) (m : List ℕ → Found) (search : Bool) (s : List ℕ) (p : ListPass) → p ≡ passStart search
+pub pass-start : (kind : Kind) (m : List ℕ → Found) (search : Bool) (s : List ℕ) (p : ListPass) → p ≡ passStart search
     → listSeen kind m search (words s) ≡ passFrom kind m p (words s)
 unfolding listSeen passFrom
 pass-start kind m search s p is-p = rw is-p (ap₂ listBoth (listFrom-start kind (words s)) (side-start m search (words s)))
 
 -- the loop that has passed s up to rest, at the element w
-module _ (kind : List ℕ → Element) (m : List ℕ → Found) (search : Bool) (s rest : List ℕ) (p : ListPass)
+module _ (kind : Kind) (m : List ℕ → Found) (search : Bool) (s rest : List ℕ) (p : ListPass)
     (so-far : listSeen kind m search (words s) ≡ passFrom kind m p (words rest)) (w : List ℕ) (is-w : w ≡ firstElement rest)
   where
     pub pass-end : length w ≡ 0 → (r : ListSeen) → r ≡ listBoth (listEnd (p .check) (p .after)) (sideEnd (p .side)) → r ≡ listSeen kind m search (words s)
@@ -161,16 +161,16 @@ module _ (kind : List ℕ → Element) (m : List ℕ → Found) (search : Bool) 
 
 -- ## A request at places of a block
 
-module _ (names : List ℕ) (q : Places) (search : Bool) (ws : List (List ℕ)) (a b : List ℕ) (r : ListSeen) where
+module _ (v : View) (names : List ℕ) (q : Places) (search : Bool) (ws : List (List ℕ)) (a b : List ℕ) (r : ListSeen) where
   pub daemons-at : a ≡ bytesAt names (q .daemon) → b ≡ bytesAt names (q .«server_name») → r
-      ≡ listSeen daemonElement (daemonFinds a (endpoint (q .server) b)) search ws
-      → r ≡ listSeen daemonElement (daemonFinds (requestAt names q .daemon) (requestAt names q .server)) search ws
-  daemons-at e f h = h ∙ ap₂ (λ (x y : List ℕ). listSeen daemonElement (daemonFinds x (endpoint (q .server) y)) search ws) e f
+      ≡ listSeen (daemonKind v) (daemonFinds v a (endpoint (q .server) b)) search ws
+      → r ≡ listSeen (daemonKind v) (daemonFinds v (requestAt names q .daemon) (requestAt names q .server)) search ws
+  daemons-at e f h = h ∙ ap₂ (λ (x y : List ℕ). listSeen (daemonKind v) (daemonFinds v x (endpoint (q .server) y)) search ws) e f
 
   pub clients-at : a ≡ bytesAt names (q .«client_name») → b ≡ bytesAt names (q .«user_name»)
-      → r ≡ listSeen clientElement (clientFinds (endpoint (q .client) a) (q .user) b) search ws
-      → r ≡ listSeen clientElement (clientFinds (requestAt names q .client) (q .user) (requestAt names q .userName)) search ws
-  clients-at e f h = h ∙ ap₂ (λ (x y : List ℕ). listSeen clientElement (clientFinds (endpoint (q .client) x) (q .user) y) search ws) e f
+      → r ≡ listSeen (clientKind v) (clientFinds v (endpoint (q .client) a) (q .user) b) search ws
+      → r ≡ listSeen (clientKind v) (clientFinds v (requestAt names q .client) (q .user) (requestAt names q .userName)) search ws
+  clients-at e f h = h ∙ ap₂ (λ (x y : List ℕ). listSeen (clientKind v) (clientFinds v (endpoint (q .client) x) (q .user) y) search ws) e f
 
 -- ## One rule
 
@@ -190,29 +190,29 @@ sought-no : (search : Bool) → sought search No ≡ No
 sought-no true = refl
 sought-no false = refl
 
-pub restSeen-is : (q : Request) (d : ListSeen) (s : List ℕ) (j : ℕ) → j ≡ separatorIndex false s
+pub restSeen-is : (v : View) (q : Request) (d : ListSeen) (s : List ℕ) (j : ℕ) → j ≡ separatorIndex false s
     → (y : Bool) → y ≡ isYes (d .found)
-    → (c : ListSeen) → c ≡ listSeen clientElement (clientFinds (q .client) (q .user) (q .userName)) y (words (take j s))
+    → (c : ListSeen) → c ≡ listSeen (clientKind v) (clientFinds v (q .client) (q .user) (q .userName)) y (words (take j s))
     → (b : Bool) → b ≡ badCommandAfter j s → (k : Checked) → k ≡ lowestOf (d .check) (c .check) b → (f : Found) → f ≡ thenFound (d .found) (c .found)
-    → ruleBoth k f ≡ restSeen q d s
+    → ruleBoth k f ≡ restSeen v q d s
 unfolding restSeen listSeen
-restSeen-is q d s j is-j y is-y c is-c b is-b k is-k f is-f = ap₂ ruleBoth
-    (restFault-is s j (d .check) is-j (c .check) (ap (λ (x : ListSeen). x .check) is-c) b is-b k is-k)
-    (is-f ∙ rw (is-c, is-y, is-j) (sought-yes (d .found) (included (clientFinds (q .client) (q .user) (q .userName)) (clientWords s))))
+restSeen-is v q d s j is-j y is-y c is-c b is-b k is-k f is-f = ap₂ ruleBoth
+    (restFault-is v s j (d .check) is-j (c .check) (ap (λ (x : ListSeen). x .check) is-c) b is-b k is-k)
+    (is-f ∙ rw (is-c, is-y, is-j) (sought-yes (d .found) (included (clientFinds v (q .client) (q .user) (q .userName)) (clientWords s))))
 
-module _ (q : Request) (search : Bool) (t : List ℕ) (i : ℕ) (is-i : i ≡ separatorIndex false t) where
-  pub ruleSeen-none : length t ≤ i → ruleBoth (C.Faulty F.NoElement) No ≡ ruleSeen q search t
+module _ (v : View) (q : Request) (search : Bool) (t : List ℕ) (i : ℕ) (is-i : i ≡ separatorIndex false t) where
+  pub ruleSeen-none : length t ≤ i → ruleBoth (C.Faulty F.NoElement) No ≡ ruleSeen v q search t
   unfolding ruleSeen
-  ruleSeen-none l = ap₂ ruleBoth (checkRule-none t i is-i l) (sym (ap (sought search) (sym (lineFound-none q t i is-i l)) ∙ sought-no search))
+  ruleSeen-none l = ap₂ ruleBoth (checkRule-none v t i is-i l) (sym (ap (sought search) (sym (lineFound-none v q t i is-i l)) ∙ sought-no search))
 
   pub ruleSeen-some : NoNewline t → i < length t
-      → (d : ListSeen) → d ≡ listSeen daemonElement (daemonFinds (q .daemon) (q .server)) search (words (take i t))
-      → (s : List ℕ) → s ≡ afterSeparator i t → (r : RuleSeen) → r ≡ restSeen q d s → r ≡ ruleSeen q search t
+      → (d : ListSeen) → d ≡ listSeen (daemonKind v) (daemonFinds v (q .daemon) (q .server)) search (words (take i t))
+      → (s : List ℕ) → s ≡ afterSeparator i t → (r : RuleSeen) → r ≡ restSeen v q d s → r ≡ ruleSeen v q search t
   unfolding ruleSeen restSeen listSeen
   ruleSeen-some joined l d is-d s is-s r is-r =
-      let y : Found = included (daemonFinds (q .daemon) (q .server)) (words (take i t)) in
-      let z : Found = included (clientFinds (q .client) (q .user) (q .userName)) (clientWords s) in
+      let y : Found = included (daemonFinds v (q .daemon) (q .server)) (words (take i t)) in
+      let z : Found = included (clientFinds v (q .client) (q .user) (q .userName)) (clientWords s) in
       is-r ∙ ap₂ ruleBoth
-      (checkRule-some t i is-i joined l (d .check) (ap (λ (x : ListSeen). x .check) is-d) s is-s (restFault (d .check) s) refl)
+      (checkRule-some v t i is-i joined l (d .check) (ap (λ (x : ListSeen). x .check) is-d) s is-s (restFault v (d .check) s) refl)
       (ap (λ (x : ListSeen). thenFound (x .found) z) is-d ∙ sought-then search y z
-      ∙ ap (sought search) (sym (lineFound-some q t i is-i joined l y refl s is-s)))
+      ∙ ap (sought search) (sym (lineFound-some v q t i is-i joined l y refl s is-s)))

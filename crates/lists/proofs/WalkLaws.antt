@@ -13,9 +13,10 @@ use Rattle.lines.proofs.RuleLaws.{words-none, words-more, rest-shorter, rule, p
 use Rattle.elements.specs.declared.Found.{Found}
 use Rattle.elements.specs.declared.Found.the-variants.{No, Yes, Ask}
 use Rattle.elements.specs.Request.{Request}
+use Rattle.elements.specs.Code.{View}
 use Rattle.elements.proofs.ElementLaws.{daemonElement-request, clientElement-request}
-use Rattle.lists.specs.Walk.{onFound, included, excluded, ruleFound}
-use Rattle.lists.specs.Code.{NoNewline, lineFound}
+use Rattle.lists.specs.Walk.{onFound, included, excluded, ruleFoundBy}
+use Rattle.lists.specs.Code.{NoNewline, viewFound, lineFound}
 use Rattle.lists.specs.ListCode.{negated, daemonFinds, clientFinds, clientWords}
 use Rattle.lists.proofs.JoinedLaws.{parseRule-joined}
 
@@ -79,22 +80,23 @@ module _ (m : List ℕ → Found) (s rest w : List ℕ) (h : Walked (excluded m)
 
 -- ## One rule
 
-module _ (q : Request) where
+module _ (v : View) (q : Request) where
   ruleFound-lists : (ds cs : List (List ℕ)) (k : List ℕ)
-      → ruleFound q (rule ds cs k)
-      ≡ onFound (included (daemonFinds (q .daemon) (q .server)) ds) (included (clientFinds (q .client) (q .user) (q .userName)) cs) No
-  unfolding ruleFound
+      → viewFound v q (rule ds cs k)
+      ≡ onFound (included (daemonFinds v (q .daemon) (q .server)) ds) (included (clientFinds v (q .client) (q .user) (q .userName)) cs) No
+  unfolding ruleFoundBy
   ruleFound-lists ds cs k =
-      ap₂ (λ (d c : List ℕ → Found). onFound (included d ds) (included c cs) No) (fun-ext (daemonElement-request q)) (fun-ext (clientElement-request q))
+      ap₂ (λ (d c : List ℕ → Found). onFound (included d ds) (included c cs) No)
+      (fun-ext (daemonElement-request (v .server) q)) (fun-ext (clientElement-request (v .client) q))
 
   module _ (t : List ℕ) (i : ℕ) (is-i : i ≡ separatorIndex false t) where
-    pub lineFound-none : length t ≤ i → No ≡ lineFound q t
+    pub lineFound-none : length t ≤ i → No ≡ lineFound v q t
     unfolding lineFound
     lineFound-none l = rw (parseRule-none t i is-i l)
 
-    module _ (joined : NoNewline t) (l : i < length t) (y : Found) (is-y : y ≡ included (daemonFinds (q .daemon) (q .server)) (words (take i t))) where
-      pub lineFound-some : (s : List ℕ) → s ≡ afterSeparator i t → lineFound q t
-          ≡ onFound y (included (clientFinds (q .client) (q .user) (q .userName)) (clientWords s)) No
+    module _ (joined : NoNewline t) (l : i < length t) (y : Found) (is-y : y ≡ included (daemonFinds v (q .daemon) (q .server)) (words (take i t))) where
+      pub lineFound-some : (s : List ℕ) → s ≡ afterSeparator i t → lineFound v q t
+          ≡ onFound y (included (clientFinds v (q .client) (q .user) (q .userName)) (clientWords s)) No
       unfolding lineFound
       lineFound-some s is-s =
           rw (parseRule-joined t joined i is-i l s is-s, is-y) (ruleFound-lists (words (take i t)) (clientWords s) (afterSeparator (separatorIndex false s) s))

@@ -2,23 +2,29 @@
 -- is stated over Check, Walk and its own definitions alone.
 --   checkedOf o    == o as the code answers it
 --   NoNewline t    == t holds no newline, as a joined line does
---   lineFound r t  == what the rule in the joined line t finds of the request r
+--   lineFound v r t == what the rule in the joined line t finds of the request r, by the view v of the tables
+--   judgedFault v o == the lowest fault of the rule o, and else of the tables that it names
 -- Assumes nothing: these are definitions.
 use Prim.Native.Nat.{ℕ}
-use mathlib.Core.Bool.{not, true}
+use mathlib.Core.Bool.{Bool, not, true, false}
 use mathlib.Core.List.{List}
 use mathlib.Core.Option.{Option, none, some}
 use mathlib.Core.Path.{_≡_}
 use lib.Dec.{eqb}
-use Rattle.text.specs.Basics.{all}
+use Rattle.text.specs.Basics.{if_then_else_, _orElse_, given, all}
 use Rattle.section.specs.declared.Fault.{Fault}
+use Rattle.section.specs.declared.Fault.the-variants as F
 use Rattle.lines.specs.Rule.{Rule, parseRule}
+use Rattle.views.specs.declared.Naming.{Naming}
+use Rattle.views.specs.declared.Naming.the-variants as Naming
 use Rattle.elements.specs.declared.Found.{Found}
 use Rattle.elements.specs.declared.Found.the-variants.{No}
 use Rattle.elements.specs.Request.{Request}
+use Rattle.elements.specs.Code.{View}
 use Rattle.lists.specs.declared.Checked.{Checked}
 use Rattle.lists.specs.declared.Checked.the-variants.{Sound, Faulty}
-use Rattle.lists.specs.Walk.{ruleFound}
+use Rattle.lists.specs.Check.{ruleFault, ruleNames}
+use Rattle.lists.specs.Walk.{ruleFoundBy}
 
 abbrev pub checkedOf : Option Fault → Checked
 checkedOf none = Sound
@@ -27,9 +33,38 @@ checkedOf (some f) = Faulty f
 abbrev pub NoNewline : List ℕ → Type 0
 NoNewline t = all (λ b. not (eqb b 10)) t ≡ true
 
-abbrev pub foundBy : Request → Option Rule → Found
-foundBy r none = No
-foundBy r (some u) = ruleFound r u
+-- what a rule finds, by a view of the tables
+abbrev pub viewFound : View → Request → Rule → Found
+viewFound v = ruleFoundBy (v .server) (v .client)
 
-unfoldable pub lineFound : Request → List ℕ → Found
-lineFound r t = foundBy r (parseRule t)
+abbrev pub foundBy : View → Request → Option Rule → Found
+foundBy v r none = No
+foundBy v r (some u) = viewFound v r u
+
+unfoldable pub lineFound : View → Request → List ℕ → Found
+lineFound v r t = foundBy v r (parseRule t)
+
+-- a table may not be named: it is missing, it leads too deep
+abbrev pub isMissingName : Naming → Bool
+isMissingName Naming.Sound = false
+isMissingName Naming.Missing = true
+isMissingName Naming.Deep = false
+
+abbrev pub isDeepName : Naming → Bool
+isDeepName Naming.Sound = false
+isDeepName Naming.Missing = false
+isDeepName Naming.Deep = true
+
+abbrev pub missingBy : View → List ℕ → Bool
+missingBy v n = isMissingName (v .naming n)
+
+abbrev pub deepBy : View → List ℕ → Bool
+deepBy v n = isDeepName (v .naming n)
+
+-- the faults of the tables that a rule names, after those of the rule itself
+abbrev pub rulesNaming : View → Option Rule → Option Fault
+rulesNaming v none = none
+rulesNaming v (some u) = given (ruleNames (missingBy v) u) F.TableName orElse given (ruleNames (deepBy v) u) F.TooDeep
+
+unfoldable pub judgedFault : View → Option Rule → Option Fault
+judgedFault v o = ruleFault o orElse rulesNaming v o

@@ -6,8 +6,8 @@
 --   listEnd c after          == c at the list's end
 --   listFrom kind after c ws == c, checked on through ws; after: whether an element stands directly before
 --   lowestOf d c bad         == the lowest fault of a rule with the lists d and c; bad: whether a percent of its command is
---   restFault d s            == the same where s follows the first separator
---   daemonFinds d s e, clientFinds c u n e == what the element e of a daemon list, of a client list, finds
+--   restFault v d s          == the same where s follows the first separator
+--   daemonFinds v d s e, clientFinds v c u n e == what the element e of a daemon list, of a client list, finds
 -- Assumes nothing: these are definitions.
 use Prim.Native.Nat.{ℕ}
 use mathlib.Core.Bool.{Bool, true, false, not, _&&_, _||_}
@@ -22,9 +22,9 @@ use Rattle.elements.specs.declared.Found.the-variants as N
 use Rattle.elements.specs.declared.User.{User}
 use Rattle.elements.specs.declared.element.ElementFault.{ElementFault}
 use Rattle.elements.specs.declared.element.ElementFault.the-variants as E
-use Rattle.elements.specs.Code.{daemonRequest, clientRequest}
+use Rattle.elements.specs.Code.{View, Kind, clientKind, elementFault, daemonRequest, clientRequest}
 use Rattle.patterns.specs.Host.{Endpoint}
-use Rattle.elements.specs.Element.{Element, reservedStart, daemonElement, clientElement, lookAt}
+use Rattle.elements.specs.Element.{daemonElement, clientElement, lookAt}
 use Rattle.lists.specs.declared.Checked.{Checked}
 use Rattle.lists.specs.declared.Checked.the-variants as C
 use Rattle.lists.specs.declared.check.ListCheck.{ListCheck}
@@ -34,43 +34,80 @@ use Rattle.lists.specs.Walk.{onFound}
 -- ## Checking a list
 
 -- an element of reserved start counts too: 9 is answered before 10
-abbrev pub isUnsound : (List ℕ → Element) → List ℕ → Bool
-isUnsound kind e = reservedStart e || not (isSome (kind e))
+abbrev pub isUnsound : Kind → List ℕ → Bool
+isUnsound kind e = kind .reserved e || not (isSome (kind .element e))
 
-abbrev pub checks : Bool → Bool → Bool → Bool → ListCheck
-checks e m r u = record { empty = e; misplaced = m; reserved = r; unsound = u }
+abbrev pub isMissing : ElementFault → Bool
+isMissing E.Sound = false
+isMissing E.Reserved = false
+isMissing E.Unknown = false
+isMissing E.Missing = true
+isMissing E.Deep = false
 
-unfoldable pub listCheck : (List ℕ → Element) → List (List ℕ) → ListCheck
-listCheck kind ws = checks (all isExcept ws) (exceptMisplaced false ws) (any reservedStart ws) (any (isUnsound kind) ws)
+abbrev pub isDeep : ElementFault → Bool
+isDeep E.Sound = false
+isDeep E.Reserved = false
+isDeep E.Unknown = false
+isDeep E.Missing = false
+isDeep E.Deep = true
+
+abbrev pub checks : Bool → Bool → Bool → Bool → Bool → Bool → ListCheck
+checks e m r u n d = record { empty = e; misplaced = m; reserved = r; unsound = u; missing = n; deep = d }
+
+-- an element names a missing table, one that leads too deep
+abbrev pub namesMissing : Kind → List ℕ → Bool
+namesMissing kind e = isMissing (elementFault kind e)
+
+abbrev pub namesDeep : Kind → List ℕ → Bool
+namesDeep kind e = isDeep (elementFault kind e)
+
+unfoldable pub listCheck : Kind → List (List ℕ) → ListCheck
+listCheck kind ws =
+    checks (all isExcept ws) (exceptMisplaced false ws) (any (kind .reserved) ws) (any (isUnsound kind) ws)
+    (any (namesMissing kind) ws) (any (namesDeep kind) ws)
 
 abbrev pub listStart : ListCheck
-listStart = checks true false false false
+listStart = checks true false false false false false
 
-unfoldable pub listFrom : (List ℕ → Element) → Bool → ListCheck → List (List ℕ) → ListCheck
+unfoldable pub listFrom : Kind → Bool → ListCheck → List (List ℕ) → ListCheck
 listFrom kind after c ws =
     checks
     (c .empty && all isExcept ws)
     (c .misplaced || exceptMisplaced after ws)
-    (c .reserved || any reservedStart ws)
+    (c .reserved || any (kind .reserved) ws)
     (c .unsound || any (isUnsound kind) ws)
+    (c .missing || any (namesMissing kind) ws)
+    (c .deep || any (namesDeep kind) ws)
 
 abbrev pub isReserved : ElementFault → Bool
 isReserved E.Sound = false
 isReserved E.Reserved = true
 isReserved E.Unknown = false
+isReserved E.Missing = false
+isReserved E.Deep = false
 
 abbrev pub isFault : ElementFault → Bool
 isFault E.Sound = false
 isFault E.Reserved = true
 isFault E.Unknown = true
+isFault E.Missing = false
+isFault E.Deep = false
 
 unfoldable pub listMore : ListCheck → Bool → Bool → ElementFault → ListCheck
-listMore c after x f = checks (c .empty && x) (c .misplaced || x && not after) (c .reserved || isReserved f) (c .unsound || isFault f)
+listMore c after x f =
+    checks (c .empty && x) (c .misplaced || x && not after) (c .reserved || isReserved f) (c .unsound || isFault f)
+    (c .missing || isMissing f) (c .deep || isDeep f)
 
 abbrev pub listEnd : ListCheck → Bool → ListCheck
-listEnd c after = checks (c .empty) (c .misplaced || not after) (c .reserved) (c .unsound)
+listEnd c after = checks (c .empty) (c .misplaced || not after) (c .reserved) (c .unsound) (c .missing) (c .deep)
 
 -- ## Checking a rule
+
+unfoldable pub namingFaultOf : ListCheck → ListCheck → Checked
+namingFaultOf d c =
+    if d .missing || c .missing then C.Faulty F.TableName
+    else if d .deep || c .deep then C.Faulty F.TooDeep
+    else C.Sound
 
 unfoldable pub lowestOf : ListCheck → ListCheck → Bool → Checked
 lowestOf d c bad =
@@ -79,7 +116,7 @@ lowestOf d c bad =
     else if d .reserved || c .reserved then C.Faulty F.ReservedStart
     else if d .unsound || c .unsound then C.Faulty F.UnknownElement
     else if bad then C.Faulty F.BadPercent
-    else C.Sound
+    else namingFaultOf d c
 
 -- the client list and the command, where s follows the first separator
 abbrev pub clientWords : List ℕ → List (List ℕ)
@@ -88,8 +125,8 @@ clientWords s = words (take (separatorIndex false s) s)
 abbrev pub badCommandAfter : ℕ → List ℕ → Bool
 badCommandAfter j s = anyBadPercent (trimBlanks (afterSeparator j s))
 
-unfoldable pub restFault : ListCheck → List ℕ → Checked
-restFault d s = lowestOf d (listCheck clientElement (clientWords s)) (badCommandAfter (separatorIndex false s) s)
+unfoldable pub restFault : View → ListCheck → List ℕ → Checked
+restFault v d s = lowestOf d (listCheck (clientKind v) (clientWords s)) (badCommandAfter (separatorIndex false s) s)
 
 -- ## Looking at a list
 
@@ -97,8 +134,8 @@ restFault d s = lowestOf d (listCheck clientElement (clientWords s)) (badCommand
 abbrev pub negated : Found → Found
 negated f = onFound f N.No N.Yes
 
-abbrev pub daemonFinds : List ℕ → Endpoint → List ℕ → Found
-daemonFinds daemon server e = lookAt (daemonRequest daemon server) (daemonElement e)
+abbrev pub daemonFinds : View → List ℕ → Endpoint → List ℕ → Found
+daemonFinds v daemon server e = lookAt (daemonRequest daemon server) (daemonElement (v .server) e)
 
-abbrev pub clientFinds : Endpoint → User → List ℕ → List ℕ → Found
-clientFinds client user name e = lookAt (clientRequest client user name) (clientElement e)
+abbrev pub clientFinds : View → Endpoint → User → List ℕ → List ℕ → Found
+clientFinds v client user name e = lookAt (clientRequest client user name) (clientElement (v .client) e)

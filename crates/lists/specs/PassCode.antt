@@ -14,17 +14,15 @@ use Rattle.lines.specs.Rule.{isExcept, parseRule}
 use Rattle.elements.specs.declared.Found.{Found}
 use Rattle.elements.specs.declared.Found.the-variants as N
 use Rattle.elements.specs.Request.{Request}
-use Rattle.elements.specs.Element.{Element}
-use Rattle.elements.specs.Code.{elementFault, sought}
+use Rattle.elements.specs.Code.{View, Kind, elementFault, sought}
 use Rattle.lists.specs.declared.pass.Side.{Side}
 use Rattle.lists.specs.declared.pass.Side.the-variants as S
 use Rattle.lists.specs.declared.pass.ListPass.{ListPass}
 use Rattle.lists.specs.declared.pass.ListSeen.{ListSeen}
 use Rattle.lists.specs.declared.pass.RuleSeen.{RuleSeen}
 use Rattle.lists.specs.declared.check.ListCheck.{ListCheck}
-use Rattle.lists.specs.Check.{ruleFault}
 use Rattle.lists.specs.Walk.{onFound, included, excluded}
-use Rattle.lists.specs.Code.{checkedOf, lineFound}
+use Rattle.lists.specs.Code.{checkedOf, lineFound, judgedFault}
 use Rattle.lists.specs.ListCode.{listStart, listMore, listEnd, listFrom, listCheck, restFault, negated, clientFinds, clientWords}
 
 -- ## The sides of EXCEPT
@@ -94,7 +92,7 @@ listBoth c f = record { check = c; found = f }
 abbrev pub passStart : Bool → ListPass
 passStart search = listPass listStart false (sideStart search)
 
-unfoldable pub passStep : (List ℕ → Element) → (List ℕ → Found) → ListPass → List ℕ → List (List ℕ) → ListPass
+unfoldable pub passStep : Kind → (List ℕ → Found) → ListPass → List ℕ → List (List ℕ) → ListPass
 passStep kind m p w ws =
     listPass
     (listMore (p .check) (p .after) (isExcept w) (elementFault kind w))
@@ -104,10 +102,10 @@ passStep kind m p w ws =
 abbrev pub passEnd : ListPass → ListSeen
 passEnd p = listBoth (listEnd (p .check) (p .after)) (sideEnd (p .side))
 
-unfoldable pub passFrom : (List ℕ → Element) → (List ℕ → Found) → ListPass → List (List ℕ) → ListSeen
+unfoldable pub passFrom : Kind → (List ℕ → Found) → ListPass → List (List ℕ) → ListSeen
 passFrom kind m p ws = listBoth (listFrom kind (p .after) (p .check) ws) (sideFinds m (p .side) ws)
 
-unfoldable pub listSeen : (List ℕ → Element) → (List ℕ → Found) → Bool → List (List ℕ) → ListSeen
+unfoldable pub listSeen : Kind → (List ℕ → Found) → Bool → List (List ℕ) → ListSeen
 listSeen kind m search ws = listBoth (listCheck kind ws) (sought search (included m ws))
 
 -- ## A rule
@@ -118,11 +116,11 @@ isYes f = elim f [ N.No ↦ false | N.Yes ↦ true | N.Ask ↦ false ]
 abbrev pub thenFound : Found → Found → Found
 thenFound d c = onFound d c N.No
 
-unfoldable pub restSeen : Request → ListSeen → List ℕ → RuleSeen
-restSeen q d s = record {
-  check = restFault (d .check) s;
-  found = thenFound (d .found) (included (clientFinds (q .client) (q .user) (q .userName)) (clientWords s));
+unfoldable pub restSeen : View → Request → ListSeen → List ℕ → RuleSeen
+restSeen v q d s = record {
+  check = restFault v (d .check) s;
+  found = thenFound (d .found) (included (clientFinds v (q .client) (q .user) (q .userName)) (clientWords s));
 }
 
-unfoldable pub ruleSeen : Request → Bool → List ℕ → RuleSeen
-ruleSeen q search t = record { check = checkedOf (ruleFault (parseRule t)); found = sought search (lineFound q t) }
+unfoldable pub ruleSeen : View → Request → Bool → List ℕ → RuleSeen
+ruleSeen v q search t = record { check = checkedOf (judgedFault v (parseRule t)); found = sought search (lineFound v q t) }

@@ -1,11 +1,12 @@
 -- Document 01, "EXCEPT", and of "Search" and "Asking" what one rule finds: the walk.
 --   included m ws, excluded m ws == what the list ws finds, before and after an element of it matched, where m says what an element finds
---   ruleFound r u == what the rule u finds of the request r
+--   ruleFound m r u == what the rule u finds of the request r, where m says what a named table matches
 -- Assumes nothing: these are definitions.
 use Prim.Native.Nat.{ℕ}
 use mathlib.Core.List.{List, [], _∷_}
 use Rattle.text.specs.Basics.{if_then_else_}
 use Rattle.lines.specs.Rule.{Rule, isExcept}
+use Rattle.tables.specs.Table.{Matcher}
 use Rattle.elements.specs.declared.Found.{Found}
 use Rattle.elements.specs.declared.Found.the-variants as Found
 use Rattle.elements.specs.Request.{Request}
@@ -29,7 +30,11 @@ unfoldable mutual
   excluded m [] = Found.Yes
   excluded m (w ∷ ws) = if isExcept w then onFound (included m ws) Found.No Found.Yes else excluded m ws
 
--- "A rule's client list is looked at only if its daemon list matched."
-unfoldable pub ruleFound : Request → Rule → Found
-ruleFound r u =
-    onFound (included (λ e. lookAt r (daemonElement e)) (u .daemons)) (included (λ e. lookAt r (clientElement e)) (u .clients)) Found.No
+-- "A rule's client list is looked at only if its daemon list matched." s and c say what a named table matches: of the server, and of the
+-- client
+unfoldable pub ruleFoundBy : Matcher → Matcher → Request → Rule → Found
+ruleFoundBy s c r u =
+    onFound (included (λ e. lookAt r (daemonElement s e)) (u .daemons)) (included (λ e. lookAt r (clientElement c e)) (u .clients)) Found.No
+
+abbrev pub ruleFound : Matcher → Request → Rule → Found
+ruleFound m = ruleFoundBy m m

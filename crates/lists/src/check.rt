@@ -1,20 +1,23 @@
-// Checking one rule: 7 to 11 of document 01's numbers.
+// Checking one rule: 7 to 11 of document 01's numbers, 15 and 16 of document 02's.
 //   list_start(), list_more(..), list_end(..) == what checking a list finds, element by element
 //   lowest_fault(d, c, bad) == the lowest fault of a rule, by what was found of its lists and its command
 ghost use mathlib.Core.Path.{_≡_};
-ghost use Rattle.lists.specs.ListCode.{isReserved, isFault, listStart, listMore, listEnd, lowestOf, badCommandAfter};
+ghost use Rattle.lists.specs.ListCode.{isReserved, isFault, isMissing, isDeep, namingFaultOf, listStart, listMore, listEnd, lowestOf, badCommandAfter};
 use crate::Checked;
 use elements::element::ElementFault;
 use lines::command;
 use lines::rule;
 use section::Fault;
 
-// What checking a list finds: no element, EXCEPT misplaced, an element of reserved start, an element that is not sound.
+// What checking a list finds: no element, EXCEPT misplaced, an element of reserved start, one that is not sound, one that names a table
+// that is missing, that leads too deep.
 pub struct ListCheck {
     pub empty: bool,
     pub misplaced: bool,
     pub reserved: bool,
     pub unsound: bool,
+    pub missing: bool,
+    pub deep: bool,
 }
 
 // Whether f is a reserved start.
@@ -25,10 +28,12 @@ fn is_reserved(f: ElementFault) -> bool
         ElementFault::Sound => false,
         ElementFault::Reserved => true,
         ElementFault::Unknown => false,
+        ElementFault::Missing => false,
+        ElementFault::Deep => false,
     }
 }
 
-// Whether f is a fault.
+// Whether f is a fault of the element itself.
 fn is_fault(f: ElementFault) -> bool
     ensures { λ r. ⌜ r ≡ isFault f ⌝ }
 {
@@ -36,6 +41,34 @@ fn is_fault(f: ElementFault) -> bool
         ElementFault::Sound => false,
         ElementFault::Reserved => true,
         ElementFault::Unknown => true,
+        ElementFault::Missing => false,
+        ElementFault::Deep => false,
+    }
+}
+
+// Whether f is a table that is missing.
+fn is_missing(f: ElementFault) -> bool
+    ensures { λ r. ⌜ r ≡ isMissing f ⌝ }
+{
+    match f {
+        ElementFault::Sound => false,
+        ElementFault::Reserved => false,
+        ElementFault::Unknown => false,
+        ElementFault::Missing => true,
+        ElementFault::Deep => false,
+    }
+}
+
+// Whether f is a table that leads too deep.
+fn is_deep(f: ElementFault) -> bool
+    ensures { λ r. ⌜ r ≡ isDeep f ⌝ }
+{
+    match f {
+        ElementFault::Sound => false,
+        ElementFault::Reserved => false,
+        ElementFault::Unknown => false,
+        ElementFault::Missing => false,
+        ElementFault::Deep => true,
     }
 }
 
@@ -48,6 +81,8 @@ pub fn list_start() -> ListCheck
         misplaced: false,
         reserved: false,
         unsound: false,
+        missing: false,
+        deep: false,
     }
 }
 
@@ -60,6 +95,8 @@ pub fn list_more(c: ListCheck, after: bool, x: bool, f: ElementFault) -> ListChe
         misplaced: c.misplaced | (x & !after),
         reserved: c.reserved | is_reserved(f),
         unsound: c.unsound | is_fault(f),
+        missing: c.missing | is_missing(f),
+        deep: c.deep | is_deep(f),
     }
 }
 
@@ -72,7 +109,22 @@ pub fn list_end(c: ListCheck, after: bool) -> ListCheck
         misplaced: c.misplaced | !after,
         reserved: c.reserved,
         unsound: c.unsound,
+        missing: c.missing,
+        deep: c.deep,
     }
+}
+
+// The lower fault of the tables that a rule names.
+fn naming_fault(d: ListCheck, c: ListCheck) -> Checked
+    ensures { λ r. ⌜ r ≡ namingFaultOf d c ⌝ }
+{
+    if d.missing | c.missing {
+        return Checked::Faulty(Fault::TableName);
+    }
+    if d.deep | c.deep {
+        return Checked::Faulty(Fault::TooDeep);
+    }
+    Checked::Sound
 }
 
 // The lowest fault of a rule with the lists d and c; bad: whether a percent of its command is bad.
@@ -94,7 +146,7 @@ pub fn lowest_fault(d: ListCheck, c: ListCheck, bad: bool) -> Checked
     if bad {
         return Checked::Faulty(Fault::BadPercent);
     }
-    Checked::Sound
+    naming_fault(d, c)
 }
 
 // Whether a percent is bad in the command, which follows the separator at j of s, if there is one.

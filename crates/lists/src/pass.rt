@@ -4,7 +4,7 @@ ghost use mathlib.Core.Path.{_≡_};
 ghost use Rattle.lines.specs.Parts.{words};
 ghost use Rattle.patterns.specs.Host.{endpoint};
 ghost use Rattle.classes.specs.Class.{Classes, Describes};
-ghost use Rattle.elements.specs.Element.{daemonElement, clientElement};
+ghost use Rattle.elements.specs.Code.{viewOf, daemonKind, clientKind};
 ghost use Rattle.elements.specs.Places.{requestAt};
 ghost use Rattle.lists.specs.Code.{NoNewline};
 ghost use Rattle.lists.specs.ListCode.{daemonFinds, clientFinds};
@@ -140,6 +140,8 @@ fn pass_start(search: bool) -> ListPass
 // The side after EXCEPT in a daemon list; s follows it, and is looked at only if an element before it matched.
 fn daemons_negated(
     class: &[u8; 256],
+    tables: &[u8],
+    notes: &[u64],
     side: Side,
     s: &[u8],
     daemon: &[u8],
@@ -147,12 +149,12 @@ fn daemons_negated(
     server_name: &[u8],
 ) -> Side
     requires { ⌜ Classes (now class) ⌝ }
-    ensures { λ r. ⌜ r ≡ sideTurned (daemonFinds (now (daemon .entry)) (endpoint server (now («server_name» .entry)))) side (words (now (s .entry))) ⌝ }
+    ensures { λ r. ⌜ r ≡ sideTurned (daemonFinds (viewOf (now (tables .entry)) (now (notes .entry))) (now (daemon .entry)) (endpoint server (now («server_name» .entry)))) side (words (now (s .entry))) ⌝ }
 {
     match side {
         Side::Looking => Side::No,
         Side::Matched => {
-            side_of(negated(daemons_included(class, s, daemon, server, server_name)))
+            side_of(negated(daemons_included(class, tables, notes, s, daemon, server, server_name)))
         }
         Side::No => side,
         Side::Yes => side,
@@ -163,6 +165,8 @@ fn daemons_negated(
 // The side after EXCEPT in a client list.
 fn clients_negated(
     class: &[u8; 256],
+    tables: &[u8],
+    notes: &[u64],
     side: Side,
     s: &[u8],
     client: Host,
@@ -172,13 +176,15 @@ fn clients_negated(
 ) -> Side
     requires { ⌜ Classes (now class) ⌝ }
     ensures { λ r.
-        ⌜ r ≡ sideTurned (clientFinds (endpoint client (now («client_name» .entry))) user (now («user_name» .entry))) side
+        ⌜ r ≡ sideTurned (clientFinds (viewOf (now (tables .entry)) (now (notes .entry))) (endpoint client (now («client_name» .entry))) user (now («user_name» .entry))) side
         (words (now (s .entry))) ⌝ }
 {
     match side {
         Side::Looking => Side::No,
         Side::Matched => side_of(negated(clients_included(
             class,
+            tables,
+            notes,
             s,
             client,
             client_name,
@@ -194,6 +200,8 @@ fn clients_negated(
 // The side after a word of a daemon list; x: whether it is EXCEPT, f: what it finds if it is looked at, s: what follows it.
 fn daemons_side(
     class: &[u8; 256],
+    tables: &[u8],
+    notes: &[u64],
     side: Side,
     x: bool,
     f: Found,
@@ -203,10 +211,10 @@ fn daemons_side(
     server_name: &[u8],
 ) -> Side
     requires { ⌜ Classes (now class) ⌝ }
-    ensures { λ r. ⌜ r ≡ sideStep (daemonFinds (now (daemon .entry)) (endpoint server (now («server_name» .entry)))) side x f (words (now (s .entry))) ⌝ }
+    ensures { λ r. ⌜ r ≡ sideStep (daemonFinds (viewOf (now (tables .entry)) (now (notes .entry))) (now (daemon .entry)) (endpoint server (now («server_name» .entry)))) side x f (words (now (s .entry))) ⌝ }
 {
     if x {
-        daemons_negated(class, side, s, daemon, server, server_name)
+        daemons_negated(class, tables, notes, side, s, daemon, server, server_name)
     } else {
         side_more(side, f)
     }
@@ -215,6 +223,8 @@ fn daemons_side(
 // The pass p over the element e of a daemon list; next follows it.
 fn daemon_step(
     class: &[u8; 256],
+    tables: &[u8],
+    notes: &[u64],
     p: ListPass,
     e: &[u8],
     mask: u8,
@@ -226,24 +236,46 @@ fn daemon_step(
     requires { ⌜ Classes (now class) ⌝ }
     requires { ⌜ Describes mask (now e) ⌝ }
     ensures { λ r.
-        ⌜ r ≡ passStep daemonElement (daemonFinds (now (daemon .entry)) (endpoint server (now («server_name» .entry)))) p (now (e .entry))
+        ⌜ r ≡ passStep (daemonKind (viewOf (now (tables .entry)) (now (notes .entry)))) (daemonFinds (viewOf (now (tables .entry)) (now (notes .entry))) (now (daemon .entry)) (endpoint server (now («server_name» .entry)))) p (now (e .entry))
         (words (now (next .entry))) ⌝ }
 {
     let side = p.side;
     let x = rule::is_except(e);
-    let seen = element::daemon_seen(e, mask, is_looking(side), daemon, server, server_name);
+    let seen = element::daemon_seen(
+        e,
+        mask,
+        is_looking(side),
+        tables,
+        notes,
+        daemon,
+        server,
+        server_name,
+    );
     let fault = seen.fault;
     let found = seen.found;
     ListPass {
         check: list_more(p.check, p.after, x, fault),
         after: !x,
-        side: daemons_side(class, side, x, found, next, daemon, server, server_name),
+        side: daemons_side(
+            class,
+            tables,
+            notes,
+            side,
+            x,
+            found,
+            next,
+            daemon,
+            server,
+            server_name,
+        ),
     }
 }
 
 // The side after a word of a client list; x: whether it is EXCEPT, f: what it finds if it is looked at, s: what follows it.
 fn clients_side(
     class: &[u8; 256],
+    tables: &[u8],
+    notes: &[u64],
     side: Side,
     x: bool,
     f: Found,
@@ -255,11 +287,21 @@ fn clients_side(
 ) -> Side
     requires { ⌜ Classes (now class) ⌝ }
     ensures { λ r.
-        ⌜ r ≡ sideStep (clientFinds (endpoint client (now («client_name» .entry))) user (now («user_name» .entry))) side x f
+        ⌜ r ≡ sideStep (clientFinds (viewOf (now (tables .entry)) (now (notes .entry))) (endpoint client (now («client_name» .entry))) user (now («user_name» .entry))) side x f
         (words (now (s .entry))) ⌝ }
 {
     if x {
-        clients_negated(class, side, s, client, client_name, user, user_name)
+        clients_negated(
+            class,
+            tables,
+            notes,
+            side,
+            s,
+            client,
+            client_name,
+            user,
+            user_name,
+        )
     } else {
         side_more(side, f)
     }
@@ -268,6 +310,8 @@ fn clients_side(
 // The pass p over the element e of a client list; next follows it.
 fn client_step(
     class: &[u8; 256],
+    tables: &[u8],
+    notes: &[u64],
     p: ListPass,
     e: &[u8],
     mask: u8,
@@ -280,7 +324,7 @@ fn client_step(
     requires { ⌜ Classes (now class) ⌝ }
     requires { ⌜ Describes mask (now e) ⌝ }
     ensures { λ r.
-        ⌜ r ≡ passStep clientElement (clientFinds (endpoint client (now («client_name» .entry))) user (now («user_name» .entry))) p
+        ⌜ r ≡ passStep (clientKind (viewOf (now (tables .entry)) (now (notes .entry)))) (clientFinds (viewOf (now (tables .entry)) (now (notes .entry))) (endpoint client (now («client_name» .entry))) user (now («user_name» .entry))) p
         (now (e .entry)) (words (now (next .entry))) ⌝ }
 {
     let side = p.side;
@@ -289,6 +333,8 @@ fn client_step(
         e,
         mask,
         is_looking(side),
+        tables,
+        notes,
         client,
         client_name,
         user,
@@ -301,6 +347,8 @@ fn client_step(
         after: !x,
         side: clients_side(
             class,
+            tables,
+            notes,
             side,
             x,
             found,
@@ -327,6 +375,8 @@ fn pass_end(p: ListPass) -> ListSeen
 // What the daemon list s gives.
 fn pass_daemons(
     class: &[u8; 256],
+    tables: &[u8],
+    notes: &[u64],
     s: &[u8],
     search: bool,
     daemon: &[u8],
@@ -335,7 +385,7 @@ fn pass_daemons(
 ) -> ListSeen
     requires { ⌜ Classes (now class) ⌝ }
     ensures { λ r.
-        ⌜ r ≡ listSeen daemonElement (daemonFinds (now (daemon .entry)) (endpoint server (now («server_name» .entry)))) search
+        ⌜ r ≡ listSeen (daemonKind (viewOf (now (tables .entry)) (now (notes .entry)))) (daemonFinds (viewOf (now (tables .entry)) (now (notes .entry))) (now (daemon .entry)) (endpoint server (now («server_name» .entry)))) search
         (words (now (s .entry))) ⌝ }
 {
     let mut p = pass_start(search);
@@ -347,7 +397,18 @@ fn pass_daemons(
             return pass_end(p);
         }
         let next = rule::after_element(rest, at.span);
-        p = daemon_step(class, p, e, at.mask, next, daemon, server, server_name);
+        p = daemon_step(
+            class,
+            tables,
+            notes,
+            p,
+            e,
+            at.mask,
+            next,
+            daemon,
+            server,
+            server_name,
+        );
         rest = next;
     }
 }
@@ -355,6 +416,8 @@ fn pass_daemons(
 // What the client list s gives.
 fn pass_clients(
     class: &[u8; 256],
+    tables: &[u8],
+    notes: &[u64],
     s: &[u8],
     search: bool,
     client: Host,
@@ -364,7 +427,7 @@ fn pass_clients(
 ) -> ListSeen
     requires { ⌜ Classes (now class) ⌝ }
     ensures { λ r.
-        ⌜ r ≡ listSeen clientElement (clientFinds (endpoint client (now («client_name» .entry))) user (now («user_name» .entry))) search
+        ⌜ r ≡ listSeen (clientKind (viewOf (now (tables .entry)) (now (notes .entry)))) (clientFinds (viewOf (now (tables .entry)) (now (notes .entry))) (endpoint client (now («client_name» .entry))) user (now («user_name» .entry))) search
         (words (now (s .entry))) ⌝ }
 {
     let mut p = pass_start(search);
@@ -378,6 +441,8 @@ fn pass_clients(
         let next = rule::after_element(rest, at.span);
         p = client_step(
             class,
+            tables,
+            notes,
             p,
             e,
             at.mask,
@@ -394,6 +459,8 @@ fn pass_clients(
 // What the daemon list s gives of a request.
 fn daemons_seen(
     class: &[u8; 256],
+    tables: &[u8],
+    notes: &[u64],
     s: &[u8],
     search: bool,
     names: &[u8],
@@ -401,13 +468,15 @@ fn daemons_seen(
 ) -> ListSeen
     requires { ⌜ Classes (now class) ⌝ }
     ensures { λ r.
-        ⌜ r ≡ listSeen daemonElement
-        (daemonFinds (requestAt (now (names .entry)) request .daemon) (requestAt (now (names .entry)) request .server)) search
+        ⌜ r ≡ listSeen (daemonKind (viewOf (now (tables .entry)) (now (notes .entry))))
+        (daemonFinds (viewOf (now (tables .entry)) (now (notes .entry))) (requestAt (now (names .entry)) request .daemon) (requestAt (now (names .entry)) request .server)) search
         (words (now (s .entry))) ⌝ }
 {
     let server = request.server;
     pass_daemons(
         class,
+        tables,
+        notes,
         s,
         search,
         part_of(names, request.daemon),
@@ -419,6 +488,8 @@ fn daemons_seen(
 // What the client list s gives of a request.
 fn clients_seen(
     class: &[u8; 256],
+    tables: &[u8],
+    notes: &[u64],
     s: &[u8],
     search: bool,
     names: &[u8],
@@ -426,14 +497,16 @@ fn clients_seen(
 ) -> ListSeen
     requires { ⌜ Classes (now class) ⌝ }
     ensures { λ r.
-        ⌜ r ≡ listSeen clientElement
-        (clientFinds (requestAt (now (names .entry)) request .client) (request .user) (requestAt (now (names .entry)) request .userName))
+        ⌜ r ≡ listSeen (clientKind (viewOf (now (tables .entry)) (now (notes .entry))))
+        (clientFinds (viewOf (now (tables .entry)) (now (notes .entry))) (requestAt (now (names .entry)) request .client) (request .user) (requestAt (now (names .entry)) request .userName))
         search (words (now (s .entry))) ⌝ }
 {
     let client = request.client;
     let user = request.user;
     pass_clients(
         class,
+        tables,
+        notes,
         s,
         search,
         client,
@@ -466,13 +539,29 @@ fn then_found(d: Found, c: Found) -> Found
 }
 
 // What a rule with the daemon list d and, after the first separator, s gives; its client list is looked at only if its daemon list matched.
-fn pass_rest(class: &[u8; 256], d: ListSeen, s: &[u8], names: &[u8], request: Request) -> RuleSeen
+fn pass_rest(
+    class: &[u8; 256],
+    tables: &[u8],
+    notes: &[u64],
+    d: ListSeen,
+    s: &[u8],
+    names: &[u8],
+    request: Request,
+) -> RuleSeen
     requires { ⌜ Classes (now class) ⌝ }
-    ensures { λ r. ⌜ r ≡ restSeen (requestAt (now (names .entry)) request) d (now (s .entry)) ⌝ }
+    ensures { λ r. ⌜ r ≡ restSeen (viewOf (now (tables .entry)) (now (notes .entry))) (requestAt (now (names .entry)) request) d (now (s .entry)) ⌝ }
 {
     let j = rule::separator(s);
     let of_daemons = d.found;
-    let c = clients_seen(class, &s[..j], is_yes(of_daemons), names, request);
+    let c = clients_seen(
+        class,
+        tables,
+        notes,
+        &s[..j],
+        is_yes(of_daemons),
+        names,
+        request,
+    );
     let of_clients = c.found;
     RuleSeen {
         check: lowest_fault(d.check, c.check, bad_command(s, j)),
@@ -483,6 +572,8 @@ fn pass_rest(class: &[u8; 256], d: ListSeen, s: &[u8], names: &[u8], request: Re
 // What the rule in the joined line t gives.
 pub fn pass_rule(
     class: &[u8; 256],
+    tables: &[u8],
+    notes: &[u64],
     t: &[u8],
     search: bool,
     names: &[u8],
@@ -490,7 +581,7 @@ pub fn pass_rule(
 ) -> RuleSeen
     requires { ⌜ Classes (now class) ⌝ }
     requires { ⌜ NoNewline (now t) ⌝ }
-    ensures { λ r. ⌜ r ≡ ruleSeen (requestAt (now (names .entry)) request) search (now (t .entry)) ⌝ }
+    ensures { λ r. ⌜ r ≡ ruleSeen (viewOf (now (tables .entry)) (now (notes .entry))) (requestAt (now (names .entry)) request) search (now (t .entry)) ⌝ }
 {
     let i = rule::separator(t);
     if t.len() <= i {
@@ -499,6 +590,14 @@ pub fn pass_rule(
             found: Found::No,
         };
     }
-    let d = daemons_seen(class, &t[..i], search, names, request);
-    pass_rest(class, d, rule::after_separator(t, i), names, request)
+    let d = daemons_seen(class, tables, notes, &t[..i], search, names, request);
+    pass_rest(
+        class,
+        tables,
+        notes,
+        d,
+        rule::after_separator(t, i),
+        names,
+        request,
+    )
 }

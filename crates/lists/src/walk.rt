@@ -1,10 +1,11 @@
 // What a list finds of a request, by the sides of EXCEPT.
-//   daemons_included(class, s, ..), clients_included(class, s, ..) == what the list s finds
+//   daemons_included(class, tables, notes, s, ..), clients_included(class, tables, notes, s, ..) == what the list s finds
 // Each side of EXCEPT is a function of its own, and calls the other over the rest of the list.
 ghost use mathlib.Core.Path.{_≡_};
 ghost use Rattle.lines.specs.Parts.{words};
 ghost use Rattle.patterns.specs.Host.{endpoint};
 ghost use Rattle.classes.specs.Class.{Classes};
+ghost use Rattle.elements.specs.Code.{viewOf};
 ghost use Rattle.lists.specs.Walk.{included, excluded};
 ghost use Rattle.lists.specs.ListCode.{negated, daemonFinds, clientFinds};
 use classes::element_at;
@@ -29,13 +30,15 @@ pub fn negated(f: Found) -> Found
 // What the daemon list s finds.
 pub fn daemons_included(
     class: &[u8; 256],
+    tables: &[u8],
+    notes: &[u64],
     s: &[u8],
     daemon: &[u8],
     server: Host,
     server_name: &[u8],
 ) -> Found
     requires { ⌜ Classes (now class) ⌝ }
-    ensures { λ r. ⌜ r ≡ included (daemonFinds (now (daemon .entry)) (endpoint server (now («server_name» .entry)))) (words (now (s .entry))) ⌝ }
+    ensures { λ r. ⌜ r ≡ included (daemonFinds (viewOf (now (tables .entry)) (now (notes .entry))) (now (daemon .entry)) (endpoint server (now («server_name» .entry)))) (words (now (s .entry))) ⌝ }
 {
     let mut rest = s;
     loop {
@@ -48,9 +51,9 @@ pub fn daemons_included(
             return Found::No;
         }
         let next = rule::after_element(rest, at.span);
-        match element::daemon_found(w, at.mask, daemon, server, server_name) {
+        match element::daemon_found(w, at.mask, tables, notes, daemon, server, server_name) {
             Found::Yes => {
-                return daemons_excluded(class, next, daemon, server, server_name);
+                return daemons_excluded(class, tables, notes, next, daemon, server, server_name);
             }
             Found::No => {}
             Found::Ask => {
@@ -64,13 +67,15 @@ pub fn daemons_included(
 // What is left of it, s, finds once an element matched.
 fn daemons_excluded(
     class: &[u8; 256],
+    tables: &[u8],
+    notes: &[u64],
     s: &[u8],
     daemon: &[u8],
     server: Host,
     server_name: &[u8],
 ) -> Found
     requires { ⌜ Classes (now class) ⌝ }
-    ensures { λ r. ⌜ r ≡ excluded (daemonFinds (now (daemon .entry)) (endpoint server (now («server_name» .entry)))) (words (now (s .entry))) ⌝ }
+    ensures { λ r. ⌜ r ≡ excluded (daemonFinds (viewOf (now (tables .entry)) (now (notes .entry))) (now (daemon .entry)) (endpoint server (now («server_name» .entry)))) (words (now (s .entry))) ⌝ }
 {
     let mut rest = s;
     loop {
@@ -81,7 +86,15 @@ fn daemons_excluded(
         }
         let next = rule::after_element(rest, at.span);
         if rule::is_except(w) {
-            return negated(daemons_included(class, next, daemon, server, server_name));
+            return negated(daemons_included(
+                class,
+                tables,
+                notes,
+                next,
+                daemon,
+                server,
+                server_name,
+            ));
         }
         rest = next;
     }
@@ -90,6 +103,8 @@ fn daemons_excluded(
 // What the client list s finds.
 pub fn clients_included(
     class: &[u8; 256],
+    tables: &[u8],
+    notes: &[u64],
     s: &[u8],
     client: Host,
     client_name: &[u8],
@@ -97,7 +112,7 @@ pub fn clients_included(
     user_name: &[u8],
 ) -> Found
     requires { ⌜ Classes (now class) ⌝ }
-    ensures { λ r. ⌜ r ≡ included (clientFinds (endpoint client (now («client_name» .entry))) user (now («user_name» .entry))) (words (now (s .entry))) ⌝ }
+    ensures { λ r. ⌜ r ≡ included (clientFinds (viewOf (now (tables .entry)) (now (notes .entry))) (endpoint client (now («client_name» .entry))) user (now («user_name» .entry))) (words (now (s .entry))) ⌝ }
 {
     let mut rest = s;
     loop {
@@ -110,9 +125,27 @@ pub fn clients_included(
             return Found::No;
         }
         let next = rule::after_element(rest, at.span);
-        match element::client_found(w, at.mask, client, client_name, user, user_name) {
+        match element::client_found(
+            w,
+            at.mask,
+            tables,
+            notes,
+            client,
+            client_name,
+            user,
+            user_name,
+        ) {
             Found::Yes => {
-                return clients_excluded(class, next, client, client_name, user, user_name);
+                return clients_excluded(
+                    class,
+                    tables,
+                    notes,
+                    next,
+                    client,
+                    client_name,
+                    user,
+                    user_name,
+                );
             }
             Found::No => {}
             Found::Ask => {
@@ -126,6 +159,8 @@ pub fn clients_included(
 // What is left of it, s, finds once an element matched.
 fn clients_excluded(
     class: &[u8; 256],
+    tables: &[u8],
+    notes: &[u64],
     s: &[u8],
     client: Host,
     client_name: &[u8],
@@ -133,7 +168,7 @@ fn clients_excluded(
     user_name: &[u8],
 ) -> Found
     requires { ⌜ Classes (now class) ⌝ }
-    ensures { λ r. ⌜ r ≡ excluded (clientFinds (endpoint client (now («client_name» .entry))) user (now («user_name» .entry))) (words (now (s .entry))) ⌝ }
+    ensures { λ r. ⌜ r ≡ excluded (clientFinds (viewOf (now (tables .entry)) (now (notes .entry))) (endpoint client (now («client_name» .entry))) user (now («user_name» .entry))) (words (now (s .entry))) ⌝ }
 {
     let mut rest = s;
     loop {
@@ -144,7 +179,16 @@ fn clients_excluded(
         }
         let next = rule::after_element(rest, at.span);
         if rule::is_except(w) {
-            return negated(clients_included(class, next, client, client_name, user, user_name));
+            return negated(clients_included(
+                class,
+                tables,
+                notes,
+                next,
+                client,
+                client_name,
+                user,
+                user_name,
+            ));
         }
         rest = next;
     }

@@ -28,13 +28,15 @@ pub const BYUID_AT: usize = 20;
 
 pub const PORTACL_AT: usize = 21;
 
-pub const COMMA: usize = 22;
+pub const TABLES_AT: usize = 22;
 
-pub const ARROW: usize = 23;
+pub const COMMA: usize = 23;
 
-pub const TOUCHED: usize = 24;
+pub const ARROW: usize = 24;
 
-pub const MALFORMED: usize = 25;
+pub const TOUCHED: usize = 25;
+
+pub const MALFORMED: usize = 26;
 
 pub fn text(s: &[u8]) {
     io::write_all(STDOUT_FILENO, s);
@@ -82,7 +84,7 @@ fn nth(texts: &[u8], place: usize) -> &[u8] {
 pub fn word(place: usize) {
     text(nth(
         b"|granted|denied|ask|no line|not ruled|exempt|, no file|, allow line |, deny line |refused | section | line |sheet ok|\
-          , command:| bytes|, the same|, others|allow at |deny at |byuid at |portacl at |, | -> |touched: |malformed: ",
+          , command:| bytes|, the same|, others|allow at |deny at |byuid at |portacl at |tables at |, | -> |touched: |malformed: ",
         place,
     ));
 }

@@ -32,12 +32,9 @@ use Rattle.lines.proofs.LineLaws.{isNoNewline, scanLine-bounds, line-joined, le
 use Rattle.lines.proofs.RuleLaws.{parseRule-none, parseRule-parts}
 use Rattle.elements.specs.declared.Found.{Found}
 use Rattle.elements.specs.declared.Found.the-variants.{No, Yes, Ask}
-use Rattle.elements.specs.Request.{Request}
 use Rattle.lists.specs.declared.Checked.the-variants as Che
 use Rattle.lists.specs.declared.pass.RuleSeen.{RuleSeen}
-use Rattle.lists.specs.Check.{ruleFault}
-use Rattle.lists.specs.Walk.{ruleFound}
-use Rattle.lists.specs.Code.{NoNewline, checkedOf, foundBy, lineFound}
+use Rattle.lists.specs.Code.{NoNewline, checkedOf, foundBy, lineFound, judgedFault}
 use Rattle.lists.specs.PassCode.{ruleSeen}
 use Rattle.rules.specs.declared.Verdict.{Verdict}
 use Rattle.rules.specs.declared.Verdict.the-variants as Ver
@@ -50,9 +47,9 @@ use Rattle.rules.specs.declared.hosts_file.LineKind.the-variants as Kind
 use Rattle.rules.specs.declared.hosts_file.Examined.{Examined}
 use Rattle.rules.specs.declared.hosts_file.Examined.the-variants as T
 use Rattle.rules.specs.declared.hosts_file.Step.{Step}
-use Rattle.rules.specs.Check.{lineFault, hostsFault}
+use Rattle.rules.specs.Check.{lineFaultBy}
 use Rattle.rules.specs.Search.{answer, ruleAnswer, lineAnswer}
-use Rattle.rules.specs.FileCode.{faultAt, hostsFaultAt, passOf, passLine, passText, layoutFault, kindAs, lineKind, examinedAs, ruleExamined, lineExamined}
+use Rattle.rules.specs.FileCode.{Query, queryFound, judgedLine, faultAt, hostsFaultAt, passOf, passLine, passText, layoutFault, kindAs, lineKind, examinedAs, ruleExamined, lineExamined}
 use Rattle.rules.specs.FileCode.{commandPart, ScannedLine, stepOf, combined}
 use Rattle.rules.proofs.JoinLaws.{ruleExamined-join, isEmpty-trimmed}
 
@@ -102,24 +99,24 @@ module _ (s : List ℕ) (l : LineSpan) (h : ScannedLine s l) where
 
 -- ## What a rule, and a line, tells
 
-module _ (b : Bool) (r : Request) (t : List ℕ) (x : RuleSeen) (is-x : x ≡ ruleSeen r b t) where
-  checked : checkedOf (ruleFault (parseRule t)) ≡ x .check
+module _ (b : Bool) (r : Query) (t : List ℕ) (x : RuleSeen) (is-x : x ≡ ruleSeen (r .view) (r .request) b t) where
+  checked : checkedOf (judgedFault (r .view) (parseRule t)) ≡ x .check
   unfolding ruleSeen
   checked = sym (ap (λ (z : RuleSeen). z .check) is-x)
 
   pub examined-faulty : (f : Fault) → x .check ≡ Che.Faulty f → T.Faulty f ≡ ruleExamined b r t
   unfolding ruleExamined
-  examined-faulty f e = by (ruleFault (parseRule t)) (checked ∙ e)
+  examined-faulty f e = by (judgedFault (r .view) (parseRule t)) (checked ∙ e)
     where
-      by : (o : Option Fault) → checkedOf o ≡ Che.Faulty f → T.Faulty f ≡ examinedAs o (if b then lineFound r t else No)
+      by : (o : Option Fault) → checkedOf o ≡ Che.Faulty f → T.Faulty f ≡ examinedAs o (if b then lineFound (r .view) (r .request) t else No)
       by none k = let z : _≡_ {A = ℕ} 0 1 = cc in absurd (omega arith)
       by (some g) k = cc
 
   pub examined-sound : x .check ≡ Che.Sound → T.Finds (x .found) ≡ ruleExamined b r t
   unfolding ruleExamined ruleSeen
-  examined-sound e = ap (λ (z : RuleSeen). T.Finds (z .found)) is-x ∙ by (ruleFault (parseRule t)) (checked ∙ e)
+  examined-sound e = ap (λ (z : RuleSeen). T.Finds (z .found)) is-x ∙ by (judgedFault (r .view) (parseRule t)) (checked ∙ e)
     where
-      by : (o : Option Fault) → checkedOf o ≡ Che.Sound → T.Finds (if b then lineFound r t else No) ≡ examinedAs o (if b then lineFound r t else No)
+      by : (o : Option Fault) → checkedOf o ≡ Che.Sound → T.Finds (if b then lineFound (r .view) (r .request) t else No) ≡ examinedAs o (if b then lineFound (r .view) (r .request) t else No)
       by none k = refl
       by (some g) k = let z : _≡_ {A = ℕ} 0 1 = cc in absurd (omega arith)
 
@@ -135,12 +132,12 @@ examinedBy-kind (some f) q p x = refl
 examinedBy-kind none q true x = refl
 examinedBy-kind none q false x = refl
 
-module _ (b : Bool) (r : Request) (s : List ℕ) (l : LineSpan) (x : LineKind) (is-x : x ≡ lineKind (line 0 0 s (l .ended))) where
+module _ (b : Bool) (r : Query) (s : List ℕ) (l : LineSpan) (x : LineKind) (is-x : x ≡ lineKind (line 0 0 s (l .ended))) where
   examined-kind : examinedBy x (ruleExamined b r s) ≡ lineExamined b r (line 0 0 s (l .ended))
-  unfolding lineExamined lineKind lineFault ruleExamined
+  unfolding lineExamined lineKind lineFaultBy ruleExamined
   examined-kind =
       let n : Line = line 0 0 s (l .ended) in
-      rw (is-x, kind-lowest n) (examinedBy-kind (layoutFault n) (ruleFault (parseRule s)) (isComment n || isBlank n) (if b then lineFound r s else No))
+      rw (is-x, kind-lowest n) (examinedBy-kind (layoutFault n) (judgedFault (r .view) (parseRule s)) (isComment n || isBlank n) (if b then lineFound (r .view) (r .request) s else No))
 
   pub line-faulty : (f : Fault) → x ≡ Kind.Faulty f → T.Faulty f ≡ lineExamined b r (line 0 0 s (l .ended))
   line-faulty f e = rw e at examined-kind
@@ -209,7 +206,7 @@ module _ (s o d : List ℕ) (n : ℕ) (is-n : n ≡ length (join s)) (is-o : o �
   pub joined-clean : NoNewline (join s) → NoNewline (take n o)
   joined-clean h = rw joined-part h
 
-  pub examine-joined : (b : Bool) (r : Request) → NoNewline (join s) → (y : Examined) → y ≡ ruleExamined b r (take n o) → y ≡ ruleExamined b r s
+  pub examine-joined : (b : Bool) (r : Query) → NoNewline (join s) → (y : Examined) → y ≡ ruleExamined b r (take n o) → y ≡ ruleExamined b r s
   examine-joined b r h y is-y = is-y ∙ ap (ruleExamined b r) joined-part ∙ ruleExamined-join b r s h
 
 -- ## The raw command
@@ -247,7 +244,7 @@ passBy o v f n p (T.Finds No) = P.Unmatched
 passBy o v f n p (T.Finds Yes) = P.Matched (answer v f n p)
 passBy o v f n p (T.Finds Ask) = P.Matched (answer Ver.Ask f n (part 0 0))
 
-module _ (o : ℕ) (v : Verdict) (f : File) (b : Bool) (r : Request) (n at : ℕ) (s : List ℕ) (e : Bool) where
+module _ (o : ℕ) (v : Verdict) (f : File) (b : Bool) (r : Query) (n at : ℕ) (s : List ℕ) (e : Bool) where
   passBy-found : (u : Rule) (x : Found) → passBy o v f n (commandPart at s (some u)) (T.Finds x) ≡ passOf none (ruleAnswer v f (line n at s e) u x)
   unfolding commandPart
   passBy-found u No = refl
@@ -255,21 +252,21 @@ module _ (o : ℕ) (v : Verdict) (f : File) (b : Bool) (r : Request) (n at : ℕ
   passBy-found u Ask = refl
 
   passBy-examined : (g : Option Fault) (p c : Bool) (q : Option Rule)
-      → passBy o v f n (commandPart at s q) (examinedAs g (if p then No else if c then foundBy r q else No))
-      ≡ passOf (atPlace o n g) (if c then (if p then none else (q >>= λ u. ruleAnswer v f (line n at s e) u (ruleFound r u))) else none)
+      → passBy o v f n (commandPart at s q) (examinedAs g (if p then No else if c then foundBy (r .view) (r .request) q else No))
+      ≡ passOf (atPlace o n g) (if c then (if p then none else (q >>= λ u. ruleAnswer v f (line n at s e) u (queryFound r u))) else none)
   passBy-examined (some g) p c q = refl
   passBy-examined none true true q = refl
   passBy-examined none true false q = refl
   passBy-examined none false false q = refl
   passBy-examined none false true none = refl
-  passBy-examined none false true (some u) = passBy-found u (ruleFound r u)
+  passBy-examined none false true (some u) = passBy-found u (queryFound r u)
 
   module _ (t : Examined) (is-t : t ≡ lineExamined b r (line 0 0 s e)) where
     line-pass : passBy o v f n (commandPart at s (parseRule s)) t ≡ passLine o v f b r (line n at s e)
-    unfolding lineExamined lineFault lineFound passLine lineAnswer
+    unfolding lineExamined lineFaultBy lineFound passLine lineAnswer
     line-pass =
         let l : Line = line n at s e in
-        rw is-t (passBy-examined (lineFault l) (isComment l || isBlank l) b (parseRule s))
+        rw is-t (passBy-examined (judgedLine (r .view) l) (isComment l || isBlank l) b (parseRule s))
 
     pub pass-faulty : (g : Fault) → t ≡ T.Faulty g → P.Faulty (refusal g o n) ≡ passLine o v f b r (line n at s e)
     pass-faulty g k = rw k at line-pass
@@ -300,7 +297,7 @@ module _ (t : List ℕ) (i : ℕ) (l : LineSpan) (is-l : l ≡ spanAt i (scanLin
       let b : SpanBounds (length t) i l = scanLine-bounds t i l w is-l in
       omega (arith, length-line t i l is-l w, b .within, b .from)
 
-  pub step-is : (o : ℕ) (v : Verdict) (f : File) (b : Bool) (r : Request) (n : ℕ) (p : Pass)
+  pub step-is : (o : ℕ) (v : Verdict) (f : File) (b : Bool) (r : Query) (n : ℕ) (p : Pass)
       → p ≡ passLine o v f b r (line n i (take (l .end - i) (drop i t)) (l .ended))
       → record { next = l .end + 1; number = n + l .joins + 1; pass = p } ≡ stepOf o v f b r t i n (spanAt i (scanLine (drop i t)))
   step-is o v f b r n p is-p = rw (is-p, is-l)
@@ -347,9 +344,9 @@ both-matched none none (some c) y′ true a e = (refl, e)
 both-matched none x′ none y′ true a e = let z : _≡_ {A = ℕ} 0 1 = cc in absurd (omega arith)
 both-matched none x′ y y′ false a e = let z : _≡_ {A = ℕ} 0 1 = cc in absurd (omega arith)
 
-module _ (o : ℕ) (v : Verdict) (f : File) (r : Request) where
+module _ (o : ℕ) (v : Verdict) (f : File) (r : Query) where
   unfoldable pub passLines : Bool → List Line → Pass
-  passLines b ls = passOf (first (faultAt o) ls) (if b then first (lineAnswer v f r) ls else none)
+  passLines b ls = passOf (first (faultAt o (r .view)) ls) (if b then first (lineAnswer v f (queryFound r)) ls else none)
 
   -- the loop over the text t, of which the pass is whole, at the line of number n at i; b: whether an answer is looked for
   pub record Passing (whole : Pass) (t : List ℕ) (i n : ℕ) (b : Bool) (found : Pass) : Type 0 where
@@ -371,7 +368,7 @@ module _ (o : ℕ) (v : Verdict) (f : File) (r : Request) where
 
   -- a line without an ending newline is faulty
   ended-line : (b : Bool) (n at : ℕ) (s : List ℕ) (e : Bool) (q : Pass) → passLine o v f b r (line n at s e) ≡ q → Sound q → e ≡ true
-  unfolding passLine lineFault lowest
+  unfolding passLine lineFaultBy lowest
   ended-line b n at s true q k h = refl
   ended-line b n at s false q k h = absurd (subst (λ (p : Pass). Sound p) (sym k) h)
 
@@ -383,15 +380,15 @@ module _ (o : ℕ) (v : Verdict) (f : File) (r : Request) where
   module _ (b : Bool) (l : Line) (ls : List Line) where
     passLines-faulty : (g : Refusal) → passLine o v f b r l ≡ P.Faulty g → passLines b (l ∷ ls) ≡ P.Faulty g
     unfolding passLine passLines first
-    passLines-faulty g e = both-faulty (faultAt o l) (first (faultAt o) ls) (lineAnswer v f r l) (first (lineAnswer v f r) ls) b g e
+    passLines-faulty g e = both-faulty (faultAt o (r .view) l) (first (faultAt o (r .view)) ls) (lineAnswer v f (queryFound r) l) (first (lineAnswer v f (queryFound r)) ls) b g e
 
     passLines-unmatched : passLine o v f b r l ≡ P.Unmatched → passLines b (l ∷ ls) ≡ passLines b ls
     unfolding passLine passLines first
-    passLines-unmatched e = both-unmatched (faultAt o l) (first (faultAt o) ls) (lineAnswer v f r l) (first (lineAnswer v f r) ls) b e
+    passLines-unmatched e = both-unmatched (faultAt o (r .view) l) (first (faultAt o (r .view)) ls) (lineAnswer v f (queryFound r) l) (first (lineAnswer v f (queryFound r)) ls) b e
 
     passLines-matched : (a : Answer) → passLine o v f b r l ≡ P.Matched a → (b ≡ true) × (passLines b (l ∷ ls) ≡ combined (P.Matched a) (passLines false ls))
     unfolding passLine passLines first
-    passLines-matched a e = both-matched (faultAt o l) (first (faultAt o) ls) (lineAnswer v f r l) (first (lineAnswer v f r) ls) b a e
+    passLines-matched a e = both-matched (faultAt o (r .view) l) (first (faultAt o (r .view)) ls) (lineAnswer v f (queryFound r) l) (first (lineAnswer v f (queryFound r)) ls) b a e
 
   module _ {whole : Pass} {t : List ℕ} {i n : ℕ} {b : Bool} {found : Pass} (inv : Passing whole t i n b found) where
     pub passing-end : length t ≤ i → found ≡ whole
@@ -465,16 +462,12 @@ module _ (o : ℕ) (v : Verdict) (f : File) (r : Request) where
 
 -- ## The checks alone
 
-pub pass-empty : (o : ℕ) (v : Verdict) (f : File) (b : Bool) (r : Request) (t : List ℕ) → length t ≡ 0 → P.Unmatched ≡ passText o v f b r t
+pub pass-empty : (o : ℕ) (v : Verdict) (f : File) (b : Bool) (r : Query) (t : List ℕ) → length t ≡ 0 → P.Unmatched ≡ passText o v f b r t
 unfolding passText hostsFaultAt lines logicalLines split first
 pass-empty o v f true r [] h = refl
 pass-empty o v f false r [] h = refl
 pass-empty o v f b r (x ∷ t) h = absurd (omega arith)
 
-pub pass-unsought : (o : ℕ) (v : Verdict) (f : File) (r : Request) (t : List ℕ) (p : Pass) → p ≡ passText o v f false r t → p ≡ passOf (hostsFaultAt o t) none
+pub pass-unsought : (o : ℕ) (v : Verdict) (f : File) (r : Query) (t : List ℕ) (p : Pass) → p ≡ passText o v f false r t → p ≡ passOf (hostsFaultAt o (r .view) t) none
 unfolding passText
 pass-unsought o v f r t p is-p = is-p
-
-pub hostsFaultAt-order : (s : Section) (t : List ℕ) → hostsFaultAt (s .order) t ≡ hostsFault s t
-unfolding hostsFaultAt hostsFault
-hostsFaultAt-order s t = refl

@@ -18,12 +18,11 @@ use Rattle.lines.specs.Command.{skipBlanks, trimmed, hasBadPercent}
 use Rattle.lines.proofs.LineLaws.{any-one, join-pair, join-plain, isNoNewline, join-clean}
 use Rattle.lines.proofs.RuleLaws.{rule}
 use Rattle.elements.specs.declared.Found.the-variants.{No}
-use Rattle.elements.specs.Request.{Request}
-use Rattle.lists.specs.Check.{ruleFault}
-use Rattle.lists.specs.Walk.{ruleFound}
-use Rattle.lists.specs.Code.{NoNewline, lineFound}
+use Rattle.lists.specs.Check.{ruleFault, ruleNames}
+use Rattle.lists.specs.Walk.{ruleFoundBy}
+use Rattle.lists.specs.Code.{NoNewline, lineFound, judgedFault}
 use Rattle.rules.specs.declared.hosts_file.Examined.{Examined}
-use Rattle.rules.specs.FileCode.{examinedAs, ruleExamined}
+use Rattle.rules.specs.FileCode.{Query, queryFound, examinedAs, ruleExamined}
 
 -- ## Parting at a separator
 
@@ -137,13 +136,13 @@ hasBadPercent-join s h = rw (join-clean (join s) h)
 abbrev ruleBy : List ℕ × List ℕ → Option (List ℕ × List ℕ) → Rule
 ruleBy p o = let q : List ℕ × List ℕ = Option·getD o (p .1, []) in rule (elements (p .0)) (elements (q .0)) (q .1)
 
-module _ (b : Bool) (r : Request) where
+module _ (b : Bool) (r : Query) where
   tells : Rule → Examined
-  unfolding ruleFound
-  tells u = examinedAs (ruleFault (some u)) (if b then ruleFound r u else No)
+  unfolding ruleFoundBy
+  tells u = examinedAs (judgedFault (r .view) (some u)) (if b then queryFound r u else No)
 
   tells-command : (ds cs : List (List ℕ)) (c : List ℕ) → NoNewline (join c) → tells (rule ds cs (join c)) ≡ tells (rule ds cs c)
-  unfolding tells ruleFault ruleFound
+  unfolding tells judgedFault ruleFault ruleNames ruleFoundBy
   tells-command ds cs c h = rw (hasBadPercent-join c h)
 
   tells-rest : (d t : List ℕ) (o : Option (List ℕ × List ℕ)) → NoNewline (join d) → NoNewline (join t) → AllParts isNoNewline (joinParts o)

@@ -13,21 +13,19 @@ use mathlib.Core.Path.{_≡_, refl, subst, _∙_}
 use lib.ListN.{length, length-append}
 use Rattle.text.specs.Basics.{if_then_else_, _>>=_, _orElse_, isEmpty, first}
 use Rattle.text.specs.Text.{bytes, among, lastAmong, consFirst, consHead, split}
-use Rattle.section.specs.Section as S
 use Rattle.section.specs.Section.{part}
 use Rattle.lines.specs.Line.{Line, line, continued, logicalLines, lines, isComment, isBlank}
 use Rattle.lines.specs.Rule.{Rule, elements, splitSeparator, parseRule}
 use Rattle.lines.specs.Command.{trimmed}
 use Rattle.elements.specs.declared.Found.{Found}
 use Rattle.elements.specs.declared.Found.the-variants.{No, Yes, Ask}
+use Rattle.tables.specs.Table.{Matcher}
 use Rattle.elements.specs.Request.{Request}
 use Rattle.rules.specs.declared.Verdict.{Verdict}
 use Rattle.rules.specs.declared.Verdict.the-variants as Ver
 use Rattle.rules.specs.declared.File.{File}
 use Rattle.rules.specs.declared.File.the-variants.{Neither, Allow, Deny}
 use Rattle.rules.specs.declared.Answer.{Answer}
-use Rattle.rules.specs.Check.{hostsFault}
-use Rattle.rules.specs.FileCode.{passOf, passBoth}
 use Rattle.rules.specs.Search.{search, answer, rawCommand, ruleAnswer, lineAnswer}
 use Rattle.lists.specs.Walk.{ruleFound}
 
@@ -85,7 +83,7 @@ command-end : (b : Bool) (at m n : ℕ) → n ≤ m → at + (m - n) + (if b the
 command-end true at m n h = omega arith
 command-end false at m n h = omega arith
 
-module _ (v : Verdict) (f : File) (r : Request) where
+module _ (v : Verdict) (f : File) (r : Rule → Found) where
   rule-within : (l : Line) (u : Rule) (x : Found) (a : Answer) → length (u .command) ≤ length (l .raw) → ruleAnswer v f l u x ≡ some a
       → Within f (l .place + length (l .raw)) a
   rule-within l u No a h e = let z : _≡_ {A = ℕ} 0 1 = cc in absurd (omega arith)
@@ -102,10 +100,10 @@ module _ (v : Verdict) (f : File) (r : Request) where
   line-within l a e = by (isComment l || isBlank l) (parseRule (l .raw)) refl e
     where
       by : (b : Bool) (o : Option Rule) → parseRule (l .raw) ≡ o
-          → (if b then none else (o >>= λ u. ruleAnswer v f l u (ruleFound r u))) ≡ some a → Within f (l .place + length (l .raw)) a
+          → (if b then none else (o >>= λ u. ruleAnswer v f l u (r u))) ≡ some a → Within f (l .place + length (l .raw)) a
       by true o k e = let z : _≡_ {A = ℕ} 0 1 = cc in absurd (omega arith)
       by false none k e = let z : _≡_ {A = ℕ} 0 1 = cc in absurd (omega arith)
-      by false (some u) k e = rule-within l u (ruleFound r u) a (parseRule-within (l .raw) u k) e
+      by false (some u) k e = rule-within l u (r u) a (parseRule-within (l .raw) u k) e
 
 -- ## A text's answer
 
@@ -153,7 +151,7 @@ lines-within m n at (s ∷ u ∷ ss) h =
     by true ls ih = continued-within m n at s ls (omega arith) (ih .0) (ih .1)
     by false ls ih = ((omega arith, ih .0), refl)
 
-module _ (v : Verdict) (f : File) (r : Request) where
+module _ (v : Verdict) (f : File) (r : Rule → Found) where
   first-within : (m : ℕ) (ls : List Line) (a : Answer) → AllWithin m ls → first (lineAnswer v f r) ls ≡ some a → Within f m a
   unfolding first
   first-within m [] a h e = let z : _≡_ {A = ℕ} 0 1 = cc in absurd (omega arith)
@@ -178,19 +176,14 @@ fileLength allow deny Neither = 0
 fileLength allow deny Allow = length allow
 fileLength allow deny Deny = length deny
 
-module _ (allow deny : List ℕ) (r : Request) where
-  pub search-within : search allow deny r .command .place + search allow deny r .command .len ≤ fileLength allow deny (search allow deny r .file)
+module _ (m : Matcher) (allow deny : List ℕ) (r : Request) where
+  pub search-within : search m allow deny r .command .place + search m allow deny r .command .len ≤ fileLength allow deny (search m allow deny r .file)
   unfolding search
-  search-within = by (first (lineAnswer Ver.Granted Allow r) (lines allow)) (first (lineAnswer Ver.Denied Deny r) (lines deny)) refl refl
+  search-within = by (first (lineAnswer Ver.Granted Allow (ruleFound m r)) (lines allow)) (first (lineAnswer Ver.Denied Deny (ruleFound m r)) (lines deny)) refl refl
     where
-      by : (x y : Option Answer) → first (lineAnswer Ver.Granted Allow r) (lines allow) ≡ x → first (lineAnswer Ver.Denied Deny r) (lines deny) ≡ y
+      by : (x y : Option Answer) → first (lineAnswer Ver.Granted Allow (ruleFound m r)) (lines allow) ≡ x → first (lineAnswer Ver.Denied Deny (ruleFound m r)) (lines deny) ≡ y
           → let a : Answer = Option·getD (x orElse y) (answer Ver.Granted Neither 0 (part 0 0)) in
           a .command .place + a .command .len ≤ fileLength allow deny (a .file)
-      by (some a) y e f = let w = text-within Ver.Granted Allow r allow a e in rw (w .file) (w .end)
-      by none (some a) e f = let w = text-within Ver.Denied Deny r deny a f in rw (w .file) (w .end)
+      by (some a) y e f = let w = text-within Ver.Granted Allow (ruleFound m r) allow a e in rw (w .file) (w .end)
+      by none (some a) e f = let w = text-within Ver.Denied Deny (ruleFound m r) deny a f in rw (w .file) (w .end)
       by none none e f = omega arith
-
-  pub pass-search : (x : Option Answer) × (passBoth r allow deny ≡ passOf (hostsFault S.allow allow orElse hostsFault S.deny deny) x)
-      × (search allow deny r ≡ Option·getD x (answer Ver.Granted Neither 0 (part 0 0)))
-  unfolding passBoth search
-  pass-search = (first (lineAnswer Ver.Granted Allow r) (lines allow) orElse first (lineAnswer Ver.Denied Deny r) (lines deny), refl, refl)

@@ -21,16 +21,16 @@ use Rattle.elements.specs.declared.Found.the-variants.{No, Yes, Ask}
 use Rattle.patterns.specs.Host.{Endpoint}
 use Rattle.elements.specs.Request.{Request, userCase, wellFormed, held}
 use Rattle.elements.specs.Code.{withUser}
-use Rattle.patterns.specs.Pattern.{hostPattern}
+use Rattle.tables.specs.Table.{Table, Matcher, patternWith, tablesOf, tablesFrame, matchOf}
 use Rattle.elements.specs.Element.{halves, foundIf, daemonName, userHalf, daemonParts, clientParts, daemonElement, clientElement, lookAt}
-use Rattle.lists.specs.Walk.{onFound, included, excluded, ruleFound}
+use Rattle.lists.specs.Walk.{onFound, included, excluded, ruleFoundBy, ruleFound}
 use Rattle.rules.specs.declared.Verdict.{Verdict}
 use Rattle.rules.specs.declared.Verdict.the-variants as Ver
 use Rattle.rules.specs.declared.File.{File}
 use Rattle.rules.specs.declared.File.the-variants as Deciding
 use Rattle.rules.specs.declared.Answer.{Answer}
-use Rattle.rules.specs.Check.{hostsFault}
-use Rattle.rules.specs.Search.{answer, ruleAnswer, lineAnswer, search, decide}
+use Rattle.rules.specs.Check.{hostsFault, tablesFault}
+use Rattle.rules.specs.Search.{answer, ruleAnswer, lineAnswer, search, decideOver, decide, decideTables}
 
 -- what has not asked: a finding, a verdict, an answer, an outcome
 abbrev pub Quiet : Found → Type 0
@@ -95,7 +95,7 @@ first-same f f′ same (l ∷ ls) h = by (f l) (f′ l) (same l) h (first-same f
 -- ## From an element to the call
 
 -- one request with its user not fetched, whatever bytes stand beside it, and the same with a user u
-module _ (r : Request) (t₀ : List ℕ) (u : User) (t : List ℕ) where
+module _ (m : Matcher) (r : Request) (t₀ : List ℕ) (u : User) (t : List ℕ) where
   abbrev unasked : Request
   unasked = withUser r U.NotFetched t₀
 
@@ -103,7 +103,7 @@ module _ (r : Request) (t₀ : List ℕ) (u : User) (t : List ℕ) where
   asked = withUser r u t
 
   -- a daemon element knows no user
-  daemon-same : (e : List ℕ) → lookAt asked (daemonElement e) ≡ lookAt unasked (daemonElement e)
+  daemon-same : (e : List ℕ) → lookAt asked (daemonElement m e) ≡ lookAt unasked (daemonElement m e)
   unfolding daemonElement daemonParts
   daemon-same e = by (halves e)
     where
@@ -119,12 +119,12 @@ module _ (r : Request) (t₀ : List ℕ) (u : User) (t : List ℕ) where
       name none = refl
       name (some f) = refl
 
-      by : (o : Option (List ℕ × List ℕ)) → lookAt asked (daemonParts e o) ≡ lookAt unasked (daemonParts e o)
+      by : (o : Option (List ℕ × List ℕ)) → lookAt asked (daemonParts m e o) ≡ lookAt unasked (daemonParts m e o)
       by none = name (daemonName e)
-      by (some p) = half (daemonName (p .0)) (hostPattern (p .1))
+      by (some p) = half (daemonName (p .0)) (patternWith m (p .1))
 
   -- a client element that does not ask knows none either
-  client-same : (e : List ℕ) → Quiet (lookAt unasked (clientElement e)) → lookAt asked (clientElement e) ≡ lookAt unasked (clientElement e)
+  client-same : (e : List ℕ) → Quiet (lookAt unasked (clientElement m e)) → lookAt asked (clientElement m e) ≡ lookAt unasked (clientElement m e)
   unfolding clientElement clientParts
   client-same e = by (halves e)
     where
@@ -146,20 +146,20 @@ module _ (r : Request) (t₀ : List ℕ) (u : User) (t : List ℕ) where
       name none = refl
       name (some g) = refl
 
-      by : (o : Option (List ℕ × List ℕ)) → Quiet (lookAt unasked (clientParts e o)) → lookAt asked (clientParts e o) ≡ lookAt unasked (clientParts e o)
-      by none h = name (hostPattern e)
-      by (some p) h = half (userHalf (p .0)) (hostPattern (p .1)) h
+      by : (o : Option (List ℕ × List ℕ)) → Quiet (lookAt unasked (clientParts m e o)) → lookAt asked (clientParts m e o) ≡ lookAt unasked (clientParts m e o)
+      by none h = name (patternWith m e)
+      by (some p) h = half (userHalf (p .0)) (patternWith m (p .1)) h
 
-  rule-same : (x : Rule) → Quiet (ruleFound unasked x) → ruleFound asked x ≡ ruleFound unasked x
-  unfolding ruleFound
+  rule-same : (x : Rule) → Quiet (ruleFound m unasked x) → ruleFound m asked x ≡ ruleFound m unasked x
+  unfolding ruleFoundBy
   rule-same x h = onFound-same
-      (included (λ e. lookAt unasked (daemonElement e)) (x .daemons)) (included (λ e. lookAt asked (daemonElement e)) (x .daemons))
-      (included (λ e. lookAt unasked (clientElement e)) (x .clients)) (included (λ e. lookAt asked (clientElement e)) (x .clients)) No No h
-      (included-same (λ e. lookAt unasked (daemonElement e)) (λ e. lookAt asked (daemonElement e)) (λ w q. daemon-same w) (x .daemons))
-      (included-same (λ e. lookAt unasked (clientElement e)) (λ e. lookAt asked (clientElement e)) client-same (x .clients))
+      (included (λ e. lookAt unasked (daemonElement m e)) (x .daemons)) (included (λ e. lookAt asked (daemonElement m e)) (x .daemons))
+      (included (λ e. lookAt unasked (clientElement m e)) (x .clients)) (included (λ e. lookAt asked (clientElement m e)) (x .clients)) No No h
+      (included-same (λ e. lookAt unasked (daemonElement m e)) (λ e. lookAt asked (daemonElement m e)) (λ w q. daemon-same w) (x .daemons))
+      (included-same (λ e. lookAt unasked (clientElement m e)) (λ e. lookAt asked (clientElement m e)) client-same (x .clients))
       (λ q. refl)
 
-  line-same : (v : Verdict) (f : File) (l : Line) → QuietAnswer (lineAnswer v f unasked l) → lineAnswer v f asked l ≡ lineAnswer v f unasked l
+  line-same : (v : Verdict) (f : File) (l : Line) → QuietAnswer (lineAnswer v f (ruleFound m unasked) l) → lineAnswer v f (ruleFound m asked) l ≡ lineAnswer v f (ruleFound m unasked) l
   unfolding lineAnswer
   line-same v f l = by (isComment l || isBlank l) (parseRule (l .raw))
     where
@@ -168,21 +168,21 @@ module _ (r : Request) (t₀ : List ℕ) (u : User) (t : List ℕ) where
       quiet x Yes h = tt
       quiet x Ask h = h
 
-      by : (b : Bool) (o : Option Rule) → QuietAnswer (if b then none else (o >>= λ x. ruleAnswer v f l x (ruleFound unasked x)))
-          → (if b then none else (o >>= λ x. ruleAnswer v f l x (ruleFound asked x)))
-          ≡ (if b then none else (o >>= λ x. ruleAnswer v f l x (ruleFound unasked x)))
+      by : (b : Bool) (o : Option Rule) → QuietAnswer (if b then none else (o >>= λ x. ruleAnswer v f l x (ruleFound m unasked x)))
+          → (if b then none else (o >>= λ x. ruleAnswer v f l x (ruleFound m asked x)))
+          ≡ (if b then none else (o >>= λ x. ruleAnswer v f l x (ruleFound m unasked x)))
       by true o h = refl
       by false none h = refl
-      by false (some x) h = ap (ruleAnswer v f l x) (rule-same x (quiet x (ruleFound unasked x) h))
+      by false (some x) h = ap (ruleAnswer v f l x) (rule-same x (quiet x (ruleFound m unasked x) h))
 
-  pub search-same : (allow deny : List ℕ) → QuietVerdict (search allow deny unasked .verdict) → search allow deny asked ≡ search allow deny unasked
+  pub search-same : (allow deny : List ℕ) → QuietVerdict (search m allow deny unasked .verdict) → search m allow deny asked ≡ search m allow deny unasked
   unfolding search
   search-same allow deny = two
-      (first (lineAnswer Ver.Granted Deciding.Allow unasked) (lines allow)) (first (lineAnswer Ver.Granted Deciding.Allow asked) (lines allow))
-      (first (lineAnswer Ver.Denied Deciding.Deny unasked) (lines deny)) (first (lineAnswer Ver.Denied Deciding.Deny asked) (lines deny))
-      (first-same (lineAnswer Ver.Granted Deciding.Allow unasked) (lineAnswer Ver.Granted Deciding.Allow asked) (line-same Ver.Granted Deciding.Allow)
+      (first (lineAnswer Ver.Granted Deciding.Allow (ruleFound m unasked)) (lines allow)) (first (lineAnswer Ver.Granted Deciding.Allow (ruleFound m asked)) (lines allow))
+      (first (lineAnswer Ver.Denied Deciding.Deny (ruleFound m unasked)) (lines deny)) (first (lineAnswer Ver.Denied Deciding.Deny (ruleFound m asked)) (lines deny))
+      (first-same (lineAnswer Ver.Granted Deciding.Allow (ruleFound m unasked)) (lineAnswer Ver.Granted Deciding.Allow (ruleFound m asked)) (line-same Ver.Granted Deciding.Allow)
       (lines allow))
-      (first-same (lineAnswer Ver.Denied Deciding.Deny unasked) (lineAnswer Ver.Denied Deciding.Deny asked) (line-same Ver.Denied Deciding.Deny) (lines deny))
+      (first-same (lineAnswer Ver.Denied Deciding.Deny (ruleFound m unasked)) (lineAnswer Ver.Denied Deciding.Deny (ruleFound m asked)) (line-same Ver.Denied Deciding.Deny) (lines deny))
     where
       none-matched : Answer
       none-matched = answer Ver.Granted Deciding.Neither 0 (part 0 0)
@@ -194,25 +194,39 @@ module _ (r : Request) (t₀ : List ℕ) (u : User) (t : List ℕ) where
       two none o′ (some a) p′ f g h = rw (f tt, g h)
 
 -- a call that neither asks nor is refused gives every user that fits the same outcome; so does one that is refused
-pub decide-same : (r : Request) (t₀ : List ℕ) (u : User) (t : List ℕ) → wellFormed (withUser r u t) ≡ wellFormed (withUser r U.NotFetched t₀)
-    → (allow deny : List ℕ) → QuietOutcome (decide allow deny (some (withUser r U.NotFetched t₀)))
-    → decide allow deny (some (withUser r u t)) ≡ decide allow deny (some (withUser r U.NotFetched t₀))
-unfolding decide
-decide-same r t₀ u t e a d = by
-    (overLimit S.allow a orElse overLimit S.deny d orElse hostsFault S.allow a orElse hostsFault S.deny d)
-    (wellFormed (withUser r U.NotFetched t₀)) (wellFormed (withUser r u t)) e
-  where
-    unasked : Answer
-    unasked = search a d (held (withUser r U.NotFetched t₀))
+module _ (r : Request) (t₀ : List ℕ) (u : User) (t : List ℕ) (e : wellFormed (withUser r u t) ≡ wellFormed (withUser r U.NotFetched t₀)) where
+  pub over-same : (o : Option Refusal) (ts : List Table) (allow deny : List ℕ)
+      → QuietOutcome (o before decideOver ts allow deny (some (withUser r U.NotFetched t₀)))
+      → (o before decideOver ts allow deny (some (withUser r u t))) ≡ (o before decideOver ts allow deny (some (withUser r U.NotFetched t₀)))
+  over-same o ts a d = by o (wellFormed (withUser r U.NotFetched t₀)) (wellFormed (withUser r u t)) e
+    where
+      x : Request
+      x = held (withUser r U.NotFetched t₀)
 
-    asked : Answer
-    asked = search a d (held (withUser r u t))
+      y : Request
+      y = held (withUser r u t)
 
-    by : (o : Option Refusal) (b b′ : Bool) → b′ ≡ b → QuietOutcome (o before (if b then answered unasked else refused (placeless F.BadRequest)))
-        → (o before (if b′ then answered asked else refused (placeless F.BadRequest))) ≡ (o before (if b then answered unasked else refused (placeless F.BadRequest)))
-    by (some f) b b′ e h = refl
-    by none false b′ e h = rw e
-    by none true b′ e h = rw e (ap answered (search-same (held r) t₀ u t a d h))
+      by : (o : Option Refusal) (b b′ : Bool) → b′ ≡ b
+          → QuietOutcome (o before (if b then answered (search (matchOf ts) a d x) else refused (placeless F.BadRequest)))
+          → (o before (if b′ then answered (search (matchOf ts) a d y) else refused (placeless F.BadRequest)))
+          ≡ (o before (if b then answered (search (matchOf ts) a d x) else refused (placeless F.BadRequest)))
+      by (some f) b b′ e h = refl
+      by none false b′ e h = rw e
+      by none true b′ e h = rw e (ap answered (search-same (matchOf ts) (held r) t₀ u t a d h))
+
+  pub decide-same : (allow deny : List ℕ) → QuietOutcome (decide allow deny (some (withUser r U.NotFetched t₀)))
+      → decide allow deny (some (withUser r u t)) ≡ decide allow deny (some (withUser r U.NotFetched t₀))
+  unfolding decide
+  decide-same a d =
+      over-same (overLimit S.allow a orElse overLimit S.deny d orElse hostsFault S.allow a orElse hostsFault S.deny d orElse tablesFault a d []) [] a d
+
+  pub decideTables-same : (allow deny tables : List ℕ) → QuietOutcome (decideTables allow deny tables (some (withUser r U.NotFetched t₀)))
+      → decideTables allow deny tables (some (withUser r u t)) ≡ decideTables allow deny tables (some (withUser r U.NotFetched t₀))
+  unfolding decideTables
+  decideTables-same a d x =
+      over-same
+      (overLimit S.allow a orElse overLimit S.deny d orElse tablesFrame x orElse hostsFault S.allow a orElse hostsFault S.deny d orElse tablesFault a d x)
+      (tablesOf x) a d
 
 -- ## Who has fetched is never asked
 
@@ -250,8 +264,8 @@ module _ (m : List ℕ → Found) (quiet : (w : List ℕ) → Quiet (m w)) where
         if-quiet (isExcept w) (onFound (included m ws) No Yes) (excluded m ws)
         (onFound-quiet (included m ws) No Yes (included-quiet ws) tt tt) (excluded-quiet ws)
 
-module _ (r : Request) (fetched : Fetched (r .user)) where
-  daemon-quiet : (e : List ℕ) → Quiet (lookAt r (daemonElement e))
+module _ (m : Matcher) (r : Request) (fetched : Fetched (r .user)) where
+  daemon-quiet : (e : List ℕ) → Quiet (lookAt r (daemonElement m e))
   unfolding daemonElement daemonParts
   daemon-quiet e = by (halves e)
     where
@@ -265,11 +279,11 @@ module _ (r : Request) (fetched : Fetched (r .user)) where
       name none = tt
       name (some f) = foundIf-quiet (f (r .daemon))
 
-      by : (o : Option (List ℕ × List ℕ)) → Quiet (lookAt r (daemonParts e o))
+      by : (o : Option (List ℕ × List ℕ)) → Quiet (lookAt r (daemonParts m e o))
       by none = name (daemonName e)
-      by (some p) = half (daemonName (p .0)) (hostPattern (p .1))
+      by (some p) = half (daemonName (p .0)) (patternWith m (p .1))
 
-  client-quiet : (e : List ℕ) → Quiet (lookAt r (clientElement e))
+  client-quiet : (e : List ℕ) → Quiet (lookAt r (clientElement m e))
   unfolding clientElement clientParts
   client-quiet e = by (halves e)
     where
@@ -288,17 +302,17 @@ module _ (r : Request) (fetched : Fetched (r .user)) where
       name none = tt
       name (some g) = foundIf-quiet (g (r .client))
 
-      by : (o : Option (List ℕ × List ℕ)) → Quiet (lookAt r (clientParts e o))
-      by none = name (hostPattern e)
-      by (some p) = half (userHalf (p .0)) (hostPattern (p .1))
+      by : (o : Option (List ℕ × List ℕ)) → Quiet (lookAt r (clientParts m e o))
+      by none = name (patternWith m e)
+      by (some p) = half (userHalf (p .0)) (patternWith m (p .1))
 
-  rule-quiet : (x : Rule) → Quiet (ruleFound r x)
-  unfolding ruleFound
-  rule-quiet x = onFound-quiet (included (λ e. lookAt r (daemonElement e)) (x .daemons)) (included (λ e. lookAt r (clientElement e)) (x .clients)) No
-      (included-quiet (λ e. lookAt r (daemonElement e)) daemon-quiet (x .daemons))
-      (included-quiet (λ e. lookAt r (clientElement e)) client-quiet (x .clients)) tt
+  rule-quiet : (x : Rule) → Quiet (ruleFound m r x)
+  unfolding ruleFoundBy
+  rule-quiet x = onFound-quiet (included (λ e. lookAt r (daemonElement m e)) (x .daemons)) (included (λ e. lookAt r (clientElement m e)) (x .clients)) No
+      (included-quiet (λ e. lookAt r (daemonElement m e)) daemon-quiet (x .daemons))
+      (included-quiet (λ e. lookAt r (clientElement m e)) client-quiet (x .clients)) tt
 
-  line-quiet : (v : Verdict) → QuietVerdict v → (f : File) (l : Line) → QuietAnswer (lineAnswer v f r l)
+  line-quiet : (v : Verdict) → QuietVerdict v → (f : File) (l : Line) → QuietAnswer (lineAnswer v f (ruleFound m r) l)
   unfolding lineAnswer
   line-quiet v h f l = by (isComment l || isBlank l) (parseRule (l .raw))
     where
@@ -307,10 +321,10 @@ module _ (r : Request) (fetched : Fetched (r .user)) where
       answer-quiet x Yes k = h
       answer-quiet x Ask k = k
 
-      by : (b : Bool) (o : Option Rule) → QuietAnswer (if b then none else (o >>= λ x. ruleAnswer v f l x (ruleFound r x)))
+      by : (b : Bool) (o : Option Rule) → QuietAnswer (if b then none else (o >>= λ x. ruleAnswer v f l x (ruleFound m r x)))
       by true o = tt
       by false none = tt
-      by false (some x) = answer-quiet x (ruleFound r x) (rule-quiet x)
+      by false (some x) = answer-quiet x (ruleFound m r x) (rule-quiet x)
 
   first-quiet : (f : Line → Option Answer) → ((l : Line) → QuietAnswer (f l)) → (ls : List Line) → QuietAnswer (first f ls)
   unfolding first
@@ -321,12 +335,12 @@ module _ (r : Request) (fetched : Fetched (r .user)) where
       by none k ih = ih
       by (some a) k ih = k
 
-  search-quiet : (allow deny : List ℕ) → QuietVerdict (search allow deny r .verdict)
+  pub search-quiet : (allow deny : List ℕ) → QuietVerdict (search m allow deny r .verdict)
   unfolding search
   search-quiet allow deny = by
-      (first (lineAnswer Ver.Granted Deciding.Allow r) (lines allow)) (first (lineAnswer Ver.Denied Deciding.Deny r) (lines deny))
-      (first-quiet (lineAnswer Ver.Granted Deciding.Allow r) (line-quiet Ver.Granted tt Deciding.Allow) (lines allow))
-      (first-quiet (lineAnswer Ver.Denied Deciding.Deny r) (line-quiet Ver.Denied tt Deciding.Deny) (lines deny))
+      (first (lineAnswer Ver.Granted Deciding.Allow (ruleFound m r)) (lines allow)) (first (lineAnswer Ver.Denied Deciding.Deny (ruleFound m r)) (lines deny))
+      (first-quiet (lineAnswer Ver.Granted Deciding.Allow (ruleFound m r)) (line-quiet Ver.Granted tt Deciding.Allow) (lines allow))
+      (first-quiet (lineAnswer Ver.Denied Deciding.Deny (ruleFound m r)) (line-quiet Ver.Denied tt Deciding.Deny) (lines deny))
     where
       by : (o q : Option Answer) → QuietAnswer o → QuietAnswer q
           → QuietVerdict (Option·getD (o orElse q) (answer Ver.Granted Deciding.Neither 0 (part 0 0)) .verdict)
@@ -334,20 +348,41 @@ module _ (r : Request) (fetched : Fetched (r .user)) where
       by none none h k = tt
       by none (some a) h k = k
 
+module _ (o : Option Refusal) (ts : List Table) (a d : List ℕ) where
+  pub over-quiet : (r : Request) → Fetched (r .user) → QuietOutcome (o before decideOver ts a d (some r))
+  over-quiet r fetched = by o (wellFormed r)
+    where
+      by : (o : Option Refusal) (b : Bool) → QuietOutcome (o before (if b then answered (search (matchOf ts) a d (held r)) else refused (placeless F.BadRequest)))
+      by (some f) b = tt
+      by none false = tt
+      by none true = search-quiet (matchOf ts) (held r) fetched a d
+
+  pub over-none-quiet : QuietOutcome (o before decideOver ts a d none)
+  over-none-quiet = by o
+    where
+      by : (o : Option Refusal) → QuietOutcome (o before refused (placeless F.BadRequest))
+      by (some f) = tt
+      by none = tt
+
+abbrev plainFaults : List ℕ → List ℕ → Option Refusal
+plainFaults a d = overLimit S.allow a orElse overLimit S.deny d orElse hostsFault S.allow a orElse hostsFault S.deny d orElse tablesFault a d []
+
+abbrev tabledFaults : List ℕ → List ℕ → List ℕ → Option Refusal
+tabledFaults a d t =
+    overLimit S.allow a orElse overLimit S.deny d orElse tablesFrame t orElse hostsFault S.allow a orElse hostsFault S.deny d orElse tablesFault a d t
+
 pub decide-quiet : (r : Request) → Fetched (r .user) → (allow deny : List ℕ) → QuietOutcome (decide allow deny (some r))
 unfolding decide
-decide-quiet r fetched a d = by
-    (overLimit S.allow a orElse overLimit S.deny d orElse hostsFault S.allow a orElse hostsFault S.deny d) (wellFormed r)
-  where
-    by : (o : Option Refusal) (b : Bool) → QuietOutcome (o before (if b then answered (search a d (held r)) else refused (placeless F.BadRequest)))
-    by (some f) b = tt
-    by none false = tt
-    by none true = search-quiet (held r) fetched a d
+decide-quiet r fetched a d = over-quiet (plainFaults a d) [] a d r fetched
 
 pub decide-none-quiet : (allow deny : List ℕ) → QuietOutcome (decide allow deny none)
 unfolding decide
-decide-none-quiet a d = by (overLimit S.allow a orElse overLimit S.deny d orElse hostsFault S.allow a orElse hostsFault S.deny d)
-  where
-    by : (o : Option Refusal) → QuietOutcome (o before refused (placeless F.BadRequest))
-    by (some f) = tt
-    by none = tt
+decide-none-quiet a d = over-none-quiet (plainFaults a d) [] a d
+
+pub decideTables-quiet : (r : Request) → Fetched (r .user) → (allow deny tables : List ℕ) → QuietOutcome (decideTables allow deny tables (some r))
+unfolding decideTables
+decideTables-quiet r fetched a d t = over-quiet (tabledFaults a d t) (tablesOf t) a d r fetched
+
+pub decideTables-none-quiet : (allow deny tables : List ℕ) → QuietOutcome (decideTables allow deny tables none)
+unfolding decideTables
+decideTables-none-quiet a d t = over-none-quiet (tabledFaults a d t) (tablesOf t) a d

@@ -1,6 +1,6 @@
 -- What the contracts of the pass over a text cite. Nothing here needs to be believed for the meaning of document 01: the public promise
 -- is stated over Search alone.
---   hostsFaultAt s t == the refusal of the text t of the section whose order is s
+--   hostsFaultAt s v t == the refusal of the text t of the section whose order is s, by its lines and, by the view v, the tables that they name
 --   passOf o a       == a refusal, else an answer, as the code answers them
 --   passLine .. l, passText .. t == the same of a line and of a text; the answer is looked for only if search holds
 --   combined p q       == the pass p over some lines, then q over what follows
@@ -26,16 +26,17 @@ use Rattle.section.specs.declared.Part.{Part}
 use Rattle.section.specs.declared.Refusal.{Refusal}
 use Rattle.section.specs.Refusal.{atPlace, placeless}
 use Rattle.section.specs.Code.{firstHolding}
-use Rattle.section.specs.Section as S
 use Rattle.section.specs.Section.{part}
 use Rattle.lines.specs.declared.line.LineSpan.{LineSpan}
 use Rattle.lines.specs.Line.{Line, line, join, lines, isComment, isBlank, hasBadByte, isTooLong}
 use Rattle.lines.specs.Rule.{Rule, parseRule}
 use Rattle.elements.specs.declared.Found.{Found}
 use Rattle.elements.specs.declared.Found.the-variants.{No}
+use Rattle.elements.specs.declared.request.Request.{Request as Places}
 use Rattle.elements.specs.Request.{Request}
-use Rattle.lists.specs.Check.{ruleFault}
-use Rattle.lists.specs.Code.{NoNewline, lineFound}
+use Rattle.elements.specs.Places.{requestAt}
+use Rattle.elements.specs.Code.{View, viewOf}
+use Rattle.lists.specs.Code.{NoNewline, viewFound, lineFound, judgedFault}
 use Rattle.rules.specs.declared.Verdict.{Verdict}
 use Rattle.rules.specs.declared.Verdict.the-variants.{Granted, Denied, Ask}
 use Rattle.rules.specs.declared.File.{File}
@@ -50,7 +51,7 @@ use Rattle.rules.specs.declared.hosts_file.LineKind.the-variants as Kind
 use Rattle.rules.specs.declared.hosts_file.Examined.{Examined}
 use Rattle.rules.specs.declared.hosts_file.Examined.the-variants as T
 use Rattle.rules.specs.declared.hosts_file.Step.{Step}
-use Rattle.rules.specs.Check.{lineFault, hostsFault}
+use Rattle.rules.specs.Check.{lineFaultBy}
 use Rattle.rules.specs.Search.{answer, rawCommand, lineAnswer}
 
 -- the paper's words; no promise cites them
@@ -61,22 +62,37 @@ verdictWord Ask = bytes "ask"
 
 -- ## A text
 
-abbrev pub faultAt : ℕ → Line → Option Refusal
-faultAt s l = atPlace s (l .number) (lineFault l)
+-- a request, and what is known of the tables to it
+pub record Query : Type 0 where
+  pub view : View
+  pub request : Request
 
-unfoldable pub hostsFaultAt : ℕ → List ℕ → Option Refusal
-hostsFaultAt s t = first (faultAt s) (lines t)
+abbrev pub queryAt : List ℕ → List ℕ → List ℕ → Places → Query
+queryAt tables notes names q = record { view = viewOf tables notes; request = requestAt names q }
+
+abbrev pub queryFound : Query → Rule → Found
+queryFound q = viewFound (q .view) (q .request)
+
+-- the lowest fault of a line, and else of the tables that its rule names
+abbrev pub judgedLine : View → Line → Option Fault
+judgedLine v l = lineFaultBy (judgedFault v) l
+
+abbrev pub faultAt : ℕ → View → Line → Option Refusal
+faultAt s v l = atPlace s (l .number) (judgedLine v l)
+
+unfoldable pub hostsFaultAt : ℕ → View → List ℕ → Option Refusal
+hostsFaultAt s v t = first (faultAt s v) (lines t)
 
 abbrev pub passOf : Option Refusal → Option Answer → Pass
 passOf none none = P.Unmatched
 passOf none (some a) = P.Matched a
 passOf (some f) a = P.Faulty f
 
-unfoldable pub passLine : ℕ → Verdict → File → Bool → Request → Line → Pass
-passLine s v f search r l = passOf (faultAt s l) (if search then lineAnswer v f r l else none)
+unfoldable pub passLine : ℕ → Verdict → File → Bool → Query → Line → Pass
+passLine s v f search r l = passOf (faultAt s (r .view) l) (if search then lineAnswer v f (queryFound r) l else none)
 
-unfoldable pub passText : ℕ → Verdict → File → Bool → Request → List ℕ → Pass
-passText s v f search r t = passOf (hostsFaultAt s t) (if search then first (lineAnswer v f r) (lines t) else none)
+unfoldable pub passText : ℕ → Verdict → File → Bool → Query → List ℕ → Pass
+passText s v f search r t = passOf (hostsFaultAt s (r .view) t) (if search then first (lineAnswer v f (queryFound r)) (lines t) else none)
 
 abbrev pub isUnmatched : Pass → Bool
 isUnmatched (P.Faulty g) = false
@@ -91,10 +107,10 @@ combined (P.Matched a) (P.Faulty g) = P.Faulty g
 combined (P.Matched a) P.Unmatched = P.Matched a
 combined (P.Matched a) (P.Matched c) = P.Matched a
 
-unfoldable pub passBoth : Request → List ℕ → List ℕ → Pass
+unfoldable pub passBoth : Query → List ℕ → List ℕ → Pass
 passBoth r allow deny = passOf
-    (hostsFault S.allow allow orElse hostsFault S.deny deny)
-    (first (lineAnswer Granted Allow r) (lines allow) orElse first (lineAnswer Denied Deny r) (lines deny))
+    (hostsFaultAt 1 (r .view) allow orElse hostsFaultAt 2 (r .view) deny)
+    (first (lineAnswer Granted Allow (queryFound r)) (lines allow) orElse first (lineAnswer Denied Deny (queryFound r)) (lines deny))
 
 abbrev pub refusingRequest : Bool → Answer → Ruling
 refusingRequest true a = R.Answered a
@@ -126,11 +142,12 @@ abbrev pub examinedAs : Option Fault → Found → Examined
 examinedAs (some f) x = T.Faulty f
 examinedAs none x = T.Finds x
 
-unfoldable pub ruleExamined : Bool → Request → List ℕ → Examined
-ruleExamined search r t = examinedAs (ruleFault (parseRule t)) (if search then lineFound r t else No)
+unfoldable pub ruleExamined : Bool → Query → List ℕ → Examined
+ruleExamined search r t = examinedAs (judgedFault (r .view) (parseRule t)) (if search then lineFound (r .view) (r .request) t else No)
 
-unfoldable pub lineExamined : Bool → Request → Line → Examined
-lineExamined search r l = examinedAs (lineFault l) (if isComment l || isBlank l then No else if search then lineFound r (l .raw) else No)
+unfoldable pub lineExamined : Bool → Query → Line → Examined
+lineExamined search r l = examinedAs (judgedLine (r .view) l)
+    (if isComment l || isBlank l then No else if search then lineFound (r .view) (r .request) (l .raw) else No)
 
 unfoldable pub commandPart : ℕ → List ℕ → Option Rule → Part
 commandPart at s none = part (at + length s) 0
@@ -141,7 +158,7 @@ pub record ScannedLine (s : List ℕ) (l : LineSpan) : Type 0 where
   pub bytes : hasBadByte (join s) ≡ not (l .clean)
   pub plain : l .joins ≡ 0 → NoNewline s
 
-abbrev pub stepOf : ℕ → Verdict → File → Bool → Request → List ℕ → ℕ → ℕ → LineSpan → Step
+abbrev pub stepOf : ℕ → Verdict → File → Bool → Query → List ℕ → ℕ → ℕ → LineSpan → Step
 stepOf s v f search r t i n l = record {
   next = l .end + 1;
   number = n + l .joins + 1;

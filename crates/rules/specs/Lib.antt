@@ -1,3 +1,4 @@
 pub mod Check
 pub mod Search
 pub mod FileCode
+pub mod Code

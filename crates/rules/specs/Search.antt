@@ -1,6 +1,7 @@
 -- Document 01, "Search": the verdict. What one rule finds is in lists, Walk.antt.
---   search allow deny r == the answer on a request by two sound texts
---   decide allow deny o == the call: every check, then the search for the request in o
+--   search m allow deny r == the answer on a request by two sound texts, where m says what a named table matches
+--   decide allow deny o == the call without tables: every check, then the search for the request in o
+--   decideTables allow deny t o == the call with the tables of t
 --   verdictRuling o          == the outcome o as the call answers it
 --   commandBytes allow deny a == the bytes of the raw command of the answer a
 -- Assumes nothing: these are definitions.
@@ -17,6 +18,7 @@ use Rattle.section.specs.Section.{part, bytesAt, overLimit}
 use Rattle.lines.specs.Line.{Line, lines, isComment, isBlank}
 use Rattle.lines.specs.Rule.{Rule, parseRule}
 use Rattle.lines.specs.Command.{trimmed}
+use Rattle.tables.specs.Table.{Table, Matcher, tablesOf, tablesFrame, matchOf}
 use Rattle.elements.specs.declared.Found.{Found}
 use Rattle.elements.specs.declared.Found.the-variants as Found
 use Rattle.elements.specs.Request.{Request, wellFormed, held}
@@ -28,7 +30,7 @@ use Rattle.rules.specs.declared.File.the-variants.{Neither, Allow, Deny}
 use Rattle.rules.specs.declared.Answer.{Answer}
 use Rattle.rules.specs.declared.Ruling.{Ruling}
 use Rattle.rules.specs.declared.Ruling.the-variants as Ruling
-use Rattle.rules.specs.Check.{hostsFault}
+use Rattle.rules.specs.Check.{hostsFault, tablesFault}
 
 -- the section of a file
 abbrev pub fileSection : File → ℕ
@@ -51,23 +53,35 @@ ruleAnswer v f l u Found.Yes = some (answer v f (l .number) (rawCommand l u))
 ruleAnswer v f l u Found.Ask = some (answer Ask f (l .number) (part 0 0))
 ruleAnswer v f l u Found.No = none
 
-unfoldable pub lineAnswer : Verdict → File → Request → Line → Option Answer
-lineAnswer v f r l =
-    if isComment l || isBlank l then none else (parseRule (l .raw) >>= λ u. ruleAnswer v f l u (ruleFound r u))
+-- where found says what a rule finds
+unfoldable pub lineAnswer : Verdict → File → (Rule → Found) → Line → Option Answer
+lineAnswer v f found l =
+    if isComment l || isBlank l then none else (parseRule (l .raw) >>= λ u. ruleAnswer v f l u (found u))
 
 -- "First matching rule of allow grants; else first matching rule of deny denies; else granted with no file and line 0."
-unfoldable pub search : List ℕ → List ℕ → Request → Answer
-search allow deny r = Option·getD
-    (first (lineAnswer Granted Allow r) (lines allow) orElse first (lineAnswer Denied Deny r) (lines deny))
+unfoldable pub search : Matcher → List ℕ → List ℕ → Request → Answer
+search m allow deny r = Option·getD
+    (first (lineAnswer Granted Allow (ruleFound m r)) (lines allow) orElse first (lineAnswer Denied Deny (ruleFound m r)) (lines deny))
     (answer Granted Neither 0 (part 0 0))
 
+-- the answer to the request in o by sound texts, over the tables ts; request 7: "Every verdict and expansion makes this change first"
+abbrev pub decideOver : List Table → List ℕ → List ℕ → Option Request → Outcome Answer
+decideOver ts allow deny o = fitting wellFormed o (λ r. answered (search (matchOf ts) allow deny (held r)))
+
 -- "per section in turn, .. limit (2) ..; then allow, deny ..; then 13"; "A call that takes only some texts makes only
--- their checks, over the whole of each text, before any verdict." Document 02, request 7: "Every verdict .. makes this change
--- first, whoever built the request"
+-- their checks, over the whole of each text, before any verdict." Request 1: "any `/name` is missing in a call without tables"
 unfoldable pub decide : List ℕ → List ℕ → Option Request → Outcome Answer
 decide allow deny o =
-    (overLimit S.allow allow orElse overLimit S.deny deny orElse hostsFault S.allow allow orElse hostsFault S.deny deny)
-    before fitting wellFormed o (λ r. answered (search allow deny (held r)))
+    (overLimit S.allow allow orElse overLimit S.deny deny orElse hostsFault S.allow allow orElse hostsFault S.deny deny
+    orElse tablesFault allow deny [])
+    before decideOver [] allow deny o
+
+-- the same with the text t of section five, "checked as in a sheet"
+unfoldable pub decideTables : List ℕ → List ℕ → List ℕ → Option Request → Outcome Answer
+decideTables allow deny t o =
+    (overLimit S.allow allow orElse overLimit S.deny deny orElse tablesFrame t
+    orElse hostsFault S.allow allow orElse hostsFault S.deny deny orElse tablesFault allow deny t)
+    before decideOver (tablesOf t) allow deny o
 
 abbrev pub verdictRuling : Outcome Answer → Ruling
 verdictRuling (refused f) = Ruling.Refused f

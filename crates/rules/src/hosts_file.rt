@@ -1,16 +1,16 @@
 // One pass over an allow or deny text: its lowest fault, and its first matching rule.
-//   check_file(text, order) == the refusal of a text, if it has one
-//   pass_file(text, ..) == the refusal of a text, else its first match, which is looked for only if search holds
+//   check_file(tables, notes, text, order) == the refusal of a text, if it has one
+//   pass_file(tables, notes, text, ..) == the refusal of a text, else its first match, which is looked for only if search holds
 ghost use mathlib.Core.Path.{_≡_};
 ghost use Prim.Native.Nat.{_+_, _≤_, _<_};
 ghost use lib.ListN.{length, drop};
 ghost use Rattle.lines.specs.Line.{line, join};
 ghost use Rattle.lines.specs.Rule.{parseRule};
 ghost use Rattle.lines.specs.Scan.{spanAt, scanLine};
-ghost use Rattle.elements.specs.Places.{requestAt};
+ghost use Rattle.elements.specs.Code.{viewOf};
 ghost use Rattle.classes.specs.Class.{Classes};
 ghost use Rattle.lists.specs.Code.{NoNewline};
-ghost use Rattle.rules.specs.FileCode.{ScannedLine, lineKind, ruleExamined, lineExamined, commandPart, passLine, stepOf, passText, passOf, hostsFaultAt};
+ghost use Rattle.rules.specs.FileCode.{queryAt, ScannedLine, lineKind, ruleExamined, lineExamined, commandPart, passLine, stepOf, passText, passOf, hostsFaultAt};
 ghost use mathlib.Core.Option.{none};
 use super::Answer;
 use super::File;
@@ -84,6 +84,8 @@ fn kind_of_line(raw: &[u8], span: LineSpan) -> LineKind
 // What the rule in the joined line t tells.
 fn examine_rule(
     class: &[u8; 256],
+    tables: &[u8],
+    notes: &[u64],
     t: &[u8],
     search: bool,
     names: &[u8],
@@ -94,10 +96,10 @@ fn examine_rule(
     ensures { λ r.
         ⌜ r
         ≡ ruleExamined search
-        (requestAt (now (names .entry)) request)
+        (queryAt (now (tables .entry)) (now (notes .entry)) (now (names .entry)) request)
         (now (t .entry)) ⌝ }
 {
-    let seen = lists::pass::pass_rule(class, t, search, names, request);
+    let seen = lists::pass::pass_rule(class, tables, notes, t, search, names, request);
     let check = seen.check;
     let found = seen.found;
     match check {
@@ -109,6 +111,8 @@ fn examine_rule(
 // What the rule in a line with dropped pairs tells.
 fn examine_joined(
     class: &[u8; 256],
+    tables: &[u8],
+    notes: &[u64],
     raw: &[u8],
     search: bool,
     names: &[u8],
@@ -119,17 +123,19 @@ fn examine_joined(
     ensures { λ r.
         ⌜ r
         ≡ ruleExamined search
-        (requestAt (now (names .entry)) request)
+        (queryAt (now (tables .entry)) (now (notes .entry)) (now (names .entry)) request)
         (now (raw .entry)) ⌝ }
 {
     let mut joined = [0u8; 2048];
     let n = line::join_into(&mut joined, raw);
-    examine_rule(class, &joined[..n], search, names, request)
+    examine_rule(class, tables, notes, &joined[..n], search, names, request)
 }
 
 // What a line that was scanned tells.
 fn examine_line(
     class: &[u8; 256],
+    tables: &[u8],
+    notes: &[u64],
     raw: &[u8],
     span: LineSpan,
     search: bool,
@@ -141,7 +147,7 @@ fn examine_line(
     ensures { λ r.
         ⌜ r
         ≡ lineExamined search
-        (requestAt (now (names .entry)) request)
+        (queryAt (now (tables .entry)) (now (notes .entry)) (now (names .entry)) request)
         (line 0 0 (now (raw .entry)) (span .ended)) ⌝ }
 {
     match kind_of_line(raw, span) {
@@ -149,9 +155,9 @@ fn examine_line(
         LineKind::Skipped => Examined::Finds(Found::No),
         LineKind::HasRule => {
             if span.joins == 0 {
-                examine_rule(class, raw, search, names, request)
+                examine_rule(class, tables, notes, raw, search, names, request)
             } else {
-                examine_joined(class, raw, search, names, request)
+                examine_joined(class, tables, notes, raw, search, names, request)
             }
         }
     }
@@ -180,6 +186,8 @@ fn command_of(raw: &[u8], at: usize) -> Part
 // What a line that was scanned gives, which starts at a place and has the number n.
 fn pass_line(
     class: &[u8; 256],
+    tables: &[u8],
+    notes: &[u64],
     raw: &[u8],
     span: LineSpan,
     at: usize,
@@ -196,10 +204,10 @@ fn pass_line(
     ensures { λ r.
         ⌜ r
         ≡ passLine order verdict file search
-        (requestAt (now (names .entry)) request)
+        (queryAt (now (tables .entry)) (now (notes .entry)) (now (names .entry)) request)
         (line n at (now (raw .entry)) (span .ended)) ⌝ }
 {
-    match examine_line(class, raw, span, search, names, request) {
+    match examine_line(class, tables, notes, raw, span, search, names, request) {
         Examined::Faulty(f) => Pass::Faulty(Refusal {
             fault: f,
             section: order,
@@ -226,6 +234,8 @@ fn pass_line(
 // The step over the line of a text that starts at i and has the number n.
 fn step_over(
     class: &[u8; 256],
+    tables: &[u8],
+    notes: &[u64],
     text: &[u8],
     i: usize,
     n: usize,
@@ -241,13 +251,15 @@ fn step_over(
     ensures { λ r.
         ⌜ r
         ≡ stepOf order verdict file search
-        (requestAt (now (names .entry)) request)
+        (queryAt (now (tables .entry)) (now (notes .entry)) (now (names .entry)) request)
         (now (text .entry)) i n (spanAt i (scanLine (drop i (now (text .entry))))) ⌝ }
 {
     let span = line::scan_line(text, i);
     let e = span.end;
     let pass = pass_line(
         class,
+        tables,
+        notes,
         &text[i..e],
         span,
         i,
@@ -270,6 +282,8 @@ fn step_over(
 // asks.
 fn pass_lines(
     class: &[u8; 256],
+    tables: &[u8],
+    notes: &[u64],
     text: &[u8],
     order: u8,
     verdict: Verdict,
@@ -282,7 +296,7 @@ fn pass_lines(
     ensures { λ r.
         ⌜ r
         ≡ passText order verdict file search
-        (requestAt (now (names .entry)) request)
+        (queryAt (now (tables .entry)) (now (notes .entry)) (now (names .entry)) request)
         (now (text .entry)) ⌝ }
 {
     let mut i = 0;
@@ -292,6 +306,8 @@ fn pass_lines(
     while i < text.len() {
         let step = step_over(
             class,
+            tables,
+            notes,
             text,
             i,
             n,
@@ -321,6 +337,8 @@ fn pass_lines(
 
 // What a text gives. The classes of bytes are made once for all of its lines.
 pub fn pass_file(
+    tables: &[u8],
+    notes: &[u64],
     text: &[u8],
     order: u8,
     verdict: Verdict,
@@ -332,19 +350,30 @@ pub fn pass_file(
     ensures { λ r.
         ⌜ r
         ≡ passText order verdict file search
-        (requestAt (now (names .entry)) request)
+        (queryAt (now (tables .entry)) (now (notes .entry)) (now (names .entry)) request)
         (now (text .entry)) ⌝ }
 {
     if text.len() == 0 {
         return Pass::Unmatched;
     }
     let class = classes::classes();
-    pass_lines(&class, text, order, verdict, file, search, names, request)
+    pass_lines(
+        &class,
+        tables,
+        notes,
+        text,
+        order,
+        verdict,
+        file,
+        search,
+        names,
+        request,
+    )
 }
 
-// The refusal of a text at its lowest faulty line, if it has one.
-pub fn check_file(text: &[u8], order: u8) -> Pass
-    ensures { λ r. ⌜ r ≡ passOf (hostsFaultAt order (now (text .entry))) none ⌝ }
+// The refusal of a text at its lowest faulty line, if it has one; the notes say which tables may be named.
+pub fn check_file(tables: &[u8], notes: &[u64], text: &[u8], order: u8) -> Pass
+    ensures { λ r. ⌜ r ≡ passOf (hostsFaultAt order (viewOf (now (tables .entry)) (now (notes .entry))) (now (text .entry))) none ⌝ }
 {
     let host = Host {
         name: Name::Unknown,
@@ -361,6 +390,8 @@ pub fn check_file(text: &[u8], order: u8) -> Pass
         user_name: none,
     };
     pass_file(
+        tables,
+        notes,
         text,
         order,
         Verdict::Granted,

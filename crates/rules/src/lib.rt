@@ -1,22 +1,36 @@
 // The checks of the allow and deny files, and the verdict on a request.
 //   decide(allow, deny, ..)  == the verdict, or the refusal of a text or of the request
-//   pass_both(allow, deny, ..) == one pass over both texts: the refusal of one, else what decides
-//   combine(found, rest)       == that pass, then another
-//   ruling_by(pass, sound)   == the ruling by a pass, on a request that is sound or not
+//   decide_tables(allow, deny, tables, ..) == the same over tables
+//   find(allow, deny, tables, ..) == the answer by sound texts; where they are not, that there is a doubt
+//   naming::check_contents(..) == the refusal of texts, in the order of document 02
+//   combine(found, rest)       == one pass, then another
 //   command_part(allow, deny, answer) == the bytes of the answer's raw command
+// A search judges the lines and the tables that they name in one pass, and finds the answer where there is no fault. Where there is one, the
+// texts are read again, fault by fault, for the one that comes first.
 pub mod hosts_file;
+pub mod naming;
+pub mod search;
 
 ghost use mathlib.Core.Option.{some};
 ghost use mathlib.Core.Path.{_≡_};
 ghost use Rattle.elements.specs.Places.{requestAt};
-ghost use Rattle.rules.specs.Search.{decide as decideBy, verdictRuling, commandBytes};
-ghost use Rattle.rules.specs.FileCode.{isUnmatched, combined, passBoth, refusingRequest, rulingBy};
+ghost use Rattle.section.specs.Refusal.{_before_};
+ghost use Rattle.text.specs.Basics.{_orElse_};
+ghost use Rattle.tables.specs.Table.{tablesOf, tablesFrame};
+ghost use Rattle.tables.specs.Code.{tablesIn};
+ghost use Rattle.rules.specs.Search.{decide as decideBy, decideOver, decideTables, verdictRuling, commandBytes};
+ghost use Rattle.rules.specs.FileCode.{isUnmatched, combined, queryAt, passBoth, refusingRequest};
+ghost use Rattle.rules.specs.Code.{contentsFault, refusedBy};
 use elements::request::Request;
+use elements::request::held;
 use hosts_file::Pass;
+use search::Finding;
+use search::find;
 use section::Fault;
 use section::Part;
 use section::Refusal;
 use section::part_of;
+use tables::entry::Framing;
 
 // The words of the verdict.
 pub enum Verdict {
@@ -72,14 +86,23 @@ pub fn combine(found: Pass, rest: Pass) -> Pass
 }
 
 // The pass over both files: the allow file first, and the deny file's rules only if none of the allow file's matches.
-pub fn pass_both(allow: &[u8], deny: &[u8], names: &[u8], request: Request) -> Pass
+pub fn pass_both(
+    tables: &[u8],
+    notes: &[u64],
+    allow: &[u8],
+    deny: &[u8],
+    names: &[u8],
+    request: Request,
+) -> Pass
     ensures { λ r.
         ⌜ r
         ≡ passBoth
-        (requestAt (now (names .entry)) request)
+        (queryAt (now (tables .entry)) (now (notes .entry)) (now (names .entry)) request)
         (now (allow .entry)) (now (deny .entry)) ⌝ }
 {
     let first = hosts_file::pass_file(
+        tables,
+        notes,
         allow,
         section::Allow::ORDER,
         Verdict::Granted,
@@ -89,6 +112,8 @@ pub fn pass_both(allow: &[u8], deny: &[u8], names: &[u8], request: Request) -> P
         request,
     );
     let rest = hosts_file::pass_file(
+        tables,
+        notes,
         deny,
         section::Deny::ORDER,
         Verdict::Denied,
@@ -101,7 +126,7 @@ pub fn pass_both(allow: &[u8], deny: &[u8], names: &[u8], request: Request) -> P
 }
 
 // The answer, on a request that is sound or not.
-fn answered(answer: Answer, sound: bool) -> Ruling
+pub fn answered(answer: Answer, sound: bool) -> Ruling
     ensures { λ r. ⌜ r ≡ refusingRequest sound answer ⌝ }
 {
     if sound {
@@ -111,26 +136,34 @@ fn answered(answer: Answer, sound: bool) -> Ruling
     }
 }
 
-// The ruling by a pass over both files, on a request that is sound or not.
-pub fn ruling_by(pass: Pass, sound: bool) -> Ruling
-    ensures { λ r. ⌜ r ≡ rulingBy pass sound ⌝ }
+// The refusal that a check found.
+fn refuse(check: Pass) -> Ruling
+    ensures { λ r. ⌜ r ≡ refusedBy check ⌝ }
 {
-    match pass {
+    match check {
         Pass::Faulty(f) => Ruling::Refused(f),
-        Pass::Unmatched => answered(
-            Answer {
-                verdict: Verdict::Granted,
-                file: File::Neither,
-                line: 0,
-                command: Part { place: 0, len: 0 },
-            },
-            sound,
-        ),
-        Pass::Matched(a) => answered(a, sound),
+        Pass::Unmatched => Ruling::Refused(section::placeless(Fault::BadRequest)),
+        Pass::Matched(_) => Ruling::Refused(section::placeless(Fault::BadRequest)),
     }
 }
 
-// The verdict on a request by the allow and deny files, or the refusal of a file or of the request.
+// The ruling by two texts within their limits, and the tables of a section five whose frame is sound, or of none.
+fn rule_texts(allow: &[u8], deny: &[u8], tables: &[u8], names: &[u8], request: Request) -> Ruling
+    requires { ⌜ tablesIn (now tables) ≡ tablesOf (now tables) ⌝ }
+    ensures { λ r.
+        ⌜ r
+        ≡ verdictRuling
+        (contentsFault (now (allow .entry)) (now (deny .entry)) (now (tables .entry))
+        before decideOver (tablesOf (now (tables .entry))) (now (allow .entry)) (now (deny .entry)) (some (requestAt (now (names .entry)) request))) ⌝ }
+{
+    let holding = held(request);
+    match find(allow, deny, tables, names, holding) {
+        Finding::Answer(answer) => answered(answer, elements::request::fits(names, holding)),
+        Finding::Doubtful => refuse(naming::check_contents(allow, deny, tables)),
+    }
+}
+
+// The verdict on a request by the allow and deny files, or the refusal of a file or of the request. There are no tables.
 pub fn decide(allow: &[u8], deny: &[u8], names: &[u8], request: Request) -> Ruling
     ensures { λ r.
         ⌜ r
@@ -144,9 +177,45 @@ pub fn decide(allow: &[u8], deny: &[u8], names: &[u8], request: Request) -> Ruli
     if section::Deny::over(deny.len()) {
         return Ruling::Refused(section::Deny::refusal(Fault::OverLimit, 0));
     }
-    let held = elements::request::held(request);
-    let pass = pass_both(allow, deny, names, held);
-    ruling_by(pass, elements::request::fits(names, held))
+    rule_texts(allow, deny, &allow[..0], names, request)
+}
+
+// The ruling by two texts within their limits and a section five: its frame, then the contents.
+fn rule_framed(allow: &[u8], deny: &[u8], tables: &[u8], names: &[u8], request: Request) -> Ruling
+    ensures { λ r.
+        ⌜ r
+        ≡ verdictRuling
+        ((tablesFrame (now (tables .entry)) orElse contentsFault (now (allow .entry)) (now (deny .entry)) (now (tables .entry)))
+        before decideOver (tablesOf (now (tables .entry))) (now (allow .entry)) (now (deny .entry)) (some (requestAt (now (names .entry)) request))) ⌝ }
+{
+    match tables::entry::frame(tables) {
+        Framing::Cut => Ruling::Refused(section::Tables::refusal(Fault::CutShort, 0)),
+        Framing::Trailing => Ruling::Refused(section::placeless(Fault::TrailingBytes)),
+        Framing::Sound => rule_texts(allow, deny, tables, names, request),
+    }
+}
+
+// The same with the tables of a section five.
+pub fn decide_tables(
+    allow: &[u8],
+    deny: &[u8],
+    tables: &[u8],
+    names: &[u8],
+    request: Request,
+) -> Ruling
+    ensures { λ r.
+        ⌜ r
+        ≡ verdictRuling
+        (decideTables (now (allow .entry)) (now (deny .entry)) (now (tables .entry))
+        (some (requestAt (now (names .entry)) request))) ⌝ }
+{
+    if section::Allow::over(allow.len()) {
+        return Ruling::Refused(section::Allow::refusal(Fault::OverLimit, 0));
+    }
+    if section::Deny::over(deny.len()) {
+        return Ruling::Refused(section::Deny::refusal(Fault::OverLimit, 0));
+    }
+    rule_framed(allow, deny, tables, names, request)
 }
 
 // The raw command of an answer, out of whichever file decided; empty where there is none.

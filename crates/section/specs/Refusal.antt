@@ -1,4 +1,4 @@
--- Document 01, "Numbers the gate answers with".
+-- Document 01, "Numbers the gate answers with"; document 02, request 1: 15 to 17.
 --   faultNumber f    == the paper's number of a fault
 --   lowest cs        == of the faults of cs whose tests hold, the one with the lowest number
 --   Outcome A        == a refusal, or an answer of type A
@@ -37,6 +37,9 @@ faultNumber F.BadPercent = 11
 faultNumber F.BadEntry = 12
 faultNumber F.BadRequest = 13
 faultNumber F.NoRoom = 14
+faultNumber F.TableName = 15
+faultNumber F.TooDeep = 16
+faultNumber F.BadTable = 17
 
 -- f, unless the other has a lower number
 abbrev pub lowerFault : Fault → Option Fault → Fault
@@ -48,7 +51,8 @@ unfoldable pub lowest : List (Fault × Bool) → Option Fault
 lowest [] = none
 lowest (c ∷ cs) = if c .1 then some (lowerFault (c .0) (lowest cs)) else lowest cs
 
--- "A refusal carries number, section (1 to 4, or 0) and line (0 where none; the entry number for 12)"
+-- "A refusal carries number, section (1 to 4, or 0) and line (0 where none; the entry number for 12)"; of the tables
+-- "section 5 and the table's number from 1 (0 for the limits of 64 tables and of the whole section)"
 abbrev pub refusal : Fault → ℕ → ℕ → Refusal
 refusal f s l = record { fault = f; section = s; line = l }
 

@@ -1,4 +1,4 @@
--- Document 01, "The station sheet": the sections, their places and limits.
+-- Document 01, "The station sheet", and document 02, request 1: the sections, their places and limits.
 --   bytesAt t p   == the bytes of the part p of t
 --   overLimit s t == the refusal of a text t over the limit of its section s
 -- Assumes nothing: these are definitions.
@@ -37,6 +37,10 @@ byuid = record { order = 3; limit = 8192 }
 
 abbrev pub portacl : Section
 portacl = record { order = 4; limit = 1024 }
+
+-- "Tables travel in a fifth section .. the whole section at most 12,288 bytes"; over it is 17, not 2
+abbrev pub tables : Section
+tables = record { order = 5; limit = 12288 }
 
 -- 2: "a section's count, or a text handed in directly, is over its limit"
 abbrev pub overLimit : Section → List ℕ → Option Refusal

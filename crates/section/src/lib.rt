@@ -1,10 +1,10 @@
 // What the gate answers with, and the sections of the station sheet.
 //   fault_number(f)      == document 01's number of a fault
 //   part_of(s, p)        == the bytes of the part p of s
-//   Allow, Deny, Byuid, Portacl == the section types: LIMIT, ORDER, and
+//   Allow, Deny, Byuid, Portacl, Tables == the section types: LIMIT, ORDER, and
 //     over(n)            == n bytes are over the section's limit
 //     refusal(f, line)   == the refusal by f at a line of the section
-//     cursor(at)         == a cursor at the section's count
+//     cursor(at)         == a cursor at the section's count; the tables have none
 ghost use mathlib.Core.Path.{_≡_};
 ghost use lib.Dec.{ltb};
 ghost use Rattle.section.specs.Refusal.{faultNumber, refusal, placeless};
@@ -28,6 +28,9 @@ pub enum Fault {
     BadEntry,
     BadRequest,
     NoRoom,
+    TableName,
+    TooDeep,
+    BadTable,
 }
 
 // A refusal carries number, section and line.
@@ -90,6 +93,9 @@ pub fn fault_number(f: Fault) -> u8
         Fault::BadEntry => 12,
         Fault::BadRequest => 13,
         Fault::NoRoom => 14,
+        Fault::TableName => 15,
+        Fault::TooDeep => 16,
+        Fault::BadTable => 17,
     }
 }
 
@@ -240,6 +246,31 @@ impl Portacl {
             at,
             limit: Portacl::LIMIT,
             order: Portacl::ORDER,
+        }
+    }
+}
+
+// The section of the tables: their counts say where it ends, so it has no count of bytes and no cursor.
+pub struct Tables;
+
+impl Tables {
+    pub const LIMIT: usize = 12288;
+
+    pub const ORDER: u8 = 5;
+
+    pub fn over(n: usize) -> bool
+        ensures { λ r. ⌜ r ≡ ltb (S.tables .limit) n ⌝ }
+    {
+        Tables::LIMIT < n
+    }
+
+    pub fn refusal(fault: Fault, line: usize) -> Refusal
+        ensures { λ r. ⌜ r ≡ refusal fault (S.tables .order) line ⌝ }
+    {
+        Refusal {
+            fault,
+            section: Tables::ORDER,
+            line,
         }
     }
 }

@@ -1,23 +1,24 @@
 -- Laws of the station sheet: what an accepted sheet is, and what packing and unpacking make of it.
 --   SectionAt, Framed == what an answered section, and an answered frame, says of the sheet; each law has its converse
 --   sectionAt-kept, sectionAt-cut == a section in the sheet cut after its end, and before it
---   frame-cut == the frame of an accepted sheet cut short anywhere
---   framed-partsOf, textsAt-partsOf == the frame of the sheet of four texts, and the texts found by it
+--   limits-framed == the texts of a framed sheet are within their limits
+--   framed-partsOf, textsAt-partsOf == the frame of the sheet of five texts, and the texts found by it
 --   sheetOf-textsAt == the sheet of an accepted sheet's texts
 -- Assumes nothing.
 use Prim.Native.Nat.{ℕ, zero, suc, _+_, _-_, _≤_, _<_, _^_}
 use native.Mathlib.Omega.{arith}
 use mathlib.Core.Bool.{Bool, true, false}
-use mathlib.Core.List.{List, [], _∷_, _++_, append-assoc, append-nil}
+use mathlib.Core.List.{List, [], _∷_, _++_, append-assoc}
 use mathlib.Core.Option.{Option, none, some}
 use mathlib.Core.Path.{_≡_, refl, sym, ap, subst, _∙_}
-use lib.ListN.{length, take, drop, length-drop, length-append, take-append-drop, drop-of-length-le}
-use lib.Seq.{take-nil, take-take, length-take-le, take-at, drop-at, drop-drop, take-append-seam, drop-append-seam}
+use lib.ListN.{length, take, drop, length-drop, length-append, take-append-drop}
+use lib.Seq.{take-nil, take-take, take-length, length-take-le, take-at, drop-at, drop-drop, take-append-seam, drop-append-seam}
 use lib.Dec.{ltb}
-use borrow.Author.Tests.{ltb-true, ltb-false, le-ltb, lt-ltb}
+use borrow.Author.Tests.{ltb-false, le-ltb, lt-ltb}
 use Rattle.text.specs.Basics.{if_then_else_, _orElse_, given, all}
 use Rattle.text.specs.Number.{fromDigits, toDigits}
 use Rattle.text.proofs.BasicLaws.{all-take, all-drop}
+use Rattle.text.proofs.ScanLaws.{take-rest}
 use Rattle.text.proofs.Digits.{fromDigits-toDigits, toDigits-fromDigits, length-toDigits}
 use Rattle.section.specs.declared.Fault.the-variants as F
 use Rattle.section.specs.declared.Part.{Part}
@@ -25,8 +26,11 @@ use Rattle.section.specs.declared.Refusal.{Refusal}
 use Rattle.section.specs.Refusal.{Outcome, refused, answered, _>>=_, refusal, placeless, refusing}
 use Rattle.section.specs.Section as S
 use Rattle.section.specs.Section.{bytesAt, Section, part, overLimit}
+use Rattle.tables.specs.Table.{tablesFrame}
 use Rattle.sheet.specs.declared.Parts.{Parts}
-use Rattle.sheet.specs.Sheet.{Texts, textsAt, textsFault, sectionAt, partEnd, frame, unpack, counted, sheetOf, pack}
+use Rattle.sheet.specs.Sheet.{Texts, textsAt, textsFault, sectionAt, partEnd, restAfter, frame, unpack, counted, sheetOf, pack}
+use Rattle.sheet.specs.Code.{limitsFault, contentsFault}
+use Rattle.sheet.proofs.TextsLaws.{orElse-none, textsFault-parts, tables-named, tables-limit}
 
 -- ## Outcomes
 
@@ -47,12 +51,11 @@ module _ {A : Type 0} where
   given-none true a e = cc
   given-none false a e = refl
 
-  pub orElse-none : (o u : Option A) → o orElse u ≡ none → (o ≡ none) × (u ≡ none)
-  orElse-none none u e = (refl, e)
-  orElse-none (some a) u e = (cc, cc)
+  pub answered-same : (a b : A) → answered a ≡ answered b → a ≡ b
+  answered-same a b e = cc
 
-  pub append-four : (a b c d : List A) → a ++ b ++ c ++ d ≡ a ++ (b ++ (c ++ (d ++ [])))
-  append-four a b c d = simp (append-assoc, append-nil)
+  pub append-five : (a b c d e : List A) → a ++ b ++ c ++ d ++ e ≡ a ++ (b ++ (c ++ (d ++ e)))
+  append-five a b c d e = simp append-assoc
 
   pub take-drop-take : (n at k : ℕ) (l : List A) → at + n ≤ k → take n (drop at (take k l)) ≡ take n (drop at l)
   take-drop-take n zero k l h = take-take n k l (omega arith)
@@ -128,7 +131,7 @@ pub record Framed (sheet : List ℕ) (p : Parts) : Type 0 where
   pub deny : SectionAt S.deny (partEnd (p .allow)) sheet (p .deny)
   pub byuid : SectionAt S.byuid (partEnd (p .deny)) sheet (p .byuid)
   pub portacl : SectionAt S.portacl (partEnd (p .byuid)) sheet (p .portacl)
-  pub end : partEnd (p .portacl) ≡ length sheet
+  pub tables : p .tables ≡ restAfter sheet (p .portacl)
 
 pub frame-answered : (sheet : List ℕ) (p : Parts) → frame sheet ≡ answered p → Framed sheet p
 unfolding frame
@@ -137,52 +140,35 @@ frame-answered sheet q e =
     let d = bind-answered (sectionAt S.deny (partEnd (a .0)) sheet) _ q (a .2) in
     let b = bind-answered (sectionAt S.byuid (partEnd (d .0)) sheet) _ q (d .2) in
     let p = bind-answered (sectionAt S.portacl (partEnd (b .0)) sheet) _ q (b .2) in
-    let r = refusing-answered (given (ltb (partEnd (p .0)) (length sheet)) (placeless F.TrailingBytes)) _ q (p .2) in
-    let portacl = sectionAt-answered S.portacl (partEnd (b .0)) sheet (p .0) (p .1) in
-    subst (λ q. Framed sheet q) (r .1)
+    subst (λ q. Framed sheet q) (answered-same _ q (p .2))
     (record {
       allow = sectionAt-answered S.allow 0 sheet (a .0) (a .1);
       deny = sectionAt-answered S.deny (partEnd (a .0)) sheet (d .0) (d .1);
       byuid = sectionAt-answered S.byuid (partEnd (d .0)) sheet (b .0) (b .1);
-      portacl = portacl;
-      end = omega (arith, portacl .place, portacl .within, ltb-false (partEnd (p .0)) (length sheet) (given-none _ _ (r .0)));
+      portacl = sectionAt-answered S.portacl (partEnd (b .0)) sheet (p .0) (p .1);
+      tables = refl;
     })
+
+-- p with another part for the tables
+abbrev pub withTables : Parts → Part → Parts
+withTables p t = record { allow = p .allow; deny = p .deny; byuid = p .byuid; portacl = p .portacl; tables = t }
 
 pub answered-frame : {sheet : List ℕ} {p : Parts} → Framed sheet p → frame sheet ≡ answered p
 unfolding frame
 answered-frame {sheet} {p} f =
-    rw (
-      answered-sectionAt (f .allow),
-      answered-sectionAt (f .deny),
-      answered-sectionAt (f .byuid),
-      answered-sectionAt (f .portacl),
-      le-ltb (partEnd (p .portacl)) (length sheet) (omega (arith, f .end)),
-    )
+    rw (answered-sectionAt (f .allow), answered-sectionAt (f .deny), answered-sectionAt (f .byuid), answered-sectionAt (f .portacl))
+    (ap (λ t. answered (withTables p t)) (sym (f .tables)))
 
--- what is refused by 1 at one of the four sections
-abbrev pub Short : {A : Type 0} → Outcome A → Type 0
-Short o = (s : ℕ) × (1 ≤ s) × (s ≤ 4) × (o ≡ refused (refusal F.CutShort s 0))
+module _ {sheet : List ℕ} {p : Parts} (f : Framed sheet p) where
+  -- where the tables begin
+  pub portacl-end : partEnd (p .portacl) ≤ length sheet
+  portacl-end = omega (arith, f .portacl .place, f .portacl .within)
 
-module _ (sheet : List ℕ) (k : ℕ) (less : k < length sheet) where
-  -- a cut in a section, or after its end
-  sectionAt-short : {A : Type 0} {s : Section} {at : ℕ} {p : Part} (f : Part → Outcome A) → 1 ≤ s .order → s .order ≤ 4 → SectionAt s at sheet p
-      → (partEnd p ≤ k → Short (f p)) → Short (sectionAt s at (take k sheet) >>= f)
-  sectionAt-short {s = s} {at} {p} f low high h after = by (ltb k (partEnd p)) refl
-    where
-      by : (b : Bool) → ltb k (partEnd p) ≡ b → Short (sectionAt s at (take k sheet) >>= f)
-      by true e = rw (sectionAt-cut h k (omega arith) (ltb-true k (partEnd p) e)) (s .order, low, high, refl)
-      by false e =
-          let on : partEnd p ≤ k = ltb-false k (partEnd p) e in
-          rw (answered-sectionAt (sectionAt-kept h k (omega arith) on)) (after on)
+  pub tables-rest : bytesAt sheet (p .tables) ≡ drop (partEnd (p .portacl)) sheet
+  tables-rest = ap (bytesAt sheet) (f .tables) ∙ take-rest sheet (partEnd (p .portacl))
 
-  pub frame-cut : {p : Parts} → Framed sheet p → Short (frame (take k sheet))
-  unfolding frame
-  frame-cut f =
-      sectionAt-short _ (omega arith) (omega arith) (f .allow) λ _.
-      sectionAt-short _ (omega arith) (omega arith) (f .deny) λ _.
-      sectionAt-short _ (omega arith) (omega arith) (f .byuid) λ _.
-      sectionAt-short _ (omega arith) (omega arith) (f .portacl) λ h.
-      absurd (omega (arith, f .end))
+  pub tables-length : length (bytesAt sheet (p .tables)) ≡ length sheet - partEnd (p .portacl)
+  tables-length = ap length tables-rest ∙ length-drop (partEnd (p .portacl)) sheet
 
 -- ## Texts in a sheet
 
@@ -213,16 +199,16 @@ module _ (at : ℕ) (sheet t rest : List ℕ) (here : drop at sheet ≡ counted 
         within = omega (arith, length-drop at sheet, simp (length-append, length-toDigits) at (ap length here));
       }
 
+pub length-bytesAt : {s : Section} {at : ℕ} {sheet : List ℕ} {p : Part} → SectionAt s at sheet p → length (bytesAt sheet p) ≡ p .len
+length-bytesAt {sheet = sheet} {p} f = length-take-le (p .len) (drop (p .place) sheet) (rw length-drop (omega (arith, f .place, f .within)))
+
 -- a section's bytes are its count and its text
 module _ {s : Section} {at : ℕ} {sheet : List ℕ} {p : Part} (are-bytes : all (λ b. ltb b 256) sheet ≡ true) (f : SectionAt s at sheet p) where
-  length-bytesAt : length (bytesAt sheet p) ≡ p .len
-  length-bytesAt = length-take-le (p .len) (drop (p .place) sheet) (rw length-drop (omega (arith, f .place, f .within)))
-
   count-bytesAt : toDigits 256 4 (length (bytesAt sheet p)) ≡ take 4 (drop at sheet)
   count-bytesAt =
       let four : length (take 4 (drop at sheet)) ≡ 4 = length-take-le 4 (drop at sheet) (rw length-drop (omega (arith, f .within))) in
       let small = all-take (λ b. ltb b 256) 4 (drop at sheet) (all-drop (λ b. ltb b 256) at sheet are-bytes) in
-      ap (toDigits 256 4) (length-bytesAt ∙ f .count) ∙ (rw four at (toDigits-fromDigits 256 0 (take 4 (drop at sheet)) small))
+      ap (toDigits 256 4) (length-bytesAt f ∙ f .count) ∙ (rw four at (toDigits-fromDigits 256 0 (take 4 (drop at sheet)) small))
 
   after-bytesAt : bytesAt sheet p ++ drop (partEnd p) sheet ≡ drop 4 (drop at sheet)
   after-bytesAt =
@@ -232,69 +218,99 @@ module _ {s : Section} {at : ℕ} {sheet : List ℕ} {p : Part} (are-bytes : all
   counted-bytesAt =
       rw (count-bytesAt, append-assoc (take 4 (drop at sheet)) (bytesAt sheet p) (drop (partEnd p) sheet), after-bytesAt, take-append-drop 4 (drop at sheet))
 
--- ## Four texts
+-- ## Five texts
 
 pub record WithinLimits (ts : Texts) : Type 0 where
   pub allow : length (ts .allow) ≤ S.allow .limit
   pub deny : length (ts .deny) ≤ S.deny .limit
   pub byuid : length (ts .byuid) ≤ S.byuid .limit
   pub portacl : length (ts .portacl) ≤ S.portacl .limit
+  pub tables : length (ts .tables) ≤ S.tables .limit
 
 pub overLimit-none : (s : Section) (t : List ℕ) → overLimit s t ≡ none → length t ≤ s .limit
 overLimit-none s t e = ltb-false (s .limit) (length t) (given-none _ _ e)
 
-pub textsFault-none : (ts : Texts) → textsFault ts ≡ none → WithinLimits ts
-unfolding textsFault
-textsFault-none ts e =
-    let p = orElse-none _ _ (orElse-none _ _ (orElse-none _ _ (orElse-none _ _ e .0) .0) .0) in
-    let b = orElse-none _ _ (p .0) in
-    let a = orElse-none _ _ (b .0) in
-    record {
-      allow = overLimit-none S.allow (ts .allow) (a .0);
-      deny = overLimit-none S.deny (ts .deny) (a .1);
-      byuid = overLimit-none S.byuid (ts .byuid) (b .1);
-      portacl = overLimit-none S.portacl (ts .portacl) (p .1);
-    }
+module _ (ts : Texts) (e : textsFault ts ≡ none) where
+  pub textsFault-none : WithinLimits ts
+  unfolding textsFault
+  textsFault-none =
+      let n = orElse-none _ _ e in
+      let h = orElse-none _ _ (orElse-none _ _ (orElse-none _ _ (orElse-none _ _ (n .0) .0) .0) .0) in
+      let p = orElse-none _ _ (h .0) in
+      let b = orElse-none _ _ (p .0) in
+      let a = orElse-none _ _ (b .0) in
+      record {
+        allow = overLimit-none S.allow (ts .allow) (a .0);
+        deny = overLimit-none S.deny (ts .deny) (a .1);
+        byuid = overLimit-none S.byuid (ts .byuid) (b .1);
+        portacl = overLimit-none S.portacl (ts .portacl) (p .1);
+        tables = tables-limit (ts .tables) (tables-named (ts .allow) (ts .deny) (ts .tables) (n .1));
+      }
 
--- the places of four texts in their sheet
+  pub tablesFrame-none : tablesFrame (ts .tables) ≡ none
+  tablesFrame-none =
+      let limits = limitsFault (ts .allow) (ts .deny) (ts .byuid) (ts .portacl) in
+      let contents = contentsFault (ts .allow) (ts .deny) (ts .portacl) (ts .tables) in
+      let parts = textsFault-parts (ts .allow) (ts .deny) (ts .byuid) (ts .portacl) (ts .tables) in
+      orElse-none (tablesFrame (ts .tables)) contents (orElse-none limits (tablesFrame (ts .tables) orElse contents) (sym parts ∙ e) .1) .0
+
+-- the texts of a framed sheet are within their limits
+pub limits-framed : {sheet : List ℕ} {p : Parts} → Framed sheet p
+    → limitsFault (bytesAt sheet (p .allow)) (bytesAt sheet (p .deny)) (bytesAt sheet (p .byuid)) (bytesAt sheet (p .portacl)) ≡ none
+unfolding limitsFault
+limits-framed {sheet} {p} f =
+    rw (
+      le-ltb (S.allow .limit) (length (bytesAt sheet (p .allow))) (omega (arith, length-bytesAt (f .allow), f .allow .limit)),
+      le-ltb (S.deny .limit) (length (bytesAt sheet (p .deny))) (omega (arith, length-bytesAt (f .deny), f .deny .limit)),
+      le-ltb (S.byuid .limit) (length (bytesAt sheet (p .byuid))) (omega (arith, length-bytesAt (f .byuid), f .byuid .limit)),
+      le-ltb (S.portacl .limit) (length (bytesAt sheet (p .portacl))) (omega (arith, length-bytesAt (f .portacl), f .portacl .limit)),
+    )
+
+-- the places of five texts in their sheet
 abbrev pub partsOf : Texts → Parts
 partsOf ts =
     let a : Part = part 4 (length (ts .allow)) in
     let d : Part = part (partEnd a + 4) (length (ts .deny)) in
     let b : Part = part (partEnd d + 4) (length (ts .byuid)) in
-    record { allow = a; deny = d; byuid = b; portacl = part (partEnd b + 4) (length (ts .portacl)) }
+    let p : Part = part (partEnd b + 4) (length (ts .portacl)) in
+    record { allow = a; deny = d; byuid = b; portacl = p; tables = part (partEnd p) (length (ts .tables)) }
 
--- four texts with their counts, one after the other
+-- four texts with their counts and then the tables, one after the other
 abbrev pub inTurn : Texts → List ℕ
-inTurn ts = counted (ts .allow) ++ (counted (ts .deny) ++ (counted (ts .byuid) ++ (counted (ts .portacl) ++ [])))
+inTurn ts = counted (ts .allow) ++ (counted (ts .deny) ++ (counted (ts .byuid) ++ (counted (ts .portacl) ++ ts .tables)))
 
 pub sheetOf-inTurn : (ts : Texts) → sheetOf ts ≡ inTurn ts
 unfolding sheetOf
-sheetOf-inTurn ts = append-four (counted (ts .allow)) (counted (ts .deny)) (counted (ts .byuid)) (counted (ts .portacl))
+sheetOf-inTurn ts = append-five (counted (ts .allow)) (counted (ts .deny)) (counted (ts .byuid)) (counted (ts .portacl)) (ts .tables)
 
 module _ (ts : Texts) (sheet : List ℕ) (is : sheet ≡ inTurn ts) where
-  at-deny : drop (partEnd (partsOf ts .allow)) sheet ≡ counted (ts .deny) ++ (counted (ts .byuid) ++ (counted (ts .portacl) ++ []))
+  at-deny : drop (partEnd (partsOf ts .allow)) sheet ≡ counted (ts .deny) ++ (counted (ts .byuid) ++ (counted (ts .portacl) ++ ts .tables))
   at-deny = drop-counted 0 sheet (ts .allow) _ is
 
-  at-byuid : drop (partEnd (partsOf ts .deny)) sheet ≡ counted (ts .byuid) ++ (counted (ts .portacl) ++ [])
+  at-byuid : drop (partEnd (partsOf ts .deny)) sheet ≡ counted (ts .byuid) ++ (counted (ts .portacl) ++ ts .tables)
   at-byuid = drop-counted (partEnd (partsOf ts .allow)) sheet (ts .deny) _ at-deny
 
-  at-portacl : drop (partEnd (partsOf ts .byuid)) sheet ≡ counted (ts .portacl) ++ []
+  at-portacl : drop (partEnd (partsOf ts .byuid)) sheet ≡ counted (ts .portacl) ++ ts .tables
   at-portacl = drop-counted (partEnd (partsOf ts .deny)) sheet (ts .byuid) _ at-byuid
 
-  at-end : drop (partEnd (partsOf ts .portacl)) sheet ≡ []
-  at-end = drop-counted (partEnd (partsOf ts .byuid)) sheet (ts .portacl) [] at-portacl
+  at-tables : drop (partEnd (partsOf ts .portacl)) sheet ≡ ts .tables
+  at-tables = drop-counted (partEnd (partsOf ts .byuid)) sheet (ts .portacl) (ts .tables) at-portacl
+
+  -- how many bytes are left for the tables
+  tables-left : length (ts .tables) ≡ length sheet - partEnd (partsOf ts .portacl)
+  tables-left = sym (ap length at-tables) ∙ length-drop (partEnd (partsOf ts .portacl)) sheet
 
   pub framed-partsOf : WithinLimits ts → Framed sheet (partsOf ts)
-  framed-partsOf w =
-      let last = sectionAt-counted (partEnd (partsOf ts .byuid)) sheet (ts .portacl) [] at-portacl S.portacl (w .portacl) (omega arith) in
-      record {
-        allow = sectionAt-counted 0 sheet (ts .allow) _ is S.allow (w .allow) (omega arith);
-        deny = sectionAt-counted (partEnd (partsOf ts .allow)) sheet (ts .deny) _ at-deny S.deny (w .deny) (omega arith);
-        byuid = sectionAt-counted (partEnd (partsOf ts .deny)) sheet (ts .byuid) _ at-byuid S.byuid (w .byuid) (omega arith);
-        portacl = last;
-        end = omega (arith, last .within, length-drop (partEnd (partsOf ts .portacl)) sheet, ap length at-end);
-      }
+  framed-partsOf w = record {
+    allow = sectionAt-counted 0 sheet (ts .allow) _ is S.allow (w .allow) (omega arith);
+    deny = sectionAt-counted (partEnd (partsOf ts .allow)) sheet (ts .deny) _ at-deny S.deny (w .deny) (omega arith);
+    byuid = sectionAt-counted (partEnd (partsOf ts .deny)) sheet (ts .byuid) _ at-byuid S.byuid (w .byuid) (omega arith);
+    portacl = sectionAt-counted (partEnd (partsOf ts .byuid)) sheet (ts .portacl) (ts .tables) at-portacl S.portacl (w .portacl) (omega arith);
+    tables = ap (part (partEnd (partsOf ts .portacl))) tables-left;
+  }
+
+  bytesAt-tables : bytesAt sheet (partsOf ts .tables) ≡ ts .tables
+  bytesAt-tables = ap (take (length (ts .tables))) at-tables ∙ take-length (ts .tables)
 
   pub textsAt-partsOf : textsAt sheet (partsOf ts) ≡ ts
   textsAt-partsOf =
@@ -302,14 +318,15 @@ module _ (ts : Texts) (sheet : List ℕ) (is : sheet ≡ inTurn ts) where
         bytesAt-counted 0 sheet (ts .allow) _ is,
         bytesAt-counted (partEnd (partsOf ts .allow)) sheet (ts .deny) _ at-deny,
         bytesAt-counted (partEnd (partsOf ts .deny)) sheet (ts .byuid) _ at-byuid,
-        bytesAt-counted (partEnd (partsOf ts .byuid)) sheet (ts .portacl) [] at-portacl,
+        bytesAt-counted (partEnd (partsOf ts .byuid)) sheet (ts .portacl) (ts .tables) at-portacl,
+        bytesAt-tables,
       )
 
 pub sheetOf-textsAt : {sheet : List ℕ} {p : Parts} → all (λ b. ltb b 256) sheet ≡ true → Framed sheet p → sheetOf (textsAt sheet p) ≡ sheet
 sheetOf-textsAt {sheet} {p} e f =
     sheetOf-inTurn (textsAt sheet p)
     ∙ rw (
-      ← (drop-of-length-le sheet {i = partEnd (p .portacl)} (omega (arith, f .end))),
+      tables-rest f,
       ← (counted-bytesAt e (f .portacl)),
       ← (counted-bytesAt e (f .byuid)),
       ← (counted-bytesAt e (f .deny)),

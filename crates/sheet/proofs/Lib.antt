@@ -1,6 +1,9 @@
-pub mod UnpackLaws
-pub mod FrameLaws
-pub mod ReadLaws
 pub mod TextsLaws
+pub mod FrameLaws
+pub mod UnpackLaws
+pub mod ReadLaws
 pub mod PackLaws
-pub mod LongSheetLaws
+pub mod UpgradeLaws
+pub mod SheetLaws
+pub mod LongestLaws
+pub mod Examples

@@ -50,52 +50,56 @@ put-counted d o p t at n m w v room =
 abbrev WroteCounted : List ℕ → List ℕ → List ℕ → ℕ → ℕ → Type 0
 WroteCounted d o t at n = (n ≡ at + 4 + length t) × (o ≡ putAt d at (counted t))
 
-pub length-sheetOf : (a d b p : List ℕ) → length (sheetOf (texts a d b p)) ≡ 16 + length a + length d + length b + length p
+pub length-sheetOf : (a d b p t : List ℕ) → length (sheetOf (texts a d b p t)) ≡ 16 + length a + length d + length b + length p + length t
 unfolding sheetOf
-length-sheetOf a d b p =
+length-sheetOf a d b p t =
     simp length-append
     (omega (arith, length-toDigits 256 4 (length a), length-toDigits 256 4 (length d), length-toDigits 256 4 (length b), length-toDigits 256 4 (length p)))
 
--- the four texts, one after the other
-module _ (out a d b p : List ℕ) (o₁ o₂ o₃ o₄ : List ℕ) (n₁ n₂ n₃ n₄ : ℕ) where
-  pub put-sheet : WroteCounted out o₁ a 0 n₁ → WroteCounted o₁ o₂ d n₁ n₂ → WroteCounted o₂ o₃ b n₂ n₃ → WroteCounted o₃ o₄ p n₃ n₄
-      → (n₄ ≡ length (sheetOf (texts a d b p))) × (o₄ ≡ after (sheetOf (texts a d b p)) out)
+-- four texts with their counts and then the tables, one after the other
+module _ (out a d b p t : List ℕ) (o₁ o₂ o₃ o₄ o₅ : List ℕ) (n₁ n₂ n₃ n₄ n₅ : ℕ) where
+  pub put-sheet : WroteCounted out o₁ a 0 n₁ → WroteCounted o₁ o₂ d n₁ n₂ → WroteCounted o₂ o₃ b n₂ n₃ → WroteCounted o₃ o₄ p n₃ n₄ → Wrote o₄ o₅ t n₄ n₅
+      → (n₅ ≡ length (sheetOf (texts a d b p t))) × (o₅ ≡ after (sheetOf (texts a d b p t)) out)
   unfolding sheetOf
-  put-sheet w₁ w₂ w₃ w₄ =
+  put-sheet w₁ w₂ w₃ w₄ w₅ =
       let s₁ = put-first out o₁ (counted a) (w₁ .1) in
       let s₂ = put-more out o₁ o₂ (counted a) (counted d) n₁ (w₂ .1) s₁ (omega (arith, w₁ .0, length-counted a)) in
       let l₂ = length-append (counted a) (counted d) in
-      let s₃ = put-more out o₂ o₃ (counted a ++ counted d) (counted b) n₂ (w₃ .1) s₂ (omega (arith, w₁ .0, w₂ .0, l₂, length-counted a, length-counted d)) in
+      let e₂ : n₂ ≡ length (counted a ++ counted d) = omega (arith, w₁ .0, w₂ .0, l₂, length-counted a, length-counted d) in
+      let s₃ = put-more out o₂ o₃ (counted a ++ counted d) (counted b) n₂ (w₃ .1) s₂ e₂ in
       let l₃ = length-append (counted a ++ counted d) (counted b) in
-      let e₃ : n₃
-      ≡ length (counted a ++ counted d ++ counted b) = omega (arith, w₁ .0, w₂ .0, w₃ .0, l₂, l₃, length-counted a, length-counted d, length-counted b) in
-      (omega (arith, w₁ .0, w₂ .0, w₃ .0, w₄ .0, length-sheetOf a d b p), put-more out o₃ o₄ (counted a ++ counted d ++ counted b) (counted p) n₃ (w₄ .1) s₃ e₃)
+      let e₃ : n₃ ≡ length (counted a ++ counted d ++ counted b) = omega (arith, e₂, w₃ .0, l₃, length-counted b) in
+      let s₄ = put-more out o₃ o₄ (counted a ++ counted d ++ counted b) (counted p) n₃ (w₄ .1) s₃ e₃ in
+      let l₄ = length-append (counted a ++ counted d ++ counted b) (counted p) in
+      let e₄ : n₄ ≡ length (counted a ++ counted d ++ counted b ++ counted p) = omega (arith, e₃, w₄ .0, l₄, length-counted p) in
+      let l₅ = length-append (counted a ++ counted d ++ counted b ++ counted p) t in
+      (omega (arith, e₄, w₅ .0, l₅), put-more out o₄ o₅ (counted a ++ counted d ++ counted b ++ counted p) t n₄ (w₅ .1) s₄ e₄)
 
 -- ## The answers
 
-module _ (a d b p : List ℕ) (x : Checked) (is-x : x ≡ checkedOf (textsFault (texts a d b p))) where
+module _ (a d b p t : List ℕ) (x : Checked) (is-x : x ≡ checkedOf (textsFault (texts a d b p t))) where
   pub pack-refused : (r : Refusal) → x ≡ C.Refused r → (out : List ℕ)
-      → (W.Refused r ≡ writtenOf (pack (texts a d b p) (length out))) × (out ≡ lentAfter out (pack (texts a d b p) (length out)))
+      → (W.Refused r ≡ writtenOf (pack (texts a d b p t) (length out))) × (out ≡ lentAfter out (pack (texts a d b p t) (length out)))
   unfolding pack
-  pack-refused r e out = rw (checked-refused (textsFault (texts a d b p)) r (sym is-x ∙ e)) (refl, refl)
+  pack-refused r e out = rw (checked-refused (textsFault (texts a d b p t)) r (sym is-x ∙ e)) (refl, refl)
 
   module _ (e : x ≡ C.Sound) where
-    sound : textsFault (texts a d b p) ≡ none
-    sound = checked-sound (textsFault (texts a d b p)) (sym is-x ∙ e)
+    sound : textsFault (texts a d b p t) ≡ none
+    sound = checked-sound (textsFault (texts a d b p t)) (sym is-x ∙ e)
 
-    -- "The longest sheet is 42,000 bytes."
-    pub sheet-fits : 16 + length a + length d + length b + length p ≤ 42000
-    sheet-fits = let w = textsFault-none (texts a d b p) sound in omega (arith, w .allow, w .deny, w .byuid, w .portacl)
+    -- "the longest sheet 54,288"
+    pub sheet-fits : 16 + length a + length d + length b + length p + length t ≤ 54288
+    sheet-fits = let w = textsFault-none (texts a d b p t) sound in omega (arith, w .allow, w .deny, w .byuid, w .portacl, w .tables)
 
-    pub pack-no-room : (out : List ℕ) → length out < 16 + length a + length d + length b + length p → (r : Refusal) → r ≡ placeless F.NoRoom
-        → (W.Refused r ≡ writtenOf (pack (texts a d b p) (length out))) × (out ≡ lentAfter out (pack (texts a d b p) (length out)))
+    pub pack-no-room : (out : List ℕ) → length out < 16 + length a + length d + length b + length p + length t → (r : Refusal) → r ≡ placeless F.NoRoom
+        → (W.Refused r ≡ writtenOf (pack (texts a d b p t) (length out))) × (out ≡ lentAfter out (pack (texts a d b p t) (length out)))
     unfolding pack
     pack-no-room out h r is-r =
-        rw (sound, lt-ltb (length out) (length (sheetOf (texts a d b p))) (omega (arith, length-sheetOf a d b p)), is-r) (refl, refl)
+        rw (sound, lt-ltb (length out) (length (sheetOf (texts a d b p t))) (omega (arith, length-sheetOf a d b p t)), is-r) (refl, refl)
 
-    pub pack-count : (out o : List ℕ) (n : ℕ) → 16 + length a + length d + length b + length p ≤ length out
-        → (n ≡ length (sheetOf (texts a d b p))) × (o ≡ after (sheetOf (texts a d b p)) out)
-        → (W.Count n ≡ writtenOf (pack (texts a d b p) (length out))) × (o ≡ lentAfter out (pack (texts a d b p) (length out)))
+    pub pack-count : (out o : List ℕ) (n : ℕ) → 16 + length a + length d + length b + length p + length t ≤ length out
+        → (n ≡ length (sheetOf (texts a d b p t))) × (o ≡ after (sheetOf (texts a d b p t)) out)
+        → (W.Count n ≡ writtenOf (pack (texts a d b p t) (length out))) × (o ≡ lentAfter out (pack (texts a d b p t) (length out)))
     unfolding after
     pack-count out o n h w =
-        rw (answered-pack (texts a d b p) (length out) sound (omega (arith, length-sheetOf a d b p))) (ap W.Count (w .0), w .1)
+        rw (answered-pack (texts a d b p t) (length out) sound (omega (arith, length-sheetOf a d b p t))) (ap W.Count (w .0), w .1)

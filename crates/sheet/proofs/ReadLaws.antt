@@ -12,17 +12,16 @@ use Rattle.section.specs.declared.Cursor.{Cursor}
 use Rattle.section.specs.declared.Fault.the-variants as F
 use Rattle.section.specs.declared.Part.{Part}
 use Rattle.section.specs.declared.Refusal.{Refusal}
-use Rattle.section.specs.Refusal.{Outcome, refused, answered, _>>=_, refusal, placeless}
+use Rattle.section.specs.Refusal.{Outcome, refused, answered, _>>=_, refusal}
 use Rattle.section.specs.Section as S
 use Rattle.section.specs.Section.{Section, part}
 use Rattle.section.specs.Code.{cursorAt}
-use Rattle.sheet.specs.declared.Parts.{Parts}
 use Rattle.sheet.specs.declared.frame.SectionRead.{SectionRead}
 use Rattle.sheet.specs.declared.frame.SectionRead.the-variants as R
 use Rattle.sheet.specs.declared.frame.Framed.{Framed}
 use Rattle.sheet.specs.declared.frame.Framed.the-variants as Fr
-use Rattle.sheet.specs.Sheet.{sectionAt, partEnd, frame}
-use Rattle.sheet.specs.Code.{sectionOf, sectionReadOf, framedOf, fromDeny, fromByuid, fromPortacl, toEnd}
+use Rattle.sheet.specs.Sheet.{sectionAt, partEnd, restAfter, frame}
+use Rattle.sheet.specs.Code.{sectionOf, sectionReadOf, framedOf, fromDeny, fromByuid, fromPortacl}
 use Rattle.sheet.proofs.FrameLaws.{sectionAt-answered}
 
 -- ## One section
@@ -105,7 +104,7 @@ module _ (sheet : List ℕ) (c : Cursor) (x : SectionRead) (is-x : x ≡ section
     allow-refused g e = rw (refused-at S.allow 0 sheet is-c is-x g e)
 
     pub allow-found : (a : Part) → x ≡ R.Found a → (y : Framed) → y ≡ framedOf (fromDeny sheet a) → y ≡ framedOf (frame sheet)
-    unfolding frame fromDeny fromByuid fromPortacl toEnd
+    unfolding frame fromDeny fromByuid fromPortacl
     allow-found a e y is-y = rw (found-at S.allow 0 sheet is-c is-x a e) is-y
 
   module _ (a : Part) (is-c : c ≡ cursorAt S.deny (partEnd a)) where
@@ -131,17 +130,7 @@ module _ (sheet : List ℕ) (c : Cursor) (x : SectionRead) (is-x : x ≡ section
     unfolding fromPortacl
     portacl-refused g e = rw (refused-at S.portacl (partEnd b) sheet is-c is-x g e)
 
-    pub portacl-found : (p : Part) → x ≡ R.Found p
-        → (y : Framed) → y ≡ framedOf (toEnd sheet (record { allow = a; deny = d; byuid = b; portacl = p })) → y ≡ framedOf (fromPortacl sheet a d b)
+    pub portacl-found : (p : Part) → x ≡ R.Found p → (t : Part) → t ≡ restAfter sheet p
+        → Fr.Parts (record { allow = a; deny = d; byuid = b; portacl = p; tables = t }) ≡ framedOf (fromPortacl sheet a d b)
     unfolding fromPortacl
-    portacl-found p e y is-y = rw (found-at S.portacl (partEnd b) sheet is-c is-x p e) is-y
-
-module _ (sheet : List ℕ) (p : Parts) where
-  pub bytes-follow : p .portacl .place + p .portacl .len < length sheet → (g : Refusal) → g ≡ placeless F.TrailingBytes
-      → Fr.Refused g ≡ framedOf (toEnd sheet p)
-  unfolding toEnd
-  bytes-follow h g is-g = rw (lt-ltb (partEnd (p .portacl)) (length sheet) h, is-g)
-
-  pub nothing-follows : length sheet ≤ p .portacl .place + p .portacl .len → Fr.Parts p ≡ framedOf (toEnd sheet p)
-  unfolding toEnd
-  nothing-follows h = rw (le-ltb (partEnd (p .portacl)) (length sheet) h)
+    portacl-found p e t is-t = rw (found-at S.portacl (partEnd b) sheet is-c is-x p e, is-t)

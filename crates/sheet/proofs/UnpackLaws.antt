@@ -27,10 +27,10 @@ pub framed-parts : (o : Outcome Parts) (p : Parts) → framedOf o ≡ Fr.Parts p
 framed-parts (refused r) p e = let z : _≡_ {A = ℕ} 0 1 = cc in absurd (omega arith)
 framed-parts (answered q) p e = cc
 
-pub texts-in-sheet : (sheet : List ℕ) (p : Parts) (a d b q : List ℕ) → a ≡ bytesAt sheet (p .allow) → d ≡ bytesAt sheet (p .deny)
-    → b ≡ bytesAt sheet (p .byuid) → q ≡ bytesAt sheet (p .portacl)
-    → (x : Checked) → x ≡ checkedOf (textsFault (texts a d b q)) → x ≡ checkedOf (textsFault (textsAt sheet p))
-texts-in-sheet sheet p a d b q is-a is-d is-b is-q x is-x = is-x ∙ rw (is-a, is-d, is-b, is-q)
+pub texts-in-sheet : (sheet : List ℕ) (p : Parts) (a d b q t : List ℕ) → a ≡ bytesAt sheet (p .allow) → d ≡ bytesAt sheet (p .deny)
+    → b ≡ bytesAt sheet (p .byuid) → q ≡ bytesAt sheet (p .portacl) → t ≡ bytesAt sheet (p .tables)
+    → (x : Checked) → x ≡ checkedOf (textsFault (texts a d b q t)) → x ≡ checkedOf (textsFault (textsAt sheet p))
+texts-in-sheet sheet p a d b q t is-a is-d is-b is-q is-t x is-x = is-x ∙ rw (is-a, is-d, is-b, is-q, is-t)
 
 module _ (sheet : List ℕ) (x : FramedRead) (is-x : x ≡ framedOf (frame sheet)) where
   pub unframed : (g : Refusal) → x ≡ Fr.Refused g → Un.Refused g ≡ unpackedOf (unpack sheet)

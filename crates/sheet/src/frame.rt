@@ -1,13 +1,13 @@
 // The frame of a sheet: where its texts stand, by the counts alone.
 //   section_at(sheet, cursor) == the part of the cursor's section
-//   frame(sheet)              == the parts of all sections, to the sheet's end
+//   frame(sheet)              == the parts of all sections; the last goes to the sheet's end
 ghost use mathlib.Core.Path.{_≡_};
 ghost use Prim.Native.Nat.{_≤_};
 ghost use lib.ListN.{length, take, drop};
 ghost use Rattle.text.specs.Number.{fromDigits};
 ghost use Rattle.section.specs.Refusal.{refusal, refused};
-ghost use Rattle.sheet.specs.Sheet.{sectionAt, partEnd, frame as frameOf};
-ghost use Rattle.sheet.specs.Code.{sectionOf, sectionReadOf, framedOf, fromDeny, fromByuid, fromPortacl, toEnd};
+ghost use Rattle.sheet.specs.Sheet.{sectionAt, partEnd, restAfter, frame as frameOf};
+ghost use Rattle.sheet.specs.Code.{sectionOf, sectionReadOf, framedOf, fromDeny, fromByuid, fromPortacl};
 use crate::Parts;
 use section::Allow;
 use section::Byuid;
@@ -84,16 +84,16 @@ pub fn section_at(sheet: &[u8], cursor: Cursor) -> SectionRead
     })
 }
 
-// The parts, where the last of them ends the sheet.
-fn to_end(sheet: &[u8], parts: Parts) -> Framed
-    requires { ⌜ partEnd (parts .portacl) ≤ length (now sheet) ⌝ }
-    ensures { λ r. ⌜ r ≡ framedOf (toEnd (now (sheet .entry)) parts) ⌝ }
+// What follows a part, to the end of the sheet.
+fn rest_after(sheet: &[u8], part: Part) -> Part
+    requires { ⌜ partEnd part ≤ length (now sheet) ⌝ }
+    ensures { λ r. ⌜ r ≡ restAfter (now (sheet .entry)) part ⌝ }
 {
-    let last = parts.portacl;
-    if last.place + last.len < sheet.len() {
-        return Framed::Refused(section::placeless(Fault::TrailingBytes));
+    let end = part.place + part.len;
+    Part {
+        place: end,
+        len: sheet.len() - end,
     }
-    Framed::Parts(parts)
 }
 
 // The frame, read from portacl on.
@@ -103,15 +103,13 @@ fn from_portacl(sheet: &[u8], allow: Part, deny: Part, byuid: Part) -> Framed
 {
     match section_at(sheet, Portacl::cursor(byuid.place + byuid.len)) {
         SectionRead::Refused(refusal) => Framed::Refused(refusal),
-        SectionRead::Found(portacl) => to_end(
-            sheet,
-            Parts {
-                allow,
-                deny,
-                byuid,
-                portacl,
-            },
-        ),
+        SectionRead::Found(portacl) => Framed::Parts(Parts {
+            allow,
+            deny,
+            byuid,
+            portacl,
+            tables: rest_after(sheet, portacl),
+        }),
     }
 }
 
@@ -137,7 +135,7 @@ fn from_deny(sheet: &[u8], allow: Part) -> Framed
     }
 }
 
-// The parts of all sections, to the sheet's end.
+// The parts of all sections; the last goes to the sheet's end.
 pub fn frame(sheet: &[u8]) -> Framed
     ensures { λ r. ⌜ r ≡ framedOf (frameOf (now (sheet .entry))) ⌝ }
 {

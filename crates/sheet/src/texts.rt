@@ -1,18 +1,22 @@
-// The checks of the four texts of a sheet.
-//   check_texts(allow, deny, byuid, portacl) == their first refusal, if there is one: limits, then contents
+// The checks of the five texts of a sheet.
+//   check_texts(allow, deny, byuid, portacl, tables) == their first refusal, if there is one: limits, the frame of the tables, contents
+ghost use mathlib.Core.Option.{none};
 ghost use mathlib.Core.Path.{_≡_};
-ghost use Rattle.rules.specs.FileCode.{hostsFaultAt};
+ghost use Rattle.tables.specs.Table.{tablesFrame};
 ghost use Rattle.portacl.specs.Portacl.{portaclFault};
 ghost use Rattle.sheet.specs.Sheet.{texts, textsFault};
-ghost use Rattle.sheet.specs.Code.{checkedOf, limitsFault, contentsFault};
-use rules::hosts_file;
+ghost use Rattle.sheet.specs.Code.{checkedOf, checkedBy, limitsFault, contentsFault};
 use rules::hosts_file::Pass;
+use rules::naming;
 use section::Allow;
 use section::Byuid;
 use section::Deny;
 use section::Fault;
 use section::Portacl;
 use section::Refusal;
+use section::Tables;
+use tables::entry;
+use tables::entry::Framing;
 
 // What a check answers: a refusal, or that there is none.
 pub enum Checked {
@@ -20,9 +24,9 @@ pub enum Checked {
     Refused(Refusal),
 }
 
-// Whether each text is within its section's limit.
+// Whether each counted text is within its section's limit.
 fn check_limits(allow: &[u8], deny: &[u8], byuid: &[u8], portacl: &[u8]) -> Checked
-    ensures { λ r. ⌜ r ≡ checkedOf (limitsFault (texts (now (allow .entry)) (now (deny .entry)) (now (byuid .entry)) (now (portacl .entry)))) ⌝ }
+    ensures { λ r. ⌜ r ≡ checkedOf (limitsFault (now (allow .entry)) (now (deny .entry)) (now (byuid .entry)) (now (portacl .entry))) ⌝ }
 {
     if Allow::over(allow.len()) {
         return Checked::Refused(Allow::refusal(Fault::OverLimit, 0));
@@ -39,11 +43,22 @@ fn check_limits(allow: &[u8], deny: &[u8], byuid: &[u8], portacl: &[u8]) -> Chec
     Checked::Sound
 }
 
-// The check of the lines of an allow or deny text.
-fn check_hosts(text: &[u8], order: u8) -> Checked
-    ensures { λ r. ⌜ r ≡ checkedOf (hostsFaultAt order (now (text .entry))) ⌝ }
+// The check of the counts of the tables: cut short is 1, bytes after the last table are 3.
+fn check_frame(tables: &[u8]) -> Checked
+    ensures { λ r. ⌜ r ≡ checkedOf (tablesFrame (now (tables .entry))) ⌝ }
 {
-    match hosts_file::check_file(text, order) {
+    match entry::frame(tables) {
+        Framing::Sound => Checked::Sound,
+        Framing::Cut => Checked::Refused(Tables::refusal(Fault::CutShort, 0)),
+        Framing::Trailing => Checked::Refused(section::placeless(Fault::TrailingBytes)),
+    }
+}
+
+// A pass that looks for nothing, as a check.
+fn checked_by(pass: Pass) -> Checked
+    ensures { λ r. ⌜ r ≡ checkedBy pass ⌝ }
+{
+    match pass {
         Pass::Faulty(refusal) => Checked::Refused(refusal),
         Pass::Unmatched => Checked::Sound,
         Pass::Matched(_) => Checked::Sound,
@@ -60,25 +75,36 @@ fn check_portacl(text: &[u8]) -> Checked
     }
 }
 
-// The check of the lines and entries of the texts; byuid lines are never refused.
-fn check_contents(allow: &[u8], deny: &[u8], portacl: &[u8]) -> Checked
-    ensures { λ r. ⌜ r ≡ checkedOf (contentsFault (now (allow .entry)) (now (deny .entry)) (now (portacl .entry))) ⌝ }
+// The check of the lines and entries of the texts, then of the tables and of what names them; byuid lines are never refused.
+fn check_contents(allow: &[u8], deny: &[u8], portacl: &[u8], tables: &[u8]) -> Checked
+    requires { ⌜ tablesFrame (now tables) ≡ none ⌝ }
+    ensures { λ r. ⌜ r ≡ checkedOf (contentsFault (now (allow .entry)) (now (deny .entry)) (now (portacl .entry)) (now (tables .entry))) ⌝ }
 {
-    match check_hosts(allow, Allow::ORDER) {
+    match checked_by(naming::check_lines(allow, deny)) {
         Checked::Refused(refusal) => Checked::Refused(refusal),
-        Checked::Sound => match check_hosts(deny, Deny::ORDER) {
+        Checked::Sound => match check_portacl(portacl) {
             Checked::Refused(refusal) => Checked::Refused(refusal),
-            Checked::Sound => check_portacl(portacl),
+            Checked::Sound => checked_by(naming::check_naming(allow, deny, tables)),
         },
     }
 }
 
-// The first refusal of four texts, if there is one.
-pub fn check_texts(allow: &[u8], deny: &[u8], byuid: &[u8], portacl: &[u8]) -> Checked
-    ensures { λ r. ⌜ r ≡ checkedOf (textsFault (texts (now (allow .entry)) (now (deny .entry)) (now (byuid .entry)) (now (portacl .entry)))) ⌝ }
+// The first refusal of five texts, if there is one.
+pub fn check_texts(
+    allow: &[u8],
+    deny: &[u8],
+    byuid: &[u8],
+    portacl: &[u8],
+    tables: &[u8],
+) -> Checked
+    ensures { λ r. ⌜ r
+        ≡ checkedOf (textsFault (texts (now (allow .entry)) (now (deny .entry)) (now (byuid .entry)) (now (portacl .entry)) (now (tables .entry)))) ⌝ }
 {
     match check_limits(allow, deny, byuid, portacl) {
         Checked::Refused(refusal) => Checked::Refused(refusal),
-        Checked::Sound => check_contents(allow, deny, portacl),
+        Checked::Sound => match check_frame(tables) {
+            Checked::Refused(refusal) => Checked::Refused(refusal),
+            Checked::Sound => check_contents(allow, deny, portacl, tables),
+        },
     }
 }

@@ -26,6 +26,7 @@ fn check_parts(sheet: &[u8], parts: Parts) -> Checked
         part_of(sheet, parts.deny),
         part_of(sheet, parts.byuid),
         part_of(sheet, parts.portacl),
+        part_of(sheet, parts.tables),
     )
 }
 

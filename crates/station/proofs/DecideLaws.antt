@@ -1,12 +1,12 @@
 -- Laws of the decisions by a sheet, shaped as the calls and tests of the code hand their facts over.
---   sheet-decided == a verdict by the frame and one pass over the texts is the verdict by the sheet
+--   parts-doubtful, parts-answered == a verdict by the frame and one pass over the texts is the verdict by the sheet
 --   command-bytes == the command's bytes in the sheet are those in the file that decided
 -- Assumes nothing.
 use Prim.Native.Nat.{ℕ, _+_, _≤_, _<_}
 use native.Mathlib.Omega.{arith}
 use mathlib.Core.Bool.{Bool, true, false, not}
 use mathlib.Core.List.{List}
-use mathlib.Core.Option.{Option, none, some, Option·getD}
+use mathlib.Core.Option.{Option, none, some}
 use mathlib.Core.Path.{_≡_, refl, sym, ap, subst, _∙_}
 use borrow.Author.Tests.{le-ltb}
 use lib.ListN.{length, take, drop, length-drop}
@@ -18,20 +18,30 @@ use Rattle.section.specs.declared.Refusal.{Refusal}
 use Rattle.section.specs.Refusal.{Outcome, refused, answered, _>>=_, placeless, refusing, _before_}
 use Rattle.section.specs.Section as S
 use Rattle.section.specs.Section.{bytesAt, Section, part, overLimit}
+use Rattle.tables.specs.declared.entry.Framing.{Framing}
+use Rattle.tables.specs.declared.entry.Framing.the-variants as Framing
+use Rattle.tables.specs.Table.{Table, readTables, tablesOf, matchOf}
+use Rattle.tables.specs.Code.{tablesIn, frameOf}
+use Rattle.tables.proofs.TableLaws.{tables-in-of, frame-sound, frame-cut, frame-trailing}
+use Rattle.elements.specs.declared.request.Request.{Request as Places}
 use Rattle.elements.specs.Request.{Request, wellFormed, held}
-use Rattle.elements.proofs.HeldLaws.{held-fits}
-use Rattle.rules.specs.declared.Verdict.the-variants.{Granted}
+use Rattle.elements.specs.Places.{requestAt}
+use Rattle.elements.specs.Code.{heldAt}
+use Rattle.elements.proofs.HeldLaws.{held-at, held-fits}
 use Rattle.rules.specs.declared.File.{File}
 use Rattle.rules.specs.declared.File.the-variants.{Neither, Allow, Deny}
 use Rattle.rules.specs.declared.Answer.{Answer}
 use Rattle.rules.specs.declared.Ruling.{Ruling}
 use Rattle.rules.specs.declared.Ruling.the-variants as Rul
-use Rattle.rules.specs.declared.hosts_file.Pass.{Pass}
-use Rattle.rules.specs.declared.hosts_file.Pass.the-variants as P
-use Rattle.rules.specs.Check.{hostsFault}
-use Rattle.rules.specs.Search.{answer, search, decide, verdictRuling, commandBytes}
-use Rattle.rules.specs.FileCode.{passOf, combined, passBoth, rulingBy}
-use Rattle.rules.proofs.PlaceLaws.{fileLength, search-within, pass-search}
+use Rattle.rules.specs.declared.search.Finding.{Finding}
+use Rattle.rules.specs.declared.search.Finding.the-variants as Finding
+use Rattle.rules.specs.Check.{tablesFault}
+use Rattle.rules.specs.Search.{answer, search, decideOver, verdictRuling, commandBytes}
+use Rattle.rules.specs.FileCode.{refusingRequest}
+use Rattle.rules.specs.Code.{linesFault, findingOf}
+use Rattle.rules.specs.Code.{contentsFault as textsContents}
+use Rattle.rules.proofs.NamingLaws.{orElse-none}
+use Rattle.rules.proofs.PlaceLaws.{fileLength, search-within}
 use Rattle.byuid.specs.declared.Ruling.{Ruling as ByuidRuling}
 use Rattle.byuid.specs.declared.Ruling.the-variants as ByR
 use Rattle.byuid.specs.declared.Mark.the-variants.{Plain}
@@ -50,9 +60,10 @@ use Rattle.sheet.specs.declared.unpack.Unpacked.{Unpacked}
 use Rattle.sheet.specs.declared.unpack.Unpacked.the-variants as Un
 use Rattle.sheet.specs.Sheet.{textsAt, textsFault, frame, unpack, unpackedOf}
 use Rattle.station.specs.Station.{filePlace, inSheet, decideSheet, decideByuidSheet, decidePortaclSheet}
-use Rattle.sheet.specs.Code.{framedOf}
-use Rattle.station.specs.Code.{decidedBy}
+use Rattle.sheet.specs.Code.{framedOf, limitsFault, contentsFault}
+use Rattle.station.specs.Code.{framedFault, refusedBy}
 use Rattle.sheet.proofs.FrameLaws.{SectionAt, frame-answered, refusing-answered, take-drop-take}
+use Rattle.sheet.proofs.TextsLaws.{textsFault-parts}
 use Rattle.sheet.proofs.UnpackLaws.{framed-refused, unpacked-refused, unpacked-parts}
 
 -- ## The port decisions
@@ -78,86 +89,72 @@ module _ (sheet : List ℕ) (x : Unpacked) (is-x : x ≡ unpackedOf (unpack shee
     unfolding decidePortaclSheet
     portacl-decided p e t is-t y is-y = is-y ∙ rw (unpacked-parts (unpack sheet) p (sym is-x ∙ e), is-t)
 
--- ## The ruling by texts
+-- ## What is found by texts
 
 module _ (o : Option Refusal) (c : PortaclChecked) (is-c : c ≡ portaclCheckedOf o) where
-  pub pass-bad-entry : (g : Refusal) → c ≡ PoC.Refused g → P.Faulty g ≡ passOf o none
-  pass-bad-entry g e = by o (sym is-c ∙ e)
+  bad-entry : (g : Refusal) → c ≡ PoC.Refused g → o ≡ some g
+  bad-entry g e = by o (sym is-c ∙ e)
     where
-      by : (o : Option Refusal) → portaclCheckedOf o ≡ PoC.Refused g → P.Faulty g ≡ passOf o none
+      by : (o : Option Refusal) → portaclCheckedOf o ≡ PoC.Refused g → o ≡ some g
       by none k = let z : _≡_ {A = ℕ} 0 1 = cc in absurd (omega arith)
       by (some h) k = cc
 
-  pub pass-entries : c ≡ PoC.Sound → P.Unmatched ≡ passOf o none
-  pass-entries e = by o (sym is-c ∙ e)
+  entries : c ≡ PoC.Sound → o ≡ none
+  entries e = by o (sym is-c ∙ e)
     where
-      by : (o : Option Refusal) → portaclCheckedOf o ≡ PoC.Sound → P.Unmatched ≡ passOf o none
+      by : (o : Option Refusal) → portaclCheckedOf o ≡ PoC.Sound → o ≡ none
       by none k = refl
       by (some h) k = let z : _≡_ {A = ℕ} 0 1 = cc in absurd (omega arith)
+
+finds-doubt : (x y : Option Refusal) (g : Refusal) (b : Answer) → Finding.Doubtful ≡ findingOf (x orElse some g orElse y) b
+finds-doubt none y g b = refl
+finds-doubt (some f) y g b = refl
+
+module _ (a d po t : List ℕ) (b : Answer) (c : PortaclChecked) (is-c : c ≡ portaclCheckedOf (portaclFault po)) where
+  pub find-entry : (g : Refusal) → c ≡ PoC.Refused g → Finding.Doubtful ≡ findingOf (contentsFault a d po t) b
+  unfolding contentsFault
+  find-entry g e = rw (bad-entry (portaclFault po) c is-c g e) (finds-doubt (linesFault a d) (tablesFault a d t) g b)
+
+  pub find-entries : c ≡ PoC.Sound → (f : Finding) → f ≡ findingOf (textsContents a d t) b → f ≡ findingOf (contentsFault a d po t) b
+  unfolding contentsFault textsContents
+  find-entries e f is-f = is-f ∙ sym (rw (entries (portaclFault po) c is-c e) (ap (λ (o : Option Refusal). findingOf (o orElse tablesFault a d t) b)
+      (orElse-none (linesFault a d))))
+
+pub find-whole : (t : List ℕ) (x : Framing) → x ≡ frameOf (readTables t) → x ≡ Framing.Sound → tablesIn t ≡ tablesOf t
+find-whole t x is-x e = tables-in-of t (sym is-x ∙ e)
+
+module _ (a d po t : List ℕ) (b : Answer) (x : Framing) (is-x : x ≡ frameOf (readTables t)) where
+  pub find-cut : x ≡ Framing.Cut → Finding.Doubtful ≡ findingOf (framedFault a d po t) b
+  unfolding framedFault
+  find-cut e = rw (frame-cut t x is-x e)
+
+  pub find-trailing : x ≡ Framing.Trailing → Finding.Doubtful ≡ findingOf (framedFault a d po t) b
+  unfolding framedFault
+  find-trailing e = rw (frame-trailing t x is-x e)
+
+  pub find-sound : x ≡ Framing.Sound → (f : Finding) → f ≡ findingOf (contentsFault a d po t) b → f ≡ findingOf (framedFault a d po t) b
+  unfolding framedFault
+  find-sound e f is-f = is-f ∙ sym (rw (frame-sound t x is-x e))
+
+pub find-parts : (sheet : List ℕ) (p : Parts) (a d po t : List ℕ) → a ≡ bytesAt sheet (p .allow) → d ≡ bytesAt sheet (p .deny)
+    → po ≡ bytesAt sheet (p .portacl) → t ≡ bytesAt sheet (p .tables) → (r : Request) (f : Finding)
+    → f ≡ findingOf (framedFault a d po t) (search (matchOf (tablesOf t)) a d r)
+    → f ≡ findingOf (framedFault (bytesAt sheet (p .allow)) (bytesAt sheet (p .deny)) (bytesAt sheet (p .portacl)) (bytesAt sheet (p .tables)))
+    (search (matchOf (tablesOf (bytesAt sheet (p .tables)))) (bytesAt sheet (p .allow)) (bytesAt sheet (p .deny)) r)
+find-parts sheet p a d po t is-a is-d is-po is-t r f is-f = is-f ∙ rw (is-a, is-d, is-po, is-t)
 
 pub placed-in-sheet : (p : Parts) (a : Answer) (n : ℕ) → n ≡ filePlace p (a .file)
     → answer (a .verdict) (a .file) (a .line) (part (n + a .command .place) (a .command .len)) ≡ inSheet p a
 placed-in-sheet p a n is-n = rw is-n
 
-pub ruling-by-texts : (a d t : List ℕ) (r : Request) (p : Pass) → p ≡ passBoth r a d → (q : Pass) → q ≡ passOf (portaclFault t) none
-    → (s : Pass) → s ≡ combined p q → (b : Bool) → b ≡ wellFormed r → (x : Ruling) → x ≡ rulingBy s b → x ≡ decidedBy a d t r
-unfolding decidedBy
-ruling-by-texts a d t r p is-p q is-q s is-s b is-b x is-x = is-x ∙ rw (is-s, is-p, is-q, is-b)
+module _ (sheet : List ℕ) (x : Unpacked) (is-x : x ≡ unpackedOf (unpack sheet)) where
+  pub refuse-refused : (g : Refusal) → x ≡ Un.Refused g → Rul.Refused g ≡ refusedBy (unpack sheet)
+  refuse-refused g e = rw (unpacked-refused (unpack sheet) g (sym is-x ∙ e))
 
-pub ruling-by-parts : (sheet : List ℕ) (p : Parts) (a d t : List ℕ) → a ≡ bytesAt sheet (p .allow) → d ≡ bytesAt sheet (p .deny) → t
-    ≡ bytesAt sheet (p .portacl)
-    → (r : Request) (x : Ruling) → x ≡ decidedBy a d t r → x ≡ decidedBy (bytesAt sheet (p .allow)) (bytesAt sheet (p .deny)) (bytesAt sheet (p .portacl)) r
-ruling-by-parts sheet p a d t is-a is-d is-t r x is-x = is-x ∙ rw (is-a, is-d, is-t)
+  pub refuse-parts : (p : Parts) → x ≡ Un.Parts p → (g : Refusal) → g ≡ placeless F.BadRequest → Rul.Refused g ≡ refusedBy (unpack sheet)
+  refuse-parts p e g is-g = rw (unpacked-parts (unpack sheet) p (sym is-x ∙ e), is-g)
 
 -- ## The verdict
-
-abbrev placed : Parts → Ruling → Ruling
-placed p (Rul.Refused g) = Rul.Refused g
-placed p (Rul.Answered a) = Rul.Answered (inSheet p a)
-
-abbrev noRule : Answer
-noRule = answer Granted Neither 0 (part 0 0)
-
-abbrev orRefused : Option Refusal → Outcome Answer → Outcome Answer
-orRefused none o = o
-orRefused (some g) o = refused g
-
-bind-refusing : (o : Option Refusal) (p : Parts) (f : Parts → Outcome Answer) → (refusing o p >>= f) ≡ orRefused o (f p)
-bind-refusing none p f = refl
-bind-refusing (some g) p f = refl
-
--- the checks of both texts, then of the entries, then of the request: o, u and q are the texts' refusals, x is what is found
-placed-ruling : (p : Parts) (o u q : Option Refusal) (x : Option Answer) (b : Bool)
-    → placed p (rulingBy (combined (passOf (o orElse u) x) (passOf q none)) b)
-    ≡ verdictRuling
-    (orRefused (o orElse u orElse q)
-    (((o orElse u) before (if b then answered (Option·getD x noRule) else refused (placeless F.BadRequest))) >>= λ a. answered (inSheet p a)))
-placed-ruling p (some g) u q x b = refl
-placed-ruling p none (some g) q x b = refl
-placed-ruling p none none (some g) none b = refl
-placed-ruling p none none (some g) (some a) b = refl
-placed-ruling p none none none none true = refl
-placed-ruling p none none none none false = refl
-placed-ruling p none none none (some a) true = refl
-placed-ruling p none none none (some a) false = refl
-
--- a ruling that answers answers what is found
-ruling-found : (o u q : Option Refusal) (x : Option Answer) (b : Bool) (a : Answer)
-    → rulingBy (combined (passOf (o orElse u) x) (passOf q none)) b ≡ Rul.Answered a → Option·getD x noRule ≡ a
-ruling-found (some g) u q x b a e = let z : _≡_ {A = ℕ} 0 1 = cc in absurd (omega arith)
-ruling-found none (some g) q x b a e = let z : _≡_ {A = ℕ} 0 1 = cc in absurd (omega arith)
-ruling-found none none (some g) none b a e = let z : _≡_ {A = ℕ} 0 1 = cc in absurd (omega arith)
-ruling-found none none (some g) (some c) b a e = let z : _≡_ {A = ℕ} 0 1 = cc in absurd (omega arith)
-ruling-found none none none none true a e = cc
-ruling-found none none none none false a e = let z : _≡_ {A = ℕ} 0 1 = cc in absurd (omega arith)
-ruling-found none none none (some c) true a e = cc
-ruling-found none none none (some c) false a e = let z : _≡_ {A = ℕ} 0 1 = cc in absurd (omega arith)
-
-decided-search : (a d t : List ℕ) (r : Request) (x : Answer) → decidedBy a d t r ≡ Rul.Answered x → search a d r ≡ x
-unfolding decidedBy
-decided-search a d t r x e =
-    let s = pass-search a d r in
-    s .2 ∙ ruling-found (hostsFault S.allow a) (hostsFault S.deny d) (portaclFault t) (s .0) (wellFormed r) x (rw (s .1) at e)
 
 module _ {s : Section} {at : ℕ} {sheet : List ℕ} {q : Part} (f : SectionAt s at sheet q) where
   length-text : length (bytesAt sheet q) ≡ q .len
@@ -170,75 +167,98 @@ module _ {s : Section} {at : ℕ} {sheet : List ℕ} {q : Part} (f : SectionAt s
 in-part : (sheet : List ℕ) (p q : Part) → q .place + q .len ≤ p .len → bytesAt (bytesAt sheet p) q ≡ bytesAt sheet (part (p .place + q .place) (q .len))
 in-part sheet p q h = take-drop-take (q .len) (q .place) (p .len) (drop (p .place) sheet) h ∙ ap (take (q .len)) (drop-drop (q .place) (p .place) sheet)
 
-module _ (sheet : List ℕ) (p : Parts) (framed : frame sheet ≡ answered p) (r : Request) where
-  by-frame : decideSheet sheet (some r)
-      ≡ orRefused (textsFault (textsAt sheet p)) (decide (bytesAt sheet (p .allow)) (bytesAt sheet (p .deny)) (some r) >>= λ a. answered (inSheet p a))
-  unfolding decideSheet unpack
-  by-frame =
-      rw framed
-      (bind-refusing (textsFault (textsAt sheet p)) p
-      (λ p. decide (bytesAt sheet (p .allow)) (bytesAt sheet (p .deny)) (some r) >>= λ a. answered (inSheet p a)))
+module _ (sheet : List ℕ) (p : Parts) (framed : frame sheet ≡ answered p) where
+  abbrev a : List ℕ
+  a = bytesAt sheet (p .allow)
 
-  pub sheet-decided : verdictRuling (decideSheet sheet (some r))
-      ≡ placed p (decidedBy (bytesAt sheet (p .allow)) (bytesAt sheet (p .deny)) (bytesAt sheet (p .portacl)) (held r))
-  unfolding textsFault decide decidedBy
-  sheet-decided =
+  abbrev d : List ℕ
+  d = bytesAt sheet (p .deny)
+
+  abbrev po : List ℕ
+  po = bytesAt sheet (p .portacl)
+
+  abbrev t : List ℕ
+  t = bytesAt sheet (p .tables)
+
+  fault-framed : textsFault (textsAt sheet p) ≡ framedFault a d po t
+  unfolding framedFault limitsFault
+  fault-framed =
       let f = frame-answered sheet p framed in
-      let s = pass-search (bytesAt sheet (p .allow)) (bytesAt sheet (p .deny)) (held r) in
-      sym
-      (ap (λ (q : Pass). placed p (rulingBy (combined q (passOf (portaclFault (bytesAt sheet (p .portacl))) none)) (wellFormed (held r)))) (s .1)
-      ∙ placed-ruling p (hostsFault S.allow (bytesAt sheet (p .allow))) (hostsFault S.deny (bytesAt sheet (p .deny)))
-      (portaclFault (bytesAt sheet (p .portacl))) (s .0) (wellFormed (held r))
-      ∙ rw (held-fits r, by-frame, within-limit (f .allow), within-limit (f .deny), within-limit (f .byuid), within-limit (f .portacl), ← (s .2)))
+      textsFault-parts a d (bytesAt sheet (p .byuid)) po t
+      ∙ rw (within-limit (f .allow), within-limit (f .deny), within-limit (f .byuid), within-limit (f .portacl))
 
-  module _ (h : Request) (is-h : h ≡ held r) (x : Ruling)
-      (is-x : x ≡ decidedBy (bytesAt sheet (p .allow)) (bytesAt sheet (p .deny)) (bytesAt sheet (p .portacl)) h) where
-    is-placed : placed p x ≡ verdictRuling (decideSheet sheet (some r))
-    is-placed = rw (is-x, is-h) (sym sheet-decided)
+  unpack-framed : unpack sheet ≡ refusing (framedFault a d po t) p
+  unfolding unpack
+  unpack-framed = rw (framed, fault-framed)
 
-    pub parts-refused : (g : Refusal) → x ≡ Rul.Refused g → Rul.Refused g ≡ verdictRuling (decideSheet sheet (some r))
-    parts-refused g e = rw e at is-placed
+  module _ (names : List ℕ) (q h : Places) (is-h : h ≡ heldAt q) where
+    abbrev found : Answer
+    found = search (matchOf (tablesOf t)) a d (requestAt names h)
 
-    pub parts-answered : (b : Answer) → x ≡ Rul.Answered b → (c : Answer) → c ≡ inSheet p b → Rul.Answered c ≡ verdictRuling (decideSheet sheet (some r))
-    parts-answered b e c is-c = rw is-c (rw e at is-placed)
+    module _ (f : Finding) (is-f : f ≡ findingOf (framedFault a d po t) found) where
+      pub parts-doubtful : f ≡ Finding.Doubtful → (x : Ruling) → x ≡ refusedBy (unpack sheet)
+          → x ≡ verdictRuling (decideSheet sheet (some (requestAt names q)))
+      unfolding decideSheet
+      parts-doubtful e x is-x = is-x ∙ rw unpack-framed (by (framedFault a d po t) (sym is-f ∙ e))
+        where
+          by : (o : Option Refusal) → findingOf o found ≡ Finding.Doubtful
+              → refusedBy (refusing o p)
+              ≡ verdictRuling (refusing o p >>= λ p. decideOver (tablesOf (bytesAt sheet (p .tables))) (bytesAt sheet (p .allow)) (bytesAt sheet (p .deny))
+              (some (requestAt names q)) >>= λ a. answered (inSheet p a))
+          by none k = let z : _≡_ {A = ℕ} 0 1 = cc in absurd (omega arith)
+          by (some g) k = refl
 
-  module _ (x : Ruling) (is-x : x ≡ decidedBy (bytesAt sheet (p .allow)) (bytesAt sheet (p .deny)) (bytesAt sheet (p .portacl)) r)
-      (b : Answer) (e : x ≡ Rul.Answered b) where
-    command-place : filePlace p (b .file) + b .command .place ≤ length sheet
-    command-place =
-        let found = decided-search (bytesAt sheet (p .allow)) (bytesAt sheet (p .deny)) (bytesAt sheet (p .portacl)) r b (sym is-x ∙ e) in
-        by (b .file)
-        (subst (λ (x : Answer). x .command .place + x .command .len ≤ fileLength (bytesAt sheet (p .allow)) (bytesAt sheet (p .deny)) (x .file)) found
-        (search-within (bytesAt sheet (p .allow)) (bytesAt sheet (p .deny)) r))
-      where
-        by : (f : File) → b .command .place + b .command .len ≤ fileLength (bytesAt sheet (p .allow)) (bytesAt sheet (p .deny)) f
-            → filePlace p f + b .command .place ≤ length sheet
-        by Neither w = omega arith
-        by Allow w = let f = frame-answered sheet p framed in omega (arith, length-text (f .allow), f .allow .place, f .allow .within)
-        by Deny w = let f = frame-answered sheet p framed in omega (arith, length-text (f .deny), f .deny .place, f .deny .within)
+      module _ (b : Answer) (e : f ≡ Finding.Answer b) where
+        answer-found : (framedFault a d po t ≡ none) × (found ≡ b)
+        answer-found = by (framedFault a d po t) (sym is-f ∙ e)
+          where
+            by : (o : Option Refusal) → findingOf o found ≡ Finding.Answer b → (o ≡ none) × (found ≡ b)
+            by none k = (refl, cc)
+            by (some g) k = let z : _≡_ {A = ℕ} 0 1 = cc in absurd (omega arith)
 
-    pub command-fits : (m : ℕ) → length sheet < m → filePlace p (b .file) + b .command .place < m
-    command-fits m h = omega (arith, command-place)
+        pub parts-answered : (c : Answer) → c ≡ inSheet p b → (s : Bool) → s ≡ wellFormed (requestAt names h)
+            → (x : Ruling) → x ≡ refusingRequest s c → x ≡ verdictRuling (decideSheet sheet (some (requestAt names q)))
+        unfolding decideSheet
+        parts-answered c is-c s is-s x is-x =
+            is-x ∙ rw (is-s, is-c, unpack-framed, answer-found .0, ← (answer-found .1), held-at names q h is-h, held-fits (requestAt names q))
+            (by (wellFormed (requestAt names q)))
+          where
+            by : (y : Bool) → refusingRequest y (inSheet p (search (matchOf (tablesOf t)) a d (held (requestAt names q))))
+                ≡ verdictRuling ((if y then answered (search (matchOf (tablesOf t)) a d (held (requestAt names q))) else refused (placeless F.BadRequest))
+                >>= λ a. answered (inSheet p a))
+            by true = refl
+            by false = refl
 
-pub answered-search : (a d : List ℕ) (r : Request) (b : Answer) → decide a d (some r) ≡ answered b → search a d (held r) ≡ b
-unfolding decide
-answered-search a d r b e =
-    by (overLimit S.allow a orElse overLimit S.deny d orElse hostsFault S.allow a orElse hostsFault S.deny d) (wellFormed r) e
+        command-place : filePlace p (b .file) + b .command .place ≤ length sheet
+        command-place =
+            by (b .file)
+            (subst (λ (x : Answer). x .command .place + x .command .len ≤ fileLength a d (x .file)) (answer-found .1)
+            (search-within (matchOf (tablesOf t)) a d (requestAt names h)))
+          where
+            by : (f : File) → b .command .place + b .command .len ≤ fileLength a d f → filePlace p f + b .command .place ≤ length sheet
+            by Neither w = omega arith
+            by Allow w = let f = frame-answered sheet p framed in omega (arith, length-text (f .allow), f .allow .place, f .allow .within)
+            by Deny w = let f = frame-answered sheet p framed in omega (arith, length-text (f .deny), f .deny .place, f .deny .within)
+
+        pub command-fits : (m : ℕ) → length sheet < m → filePlace p (b .file) + b .command .place < m
+        command-fits m l = omega (arith, command-place)
+
+pub over-search : (ts : List Table) (a d : List ℕ) (r : Request) (b : Answer) → decideOver ts a d (some r) ≡ answered b → search (matchOf ts) a d (held r) ≡ b
+over-search ts a d r b e = by (wellFormed r) e
   where
-    by : (o : Option Refusal) (c : Bool) → (o before (if c then answered (search a d (held r)) else refused (placeless F.BadRequest))) ≡ answered b
-        → search a d (held r) ≡ b
-    by (some g) c k = let z : _≡_ {A = ℕ} 0 1 = cc in absurd (omega arith)
-    by none false k = let z : _≡_ {A = ℕ} 0 1 = cc in absurd (omega arith)
-    by none true k = cc
+    by : (c : Bool) → (if c then answered (search (matchOf ts) a d (held r)) else refused (placeless F.BadRequest)) ≡ answered b
+        → search (matchOf ts) a d (held r) ≡ b
+    by false k = let z : _≡_ {A = ℕ} 0 1 = cc in absurd (omega arith)
+    by true k = cc
 
 -- the command's bytes in the sheet are those in the file that decided
 pub command-bytes : (sheet : List ℕ) (p : Parts) → frame sheet ≡ answered p → (r : Request) (b : Answer)
-    → decide (bytesAt sheet (p .allow)) (bytesAt sheet (p .deny)) (some r) ≡ answered b
+    → (ts : List Table) → decideOver ts (bytesAt sheet (p .allow)) (bytesAt sheet (p .deny)) (some r) ≡ answered b
     → bytesAt sheet (inSheet p b .command) ≡ commandBytes (bytesAt sheet (p .allow)) (bytesAt sheet (p .deny)) b
-command-bytes sheet p framed r b e =
+command-bytes sheet p framed r b ts e =
     by (b .file)
     (subst (λ (x : Answer). x .command .place + x .command .len ≤ fileLength (bytesAt sheet (p .allow)) (bytesAt sheet (p .deny)) (x .file))
-    (answered-search (bytesAt sheet (p .allow)) (bytesAt sheet (p .deny)) r b e) (search-within (bytesAt sheet (p .allow)) (bytesAt sheet (p .deny)) (held r)))
+    (over-search ts (bytesAt sheet (p .allow)) (bytesAt sheet (p .deny)) r b e) (search-within (matchOf ts) (bytesAt sheet (p .allow)) (bytesAt sheet (p .deny)) (held r)))
   where
     by : (f : File) → b .command .place + b .command .len ≤ fileLength (bytesAt sheet (p .allow)) (bytesAt sheet (p .deny)) f
         → take (b .command .len) (drop (filePlace p f + b .command .place) sheet)

@@ -1,13 +1,23 @@
--- What the contracts of inner functions cite. Nothing here needs to be believed for the meaning of document 01.
---   decidedBy allow deny portacl r == the ruling by texts that are within their limits, the command not yet placed in the sheet
+-- What the contracts of inner functions cite. Nothing here needs to be believed for the meaning of the papers.
+--   refusedBy o == the refusal of a sheet that is unpacked as o
+--   framedFault allow deny portacl t == the refusal of texts that are within their limits, from the frame of the tables on
 -- Assumes nothing: these are definitions.
 use Prim.Native.Nat.{ℕ}
 use mathlib.Core.List.{List}
-use mathlib.Core.Option.{none}
-use Rattle.elements.specs.Request.{Request, wellFormed}
+use mathlib.Core.Option.{Option}
+use Rattle.text.specs.Basics.{_orElse_}
+use Rattle.section.specs.declared.Fault.the-variants as F
+use Rattle.section.specs.declared.Refusal.{Refusal}
+use Rattle.section.specs.Refusal.{Outcome, refused, answered, placeless}
+use Rattle.tables.specs.Table.{tablesFrame}
 use Rattle.rules.specs.declared.Ruling.{Ruling}
-use Rattle.rules.specs.FileCode.{passOf, combined, passBoth, rulingBy}
-use Rattle.portacl.specs.Portacl.{portaclFault}
+use Rattle.rules.specs.declared.Ruling.the-variants as R
+use Rattle.sheet.specs.declared.Parts.{Parts}
+use Rattle.sheet.specs.Code.{contentsFault}
 
-unfoldable pub decidedBy : List ℕ → List ℕ → List ℕ → Request → Ruling
-decidedBy allow deny portacl r = rulingBy (combined (passBoth r allow deny) (passOf (portaclFault portacl) none)) (wellFormed r)
+unfoldable pub framedFault : List ℕ → List ℕ → List ℕ → List ℕ → Option Refusal
+framedFault allow deny portacl t = tablesFrame t orElse contentsFault allow deny portacl t
+
+abbrev pub refusedBy : Outcome Parts → Ruling
+refusedBy (refused g) = R.Refused g
+refusedBy (answered p) = R.Refused (placeless F.BadRequest)

@@ -10,7 +10,8 @@ use Rattle.elements.specs.Request.{Request}
 use Rattle.rules.specs.declared.Answer.{Answer}
 use Rattle.rules.specs.declared.File.{File}
 use Rattle.rules.specs.declared.File.the-variants.{Neither, Allow, Deny}
-use Rattle.rules.specs.Search.{answer, decide}
+use Rattle.tables.specs.Table.{tablesOf}
+use Rattle.rules.specs.Search.{answer, decideOver}
 use Rattle.byuid.specs.declared.Decision.{Decision as ByuidDecision}
 use Rattle.byuid.specs.declared.Mark.the-variants.{Plain}
 use Rattle.byuid.specs.Byuid.{Bind as ByuidBind, fromFile, decideByuid}
@@ -33,7 +34,7 @@ inSheet p a = answer (a .verdict) (a .file) (a .line) (part (filePlace p (a .fil
 unfoldable pub decideSheet : List ℕ → Option Request → Outcome Answer
 decideSheet sheet o = do
   p ← unpack sheet
-  a ← decide (bytesAt sheet (p .allow)) (bytesAt sheet (p .deny)) o
+  a ← decideOver (tablesOf (bytesAt sheet (p .tables))) (bytesAt sheet (p .allow)) (bytesAt sheet (p .deny)) o
   answered (inSheet p a)
 
 -- document 02, request 3: "The sheet's byuid section is the plain file."

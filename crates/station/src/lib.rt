@@ -2,26 +2,31 @@
 //   decide(sheet, ..)         == the verdict on a request
 //   decide_byuid(sheet, ..), decide_portacl(sheet, ..) == the port decisions
 //   command(sheet, answer)    == the bytes of the answer's raw command
-// For a verdict the frame is read, then allow and deny are checked and searched in one pass.
+// For a verdict the frame is read, then all is checked and searched in one pass; where there is a doubt, the sheet is unpacked for its refusal.
 ghost use mathlib.Core.Path.{_≡_};
-ghost use mathlib.Core.Option.{none, some};
+ghost use mathlib.Core.Option.{some};
 ghost use Prim.Native.Nat.{_+_, _<_};
 ghost use Rattle.section.specs.Refusal.{answered};
 ghost use Rattle.section.specs.Section.{bytesAt};
 ghost use Rattle.elements.specs.Places.{requestAt};
-ghost use Rattle.rules.specs.Search.{verdictRuling};
-ghost use Rattle.rules.specs.FileCode.{passOf};
+ghost use Rattle.tables.specs.Table.{tablesOf, matchOf};
+ghost use Rattle.tables.specs.Code.{tablesIn};
+ghost use Rattle.rules.specs.Search.{search as searchBy, verdictRuling};
+ghost use Rattle.rules.specs.Code.{findingOf};
 ghost use Rattle.byuid.specs.Byuid.{bind as byuidBind, byuidRuling};
-ghost use Rattle.portacl.specs.Portacl.{bind as portaclBind, portaclFault, portaclRuling};
-ghost use Rattle.sheet.specs.Sheet.{frame as frameOf};
+ghost use Rattle.portacl.specs.Portacl.{bind as portaclBind, portaclRuling};
+ghost use Rattle.sheet.specs.Sheet.{frame as frameOf, unpack as unpackOf};
+ghost use Rattle.sheet.specs.Code.{contentsFault};
 ghost use Rattle.station.specs.Station.{filePlace, inSheet, decideSheet, decideByuidSheet, decidePortaclSheet};
-ghost use Rattle.station.specs.Code.{decidedBy};
+ghost use Rattle.station.specs.Code.{framedFault, refusedBy};
 use address::Addr;
 use elements::request::Request;
 use rules::Answer;
 use rules::File;
 use rules::Ruling;
-use rules::hosts_file::Pass;
+use rules::search::Finding;
+use rules::search::find;
+use section::Fault;
 use section::Part;
 use section::part_of;
 use sheet::Parts;
@@ -29,34 +34,48 @@ use sheet::frame;
 use sheet::frame::Framed;
 use sheet::unpack;
 use sheet::unpack::Unpacked;
+use tables::entry::Framing;
 
-// The check of the entries of a portacl text, as a pass that finds nothing.
-fn pass_portacl(text: &[u8]) -> Pass
-    ensures { λ r. ⌜ r ≡ passOf (portaclFault (now (text .entry))) none ⌝ }
-{
-    match portacl::check(text) {
-        portacl::Checked::Refused(refusal) => Pass::Faulty(refusal),
-        portacl::Checked::Sound => Pass::Unmatched,
-    }
-}
-
-// The ruling by texts that are within their limits: allow, deny, portacl, then the request.
-fn rule_by_texts(
+// The answer by texts whose tables are soundly framed; a bad entry of portacl is a doubt too.
+fn find_framed(
     allow: &[u8],
     deny: &[u8],
     portacl: &[u8],
+    tables: &[u8],
     names: &[u8],
     request: Request,
-) -> Ruling
+) -> Finding
+    requires { ⌜ tablesIn (now tables) ≡ tablesOf (now tables) ⌝ }
     ensures { λ r.
         ⌜ r
-        ≡ decidedBy (now (allow .entry)) (now (deny .entry)) (now (portacl .entry))
-        (requestAt (now (names .entry)) request) ⌝ }
+        ≡ findingOf (contentsFault (now (allow .entry)) (now (deny .entry)) (now (portacl .entry)) (now (tables .entry)))
+        (searchBy (matchOf (tablesOf (now (tables .entry)))) (now (allow .entry)) (now (deny .entry)) (requestAt (now (names .entry)) request)) ⌝ }
 {
-    let hosts = rules::pass_both(allow, deny, names, request);
-    let pass = rules::combine(hosts, pass_portacl(portacl));
-    let sound = elements::request::fits(names, request);
-    rules::ruling_by(pass, sound)
+    match portacl::check(portacl) {
+        portacl::Checked::Refused(_) => Finding::Doubtful,
+        portacl::Checked::Sound => find(allow, deny, tables, names, request),
+    }
+}
+
+// The answer by texts that are within their limits; a section five that is cut short or too long is a doubt too.
+fn find_in_texts(
+    allow: &[u8],
+    deny: &[u8],
+    portacl: &[u8],
+    tables: &[u8],
+    names: &[u8],
+    request: Request,
+) -> Finding
+    ensures { λ r.
+        ⌜ r
+        ≡ findingOf (framedFault (now (allow .entry)) (now (deny .entry)) (now (portacl .entry)) (now (tables .entry)))
+        (searchBy (matchOf (tablesOf (now (tables .entry)))) (now (allow .entry)) (now (deny .entry)) (requestAt (now (names .entry)) request)) ⌝ }
+{
+    match tables::entry::frame(tables) {
+        Framing::Cut => Finding::Doubtful,
+        Framing::Trailing => Finding::Doubtful,
+        Framing::Sound => find_framed(allow, deny, portacl, tables, names, request),
+    }
 }
 
 // Where the deciding file stands.
@@ -89,20 +108,34 @@ fn in_sheet(parts: Parts, answer: Answer) -> Answer
     }
 }
 
-// The ruling by the texts that stand in a sheet.
-fn rule_by_parts(sheet: &[u8], parts: Parts, names: &[u8], request: Request) -> Ruling
+// The answer by the texts that stand in a sheet.
+fn find_in_parts(sheet: &[u8], parts: Parts, names: &[u8], request: Request) -> Finding
     ensures { λ r.
         ⌜ r
-        ≡ decidedBy (bytesAt (now (sheet .entry)) (parts .allow)) (bytesAt (now (sheet .entry)) (parts .deny)) (bytesAt (now (sheet .entry)) (parts .portacl))
-        (requestAt (now (names .entry)) request) ⌝ }
+        ≡ findingOf
+        (framedFault (bytesAt (now (sheet .entry)) (parts .allow)) (bytesAt (now (sheet .entry)) (parts .deny)) (bytesAt (now (sheet .entry)) (parts .portacl))
+        (bytesAt (now (sheet .entry)) (parts .tables)))
+        (searchBy (matchOf (tablesOf (bytesAt (now (sheet .entry)) (parts .tables)))) (bytesAt (now (sheet .entry)) (parts .allow))
+        (bytesAt (now (sheet .entry)) (parts .deny)) (requestAt (now (names .entry)) request)) ⌝ }
 {
-    rule_by_texts(
+    find_in_texts(
         part_of(sheet, parts.allow),
         part_of(sheet, parts.deny),
         part_of(sheet, parts.portacl),
+        part_of(sheet, parts.tables),
         names,
         request,
     )
+}
+
+// The refusal of a sheet in which there is a doubt.
+fn refuse(sheet: &[u8]) -> Ruling
+    ensures { λ r. ⌜ r ≡ refusedBy (unpackOf (now (sheet .entry))) ⌝ }
+{
+    match unpack::unpack(sheet) {
+        Unpacked::Refused(refusal) => Ruling::Refused(refusal),
+        Unpacked::Parts(_) => Ruling::Refused(section::placeless(Fault::BadRequest)),
+    }
 }
 
 // The verdict by the parts of a sheet.
@@ -114,11 +147,13 @@ fn decide_by_parts(sheet: &[u8], parts: Parts, names: &[u8], request: Request) -
         (decideSheet (now (sheet .entry))
         (some (requestAt (now (names .entry)) request))) ⌝ }
 {
-    let held = elements::request::held(request);
-    let ruling = rule_by_parts(sheet, parts, names, held);
-    match ruling {
-        Ruling::Refused(refusal) => Ruling::Refused(refusal),
-        Ruling::Answered(answer) => Ruling::Answered(in_sheet(parts, answer)),
+    let holding = elements::request::held(request);
+    match find_in_parts(sheet, parts, names, holding) {
+        Finding::Doubtful => refuse(sheet),
+        Finding::Answer(answer) => {
+            let sound = elements::request::fits(names, holding);
+            rules::answered(in_sheet(parts, answer), sound)
+        }
     }
 }
 

@@ -130,6 +130,35 @@ fn verdict(case: &[u8]) {
     ruling(a, allow);
 }
 
+fn tables_verdict(case: &[u8]) {
+    let r = read_request(case);
+    let allow = cases::field(case, 7);
+    let deny = cases::field(case, 8);
+    let a = gate::gate_tables_verdict(
+        allow,
+        deny,
+        cases::field(case, 9),
+        cases::field(case, 1),
+        r.client_state,
+        r.client_kind,
+        r.client_high,
+        r.client_low,
+        cases::name(case, 2),
+        r.server_state,
+        r.server_kind,
+        r.server_high,
+        r.server_low,
+        cases::name(case, 4),
+        r.user,
+        cases::name(case, 6),
+    );
+    if a.file == 2 {
+        ruling(a, deny);
+        return;
+    }
+    ruling(a, allow);
+}
+
 fn sheet_verdict(case: &[u8]) {
     let r = read_request(case);
     let sheet = cases::field(case, 7);
@@ -258,6 +287,7 @@ fn unpack(case: &[u8]) {
     text_at(report::DENY_AT, p.deny_place, p.deny_len);
     text_at(report::BYUID_AT, p.byuid_place, p.byuid_len);
     text_at(report::PORTACL_AT, p.portacl_place, p.portacl_len);
+    text_at(report::TABLES_AT, p.tables_place, p.tables_len);
 }
 
 // ## The calls that write
@@ -267,12 +297,14 @@ fn pack(case: &[u8], out: &mut [u8]) {
     let deny = cases::field(case, 3);
     let byuid = cases::field(case, 4);
     let portacl = cases::field(case, 5);
+    let tables = cases::field(case, 6);
     let w = gate::gate_pack(
         cases::room(out, cases::number(case, 1)),
         allow,
         deny,
         byuid,
         portacl,
+        tables,
     );
     untouched(out, w.count);
     packed(
@@ -280,7 +312,20 @@ fn pack(case: &[u8], out: &mut [u8]) {
         w.section,
         w.line,
         part(out, 0, w.count),
-        cases::field(case, 6),
+        cases::field(case, 7),
+    );
+}
+
+fn upgrade(case: &[u8], out: &mut [u8]) {
+    let sheet = cases::field(case, 2);
+    let w = gate::gate_upgrade(cases::room(out, cases::number(case, 1)), sheet);
+    untouched(out, w.count);
+    packed(
+        w.number,
+        w.section,
+        w.line,
+        part(out, 0, w.count),
+        cases::field(case, 3),
     );
 }
 
@@ -351,9 +396,10 @@ fn write_address(case: &[u8], out: &mut [u8]) {
 
 fn write(call: usize, case: &[u8], out: &mut [u8]) {
     match call {
-        8 => pack(case, out),
-        9 => expand(case, out),
-        10 => read_address(case, out),
+        9 => pack(case, out),
+        10 => upgrade(case, out),
+        11 => expand(case, out),
+        12 => read_address(case, out),
         _ => write_address(case, out),
     }
 }
@@ -364,13 +410,14 @@ fn write(call: usize, case: &[u8], out: &mut [u8]) {
 fn answer(call: usize, case: &[u8]) {
     match call {
         0 => verdict(case),
-        1 => sheet_verdict(case),
-        2 => byuid(case),
-        3 => sheet_byuid(case),
-        4 => portacl(case),
-        5 => sheet_portacl(case),
-        6 => check(case),
-        7 => unpack(case),
+        1 => tables_verdict(case),
+        2 => sheet_verdict(case),
+        3 => byuid(case),
+        4 => sheet_byuid(case),
+        5 => portacl(case),
+        6 => sheet_portacl(case),
+        7 => check(case),
+        8 => unpack(case),
         _ => lend(call, case),
     }
 }
@@ -389,15 +436,15 @@ fn malformed(line: &[u8]) {
 // The place of a case's call. A call is written as its name, a colon and the kinds of its fields: t a text, n a number, . no more.
 fn call(case: &[u8]) -> usize {
     cases::call(
-        b"verdict:tttttttt. sheet_verdict:ttttttt. byuid:ntnnt. sheet_byuid:ntnt. portacl:nnnnnnntn sheet_portacl:nnnnnnntn \
-          check:t. unpack:t. pack:nttttt. expand:ttttttnnt. read_address:t. write_address:nt.",
+        b"verdict:tttttttt. tables_verdict:ttttttttt. sheet_verdict:ttttttt. byuid:ntnnt. sheet_byuid:ntnt. portacl:nnnnnnntn \
+          sheet_portacl:nnnnnnntn check:t. unpack:t. pack:ntttttt. upgrade:ntt. expand:ttttttnnt. read_address:t. write_address:nt.",
         case,
     )
 }
 
 fn run_case(line: &[u8], case: &[u8]) {
     let place = call(case);
-    if 11 < place {
+    if 13 < place {
         malformed(line);
         return;
     }

@@ -1,8 +1,6 @@
--- `station::decide_by_parts` meets its contract: the command stands within its file, and the file within the sheet.
--- Assumes nothing.
+-- `decide_by_parts` meets its contract: the command stands within its file, and the file within the sheet. Assumes nothing.
 use borrow.Author.Needs.{needs}
-use Rattle.elements.proofs.HeldLaws.{held-at}
-use Rattle.station.proofs.DecideLaws.{command-fits, parts-refused, parts-answered}
+use Rattle.station.proofs.DecideLaws.{command-fits, parts-doubtful, parts-answered}
 use Rattle.station.proofs.decide_by_parts.Statement.{statement}
 use Rattle.station.proofs.decide_by_parts.Tie as tie
 
@@ -12,8 +10,11 @@ decide-by-parts-spec =
     (λ c κs. search needs)
     (λ c κs. search needs)
     (λ c. search needs)
+    (λ c κs. search needs)
     (λ c. search needs)
+    (λ c κs. search needs)
     (λ c κs. search (command-fits, needs))
-    (λ c. search (parts-refused, held-at, needs))
-    (λ c. search (parts-answered, held-at, needs)) in
+    (λ c κs. search needs)
+    (λ c. search (parts-doubtful, needs))
+    (λ c. search (parts-answered, needs)) in
     tie.close facts

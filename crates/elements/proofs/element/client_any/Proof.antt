@@ -12,5 +12,6 @@ client-any-spec =
     (λ c κs. search needs)
     (λ c κs. search needs)
     (λ c κs. search needs)
+    (λ c κs. search needs)
     (λ c. search (elementSeen-is, needs)) in
     tie.close facts

@@ -6,5 +6,5 @@ use Rattle.lists.proofs.check.list_more.Tie as tie
 
 pub list-more-spec : {M : Type 1} → statement M
 list-more-spec =
-    let facts = tie.spec (λ c κs. search needs) (λ c κs. search needs) (λ c. search (listMore-is, needs)) in
+    let facts = tie.spec (λ c κs. search needs) (λ c κs. search needs) (λ c κs. search needs) (λ c κs. search needs) (λ c. search (listMore-is, needs)) in
     tie.close facts

@@ -1,6 +1,6 @@
 -- `check::lowest_fault` meets its contract, test by test. Assumes nothing.
 use borrow.Author.Needs.{needs}
-use Rattle.lists.proofs.CheckLaws.{lowestOf-empty, lowestOf-misplaced, lowestOf-reserved, lowestOf-unknown, lowestOf-percent, lowestOf-sound}
+use Rattle.lists.proofs.CheckLaws.{lowestOf-empty, lowestOf-misplaced, lowestOf-reserved, lowestOf-unknown, lowestOf-percent, lowestOf-naming}
 use Rattle.lists.proofs.check.lowest_fault.Statement.{statement}
 use Rattle.lists.proofs.check.lowest_fault.Tie as tie
 
@@ -13,4 +13,5 @@ lowest-fault-spec =
     (λ c. search (lowestOf-reserved, needs))
     (λ c. search (lowestOf-unknown, needs))
     (λ c. search (lowestOf-percent, needs))
-    (λ c. search (lowestOf-sound, needs)))
+    (λ c κs. search needs)
+    (λ c. search (lowestOf-naming, needs)))

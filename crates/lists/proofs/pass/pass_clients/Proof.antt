@@ -7,7 +7,7 @@ use Rattle.lines.specs.Parts.{words}
 use Rattle.lines.proofs.RuleLaws.{rest-shorter}
 use Rattle.patterns.specs.Host.{endpoint}
 use Rattle.classes.proofs.ClassLaws.{element-place, element-described}
-use Rattle.elements.specs.Element.{clientElement}
+use Rattle.elements.specs.Code.{viewOf, clientKind}
 use Rattle.lists.specs.ListCode.{clientFinds}
 use Rattle.lists.specs.PassCode.{listSeen, passFrom}
 use Rattle.lists.proofs.PassLaws.{pass-start, pass-end, pass-more}
@@ -15,12 +15,12 @@ use Rattle.lists.proofs.pass.pass_clients.Statement.{statement}
 use Rattle.lists.proofs.pass.pass_clients.Tie as tie
 
 abbrev Inv-loop : tie.InvT-loop
-Inv-loop class s search client client-name user user-name p₀ rest₀ p rest =
-    listSeen clientElement (clientFinds (endpoint client client-name) user user-name) search (words s)
-    ≡ passFrom clientElement (clientFinds (endpoint client client-name) user user-name) p (words rest)
+Inv-loop class tables notes s search client client-name user user-name p₀ rest₀ p rest =
+    listSeen (clientKind (viewOf tables notes)) (clientFinds (viewOf tables notes) (endpoint client client-name) user user-name) search (words s)
+    ≡ passFrom (clientKind (viewOf tables notes)) (clientFinds (viewOf tables notes) (endpoint client client-name) user user-name) p (words rest)
 
 abbrev μ-loop : tie.MeasureT-loop
-μ-loop class s search client client-name user user-name p₀ rest₀ p rest = length rest
+μ-loop class tables notes s search client client-name user user-name p₀ rest₀ p rest = length rest
 
 pub pass-clients-spec : {M : Type 1} → statement M
 pass-clients-spec =

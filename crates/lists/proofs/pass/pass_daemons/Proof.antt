@@ -7,7 +7,7 @@ use Rattle.lines.specs.Parts.{words}
 use Rattle.lines.proofs.RuleLaws.{rest-shorter}
 use Rattle.patterns.specs.Host.{endpoint}
 use Rattle.classes.proofs.ClassLaws.{element-place, element-described}
-use Rattle.elements.specs.Element.{daemonElement}
+use Rattle.elements.specs.Code.{viewOf, daemonKind}
 use Rattle.lists.specs.ListCode.{daemonFinds}
 use Rattle.lists.specs.PassCode.{listSeen, passFrom}
 use Rattle.lists.proofs.PassLaws.{pass-start, pass-end, pass-more}
@@ -15,12 +15,12 @@ use Rattle.lists.proofs.pass.pass_daemons.Statement.{statement}
 use Rattle.lists.proofs.pass.pass_daemons.Tie as tie
 
 abbrev Inv-loop : tie.InvT-loop
-Inv-loop class s search daemon server server-name p₀ rest₀ p rest =
-    listSeen daemonElement (daemonFinds daemon (endpoint server server-name)) search (words s)
-    ≡ passFrom daemonElement (daemonFinds daemon (endpoint server server-name)) p (words rest)
+Inv-loop class tables notes s search daemon server server-name p₀ rest₀ p rest =
+    listSeen (daemonKind (viewOf tables notes)) (daemonFinds (viewOf tables notes) daemon (endpoint server server-name)) search (words s)
+    ≡ passFrom (daemonKind (viewOf tables notes)) (daemonFinds (viewOf tables notes) daemon (endpoint server server-name)) p (words rest)
 
 abbrev μ-loop : tie.MeasureT-loop
-μ-loop class s search daemon server server-name p₀ rest₀ p rest = length rest
+μ-loop class tables notes s search daemon server server-name p₀ rest₀ p rest = length rest
 
 pub pass-daemons-spec : {M : Type 1} → statement M
 pass-daemons-spec =

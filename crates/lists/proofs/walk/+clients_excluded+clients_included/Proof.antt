@@ -14,6 +14,7 @@ use Rattle.patterns.specs.Host.{endpoint}
 use Rattle.classes.proofs.ClassLaws.{element-place, element-described}
 use Rattle.classes.proofs.element_at.Reads as element-at
 use Rattle.elements.proofs.element.client_found.Reads as client-found
+use Rattle.elements.specs.Code.{viewOf}
 use Rattle.lists.specs.Walk.{included, excluded}
 use Rattle.lists.specs.ListCode.{clientFinds}
 use Rattle.lists.proofs.WalkLaws.{Walked, walked-none, walked-shorter}
@@ -29,37 +30,37 @@ use Rattle.lists.proofs.walk.+clients_excluded+clients_included.Lts-cli
 use Rattle.lists.proofs.walk.+clients_excluded+clients_included.{statement}
 use Rattle.lists.proofs.walk.+clients_excluded+clients_included.Tie.{close}
 
-abbrev μ-clients-excluded : Measures 4 clients-excluded-kinds.ps ℕ
-μ-clients-excluded κs a = length (a .1 .0 .now)
+abbrev μ-clients-excluded : Measures 6 clients-excluded-kinds.ps ℕ
+μ-clients-excluded κs a = length (a .1 .1 .1 .0 .now)
 
-abbrev μ-clients-included : Measures 4 clients-included-kinds.ps ℕ
-μ-clients-included κs a = length (a .1 .0 .now)
+abbrev μ-clients-included : Measures 6 clients-included-kinds.ps ℕ
+μ-clients-included κs a = length (a .1 .1 .1 .0 .now)
 
-abbrev clients-excluded-at : ℕ → In 4 clients-excluded-kinds.ps
-clients-excluded-at t = and 4 clients-excluded-kinds.ps (is 4 clients-excluded-kinds.ps μ-clients-excluded t) clients-excluded.Pre
+abbrev clients-excluded-at : ℕ → In 6 clients-excluded-kinds.ps
+clients-excluded-at t = and 6 clients-excluded-kinds.ps (is 6 clients-excluded-kinds.ps μ-clients-excluded t) clients-excluded.Pre
 
-abbrev clients-excluded-below : ℕ → In 4 clients-excluded-kinds.ps
-clients-excluded-below t = and 4 clients-excluded-kinds.ps (falls 4 clients-excluded-kinds.ps _<_ μ-clients-excluded t) clients-excluded.Pre
+abbrev clients-excluded-below : ℕ → In 6 clients-excluded-kinds.ps
+clients-excluded-below t = and 6 clients-excluded-kinds.ps (falls 6 clients-excluded-kinds.ps _<_ μ-clients-excluded t) clients-excluded.Pre
 
-abbrev clients-included-at : ℕ → In 4 clients-included-kinds.ps
-clients-included-at t = and 4 clients-included-kinds.ps (is 4 clients-included-kinds.ps μ-clients-included t) clients-included.Pre
+abbrev clients-included-at : ℕ → In 6 clients-included-kinds.ps
+clients-included-at t = and 6 clients-included-kinds.ps (is 6 clients-included-kinds.ps μ-clients-included t) clients-included.Pre
 
-abbrev clients-included-below : ℕ → In 4 clients-included-kinds.ps
-clients-included-below t = and 4 clients-included-kinds.ps (falls 4 clients-included-kinds.ps _<_ μ-clients-included t) clients-included.Pre
+abbrev clients-included-below : ℕ → In 6 clients-included-kinds.ps
+clients-included-below t = and 6 clients-included-kinds.ps (falls 6 clients-included-kinds.ps _<_ μ-clients-included t) clients-included.Pre
 
 abbrev clients-excluded-Inv-loop : clients-excluded-lts.InvT-loop
-clients-excluded-Inv-loop class s client client-name user user-name rest₀ rest = Walked
-    (excluded (clientFinds (endpoint client client-name) user user-name)) s rest
+clients-excluded-Inv-loop class tables notes s client client-name user user-name rest₀ rest = Walked
+    (excluded (clientFinds (viewOf tables notes) (endpoint client client-name) user user-name)) s rest
 
 abbrev clients-excluded-μ-loop : clients-excluded-lts.MeasureT-loop
-clients-excluded-μ-loop class s client client-name user user-name rest₀ rest = length rest
+clients-excluded-μ-loop class tables notes s client client-name user user-name rest₀ rest = length rest
 
 abbrev clients-included-Inv-loop : clients-included-lts.InvT-loop
-clients-included-Inv-loop class s client client-name user user-name rest₀ rest = Walked
-    (included (clientFinds (endpoint client client-name) user user-name)) s rest
+clients-included-Inv-loop class tables notes s client client-name user user-name rest₀ rest = Walked
+    (included (clientFinds (viewOf tables notes) (endpoint client client-name) user user-name)) s rest
 
 abbrev clients-included-μ-loop : clients-included-lts.MeasureT-loop
-clients-included-μ-loop class s client client-name user user-name rest₀ rest = length rest
+clients-included-μ-loop class tables notes s client client-name user user-name rest₀ rest = length rest
 
 pub +clients-excluded+clients-included-spec : {M : Type 1} → statement M
 +clients-excluded+clients-included-spec =

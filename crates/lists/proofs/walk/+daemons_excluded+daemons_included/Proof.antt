@@ -14,6 +14,7 @@ use Rattle.patterns.specs.Host.{endpoint}
 use Rattle.classes.proofs.ClassLaws.{element-place, element-described}
 use Rattle.classes.proofs.element_at.Reads as element-at
 use Rattle.elements.proofs.element.daemon_found.Reads as daemon-found
+use Rattle.elements.specs.Code.{viewOf}
 use Rattle.lists.specs.Walk.{included, excluded}
 use Rattle.lists.specs.ListCode.{daemonFinds}
 use Rattle.lists.proofs.WalkLaws.{Walked, walked-none, walked-shorter}
@@ -29,35 +30,35 @@ use Rattle.lists.proofs.walk.+daemons_excluded+daemons_included.Lts-dae
 use Rattle.lists.proofs.walk.+daemons_excluded+daemons_included.{statement}
 use Rattle.lists.proofs.walk.+daemons_excluded+daemons_included.Tie.{close}
 
-abbrev μ-daemons-excluded : Measures 4 daemons-excluded-kinds.ps ℕ
-μ-daemons-excluded κs a = length (a .1 .0 .now)
+abbrev μ-daemons-excluded : Measures 6 daemons-excluded-kinds.ps ℕ
+μ-daemons-excluded κs a = length (a .1 .1 .1 .0 .now)
 
-abbrev μ-daemons-included : Measures 4 daemons-included-kinds.ps ℕ
-μ-daemons-included κs a = length (a .1 .0 .now)
+abbrev μ-daemons-included : Measures 6 daemons-included-kinds.ps ℕ
+μ-daemons-included κs a = length (a .1 .1 .1 .0 .now)
 
-abbrev daemons-excluded-at : ℕ → In 4 daemons-excluded-kinds.ps
-daemons-excluded-at t = and 4 daemons-excluded-kinds.ps (is 4 daemons-excluded-kinds.ps μ-daemons-excluded t) daemons-excluded.Pre
+abbrev daemons-excluded-at : ℕ → In 6 daemons-excluded-kinds.ps
+daemons-excluded-at t = and 6 daemons-excluded-kinds.ps (is 6 daemons-excluded-kinds.ps μ-daemons-excluded t) daemons-excluded.Pre
 
-abbrev daemons-excluded-below : ℕ → In 4 daemons-excluded-kinds.ps
-daemons-excluded-below t = and 4 daemons-excluded-kinds.ps (falls 4 daemons-excluded-kinds.ps _<_ μ-daemons-excluded t) daemons-excluded.Pre
+abbrev daemons-excluded-below : ℕ → In 6 daemons-excluded-kinds.ps
+daemons-excluded-below t = and 6 daemons-excluded-kinds.ps (falls 6 daemons-excluded-kinds.ps _<_ μ-daemons-excluded t) daemons-excluded.Pre
 
-abbrev daemons-included-at : ℕ → In 4 daemons-included-kinds.ps
-daemons-included-at t = and 4 daemons-included-kinds.ps (is 4 daemons-included-kinds.ps μ-daemons-included t) daemons-included.Pre
+abbrev daemons-included-at : ℕ → In 6 daemons-included-kinds.ps
+daemons-included-at t = and 6 daemons-included-kinds.ps (is 6 daemons-included-kinds.ps μ-daemons-included t) daemons-included.Pre
 
-abbrev daemons-included-below : ℕ → In 4 daemons-included-kinds.ps
-daemons-included-below t = and 4 daemons-included-kinds.ps (falls 4 daemons-included-kinds.ps _<_ μ-daemons-included t) daemons-included.Pre
+abbrev daemons-included-below : ℕ → In 6 daemons-included-kinds.ps
+daemons-included-below t = and 6 daemons-included-kinds.ps (falls 6 daemons-included-kinds.ps _<_ μ-daemons-included t) daemons-included.Pre
 
 abbrev daemons-excluded-Inv-loop : daemons-excluded-lts.InvT-loop
-daemons-excluded-Inv-loop class s daemon server server-name rest₀ rest = Walked (excluded (daemonFinds daemon (endpoint server server-name))) s rest
+daemons-excluded-Inv-loop class tables notes s daemon server server-name rest₀ rest = Walked (excluded (daemonFinds (viewOf tables notes) daemon (endpoint server server-name))) s rest
 
 abbrev daemons-excluded-μ-loop : daemons-excluded-lts.MeasureT-loop
-daemons-excluded-μ-loop class s daemon server server-name rest₀ rest = length rest
+daemons-excluded-μ-loop class tables notes s daemon server server-name rest₀ rest = length rest
 
 abbrev daemons-included-Inv-loop : daemons-included-lts.InvT-loop
-daemons-included-Inv-loop class s daemon server server-name rest₀ rest = Walked (included (daemonFinds daemon (endpoint server server-name))) s rest
+daemons-included-Inv-loop class tables notes s daemon server server-name rest₀ rest = Walked (included (daemonFinds (viewOf tables notes) daemon (endpoint server server-name))) s rest
 
 abbrev daemons-included-μ-loop : daemons-included-lts.MeasureT-loop
-daemons-included-μ-loop class s daemon server server-name rest₀ rest = length rest
+daemons-included-μ-loop class tables notes s daemon server server-name rest₀ rest = length rest
 
 pub +daemons-excluded+daemons-included-spec : {M : Type 1} → statement M
 +daemons-excluded+daemons-included-spec =

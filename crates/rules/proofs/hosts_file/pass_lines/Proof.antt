@@ -3,20 +3,18 @@
 use borrow.Author.Needs.{needs}
 use Prim.Native.Nat.{_-_}
 use lib.ListN.{length}
-use Rattle.elements.specs.Request.{Request}
-use Rattle.elements.specs.Places.{requestAt}
-use Rattle.rules.specs.FileCode.{passText}
+use Rattle.rules.specs.FileCode.{Query, queryAt, passText}
 use Rattle.rules.proofs.FileLaws.{Passing, passing-start, passing-more, passing-found, passing-end, pass-stop, step-less}
 use Rattle.rules.proofs.hosts_file.pass_lines.Statement.{statement}
 use Rattle.rules.proofs.hosts_file.pass_lines.Tie as tie
 
 abbrev Inv-loop : tie.InvT-loop
-Inv-loop class text order verdict file search names request i₀ n₀ searching₀ found₀ i n searching found =
-    let r : Request = requestAt names request in
+Inv-loop class tables notes text order verdict file search names request i₀ n₀ searching₀ found₀ i n searching found =
+    let r : Query = queryAt tables notes names request in
     Passing order verdict file r (passText order verdict file search r text) text i n searching found
 
 abbrev μ-loop : tie.MeasureT-loop
-μ-loop class text order verdict file search names request i₀ n₀ searching₀ found₀ i n searching found =
+μ-loop class tables notes text order verdict file search names request i₀ n₀ searching₀ found₀ i n searching found =
     length text - i
 
 loop-holds : tie.Need-loop-holds Inv-loop μ-loop

@@ -12,15 +12,16 @@ pack-spec =
     (λ c. search needs)
     (λ c. search needs)
     (λ c. search needs)
-    (λ c. let fits = sheet-fits _ _ _ _ _ (c .before .before .check-texts .ensures) (search needs) in omega (arith, fits))
-    (λ c. let fits = sheet-fits _ _ _ _ _ (c .before .before .check-texts .ensures) (search needs) in omega (arith, fits))
-    (λ c. let fits = sheet-fits _ _ _ _ _ (c .before .before .check-texts .ensures) (search needs) in omega (arith, fits))
+    (λ c. let fits = sheet-fits _ _ _ _ _ _ (c .before .before .check-texts .ensures) (search needs) in omega (arith, fits))
+    (λ c. let fits = sheet-fits _ _ _ _ _ _ (c .before .before .check-texts .ensures) (search needs) in omega (arith, fits))
+    (λ c. let fits = sheet-fits _ _ _ _ _ _ (c .before .before .check-texts .ensures) (search needs) in omega (arith, fits))
+    (λ c. let fits = sheet-fits _ _ _ _ _ _ (c .before .before .check-texts .ensures) (search needs) in omega (arith, fits))
     (λ c κs. search needs)
-    (λ c. pack-no-room _ _ _ _ _ (c .before .before .before .before .check-texts .ensures) (search needs) _ (c .before .if1 .taken) _ (c .placeless .ensures))
+    (λ c. pack-no-room _ _ _ _ _ _ (c .before .before .before .before .check-texts .ensures) (search needs) _ (c .before .if1 .taken) _ (c .placeless .ensures))
     (λ c κs. search needs)
-    (λ c. pack-refused _ _ _ _ _ (c .before .before .before .check-texts .ensures) _ (search needs) _)
+    (λ c. pack-refused _ _ _ _ _ _ (c .before .before .before .check-texts .ensures) _ (search needs) _)
     (λ c. search needs)
     (λ c.
     let p = c .before .before .before .before in
-    pack-count _ _ _ _ _ (p .before .before .before .check-texts .ensures) (search needs) _ _ _ (p .if1 .left) (c .before .before .put-sheet .ensures)) in
+    pack-count _ _ _ _ _ _ (p .before .before .before .check-texts .ensures) (search needs) _ _ _ (p .if1 .left) (c .before .before .put-sheet .ensures)) in
     tie.close facts

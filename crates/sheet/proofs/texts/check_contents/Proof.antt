@@ -1,7 +1,7 @@
 -- `sheet::texts::check_contents` meets its contract.
 -- Assumes nothing.
 use borrow.Author.Needs.{needs}
-use Rattle.sheet.proofs.TextsLaws.{contents-allow, contents-deny, contents-portacl}
+use Rattle.sheet.proofs.TextsLaws.{lines-sound, tables-read, contents-lines, contents-portacl, contents-naming}
 use Rattle.sheet.proofs.texts.check_contents.Statement.{statement}
 use Rattle.sheet.proofs.texts.check_contents.Tie as tie
 
@@ -9,13 +9,15 @@ pub check-contents-spec : {M : Type 1} → statement M
 check-contents-spec =
     let facts = tie.spec
     (λ c κs. search needs)
-    (λ c. search needs)
-    (λ c. search needs)
     (λ c κs. search needs)
     (λ c. search needs)
     (λ c. search needs)
     (λ c κs. search needs)
-    (λ c. search (contents-allow, needs))
-    (λ c. search (contents-deny, needs))
-    (λ c. search (contents-portacl, needs)) in
+    (λ c. search needs)
+    (λ c. search needs)
+    (λ c κs. search (lines-sound, tables-read, needs))
+    (λ c κs. search needs)
+    (λ c. search (contents-lines, needs))
+    (λ c. search (contents-portacl, needs))
+    (λ c. search (contents-naming, needs)) in
     tie.close facts

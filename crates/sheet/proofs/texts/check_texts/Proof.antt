@@ -1,7 +1,7 @@
--- `sheet::texts::check_texts` meets its contract: limits, then contents.
+-- `sheet::texts::check_texts` meets its contract: limits, the frame of the tables, contents.
 -- Assumes nothing.
 use borrow.Author.Needs.{needs}
-use Rattle.sheet.proofs.TextsLaws.{texts-limits, texts-contents}
+use Rattle.sheet.proofs.TextsLaws.{frame-checked, texts-limits, texts-frame, texts-contents}
 use Rattle.sheet.proofs.texts.check_texts.Statement.{statement}
 use Rattle.sheet.proofs.texts.check_texts.Tie as tie
 
@@ -12,6 +12,10 @@ check-texts-spec =
     (λ c. search needs)
     (λ c. search needs)
     (λ c κs. search needs)
+    (λ c. search needs)
+    (λ c. search needs)
+    (λ c κs. search (frame-checked, needs))
     (λ c. search (texts-limits, needs))
+    (λ c. search (texts-frame, needs))
     (λ c. search (texts-contents, needs)) in
     tie.close facts

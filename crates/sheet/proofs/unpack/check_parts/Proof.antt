@@ -13,5 +13,6 @@ check-parts-spec =
     (λ c κs. search needs)
     (λ c κs. search needs)
     (λ c κs. search needs)
+    (λ c κs. search needs)
     (λ c. search (texts-in-sheet, needs)) in
     tie.close facts

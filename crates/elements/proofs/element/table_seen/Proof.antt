@@ -1,0 +1,18 @@
+-- `element::table_seen` meets its contract. Assumes nothing.
+use borrow.Author.Needs.{needs}
+use Rattle.elements.proofs.ElementLaws.{slash-some}
+use Rattle.elements.proofs.SeenLaws.{table-looked, table-passed}
+use Rattle.elements.proofs.element.table_seen.Statement.{statement}
+use Rattle.elements.proofs.element.table_seen.Tie as tie
+
+pub table-seen-spec : {M : Type 1} → statement M
+table-seen-spec =
+    let facts = tie.spec
+    (λ c. search (slash-some, needs))
+    (λ c. search (slash-some, needs))
+    (λ c. search needs)
+    (λ c κs. search needs)
+    (λ c κs. search needs)
+    (λ c. search (table-looked, needs))
+    (λ c. search (table-passed, needs)) in
+    tie.close facts

@@ -1,0 +1,18 @@
+-- `naming::check_contents` meets its contract. Assumes nothing.
+use borrow.Author.Needs.{needs}
+use Rattle.rules.proofs.OrderLaws.{contents-sound, contents-faulty, contents-rest, contents-never}
+use Rattle.rules.proofs.naming.check_contents.Statement.{statement}
+use Rattle.rules.proofs.naming.check_contents.Tie as tie
+
+pub check-contents-spec : {M : Type 1} → statement M
+check-contents-spec =
+    let facts = tie.spec
+    (λ c κs. search needs)
+    (λ c. search needs)
+    (λ c. search needs)
+    (λ c κs. search (contents-sound, needs))
+    (λ c. search needs)
+    (λ c. search (contents-faulty, needs))
+    (λ c. search (contents-rest, needs))
+    (λ c. search (contents-never, needs)) in
+    tie.close facts

@@ -1,0 +1,16 @@
+-- `naming::check_depth` meets its contract. Assumes nothing.
+use borrow.Author.Needs.{needs}
+use Rattle.rules.proofs.OrderLaws.{depth-checked}
+use Rattle.rules.proofs.naming.check_depth.Statement.{statement}
+use Rattle.rules.proofs.naming.check_depth.Tie as tie
+
+pub check-depth-spec : {M : Type 1} → statement M
+check-depth-spec =
+    let facts = tie.spec
+    (λ c κs. search needs)
+    (λ c. search needs)
+    (λ c κs. search needs)
+    (λ c κs. search (needs))
+    (λ c κs. search needs)
+    (λ c. search (depth-checked, needs)) in
+    tie.close facts

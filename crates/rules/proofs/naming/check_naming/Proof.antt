@@ -1,0 +1,19 @@
+-- `naming::check_naming` meets its contract. Assumes nothing.
+use borrow.Author.Needs.{needs}
+use Rattle.rules.proofs.OrderLaws.{naming-named, naming-faulty, naming-rest, naming-never}
+use Rattle.rules.proofs.naming.check_naming.Statement.{statement}
+use Rattle.rules.proofs.naming.check_naming.Tie as tie
+
+pub check-naming-spec : {M : Type 1} → statement M
+check-naming-spec =
+    let facts = tie.spec
+    (λ c. search needs)
+    (λ c κs. search needs)
+    (λ c. search needs)
+    (λ c. search needs)
+    (λ c κs. search (naming-named, needs))
+    (λ c. search needs)
+    (λ c. search (naming-faulty, needs))
+    (λ c. search (naming-rest, needs))
+    (λ c. search (naming-never, needs)) in
+    tie.close facts

@@ -1,0 +1,20 @@
+-- `rule_framed` meets its contract. Assumes nothing.
+use borrow.Author.Needs.{needs}
+use Rattle.rules.proofs.DecideLaws.{framed-cut, framed-trailing, framed-contents, framed-whole}
+use Rattle.rules.proofs.rule_framed.Statement.{statement}
+use Rattle.rules.proofs.rule_framed.Tie as tie
+
+pub rule-framed-spec : {M : Type 1} → statement M
+rule-framed-spec =
+    let facts = tie.spec
+    (λ c κs. search needs)
+    (λ c. search needs)
+    (λ c κs. search needs)
+    (λ c. search needs)
+    (λ c κs. search needs)
+    (λ c. search needs)
+    (λ c κs. search (framed-whole, needs))
+    (λ c. search (framed-cut, needs))
+    (λ c. search (framed-trailing, needs))
+    (λ c. search (framed-contents, needs)) in
+    tie.close facts

@@ -1,0 +1,89 @@
+// The search of both files for what decides, in one pass that also judges their lines and the tables that they name.
+//   find(allow, deny, tables, ..) == the answer where nothing is faulty; else that there is a doubt
+ghost use mathlib.Core.Path.{_≡_};
+ghost use Prim.Native.Nat.{_≤_};
+ghost use lib.ListN.{length};
+ghost use Rattle.tables.specs.Table.{tablesOf, matchOf};
+ghost use Rattle.tables.specs.Code.{tablesIn};
+ghost use Rattle.elements.specs.Places.{requestAt};
+ghost use Rattle.rules.specs.Search.{search as searchBy};
+ghost use Rattle.rules.specs.FileCode.{passBoth, queryAt};
+ghost use Rattle.rules.specs.Code.{contentsFault, Noted, findingOf, findingBy, tablesDoubtful};
+use super::Answer;
+use super::File;
+use super::Verdict;
+use super::hosts_file::Pass;
+use super::pass_both;
+use elements::request::Request;
+use section::Part;
+use section::part_of;
+use tables::check::check_tables;
+use tables::entry::count;
+
+// What a search finds: an answer, or a fault, which is not told.
+pub enum Finding {
+    Answer(Answer),
+    Doubtful,
+}
+
+// Notes on at most 64 tables for a request; where there are none, there is nothing to go over.
+fn notes_on(tables: &[u8], names: &[u8], request: Request) -> [u64; 3]
+    requires { ⌜ length (tablesIn (now tables)) ≤ 64 ⌝ }
+    ensures { λ r. ⌜ Noted (tablesIn (now (tables .entry))) (requestAt (now (names .entry)) request) r ⌝ }
+{
+    if tables.len() <= 2 {
+        return [0, 0, 0];
+    }
+    let client = request.client;
+    let server = request.server;
+    let bits = views::view(
+        tables,
+        client,
+        part_of(names, request.client_name),
+        server,
+        part_of(names, request.server_name),
+    );
+    [bits.client, bits.server, bits.deep]
+}
+
+// What a pass finds.
+fn found_by(pass: Pass) -> Finding
+    ensures { λ r. ⌜ r ≡ findingBy pass ⌝ }
+{
+    match pass {
+        Pass::Faulty(_) => Finding::Doubtful,
+        Pass::Unmatched => Finding::Answer(Answer {
+            verdict: Verdict::Granted,
+            file: File::Neither,
+            line: 0,
+            command: Part { place: 0, len: 0 },
+        }),
+        Pass::Matched(a) => Finding::Answer(a),
+    }
+}
+
+// Whether the tables are faulty by themselves, or too many or too long.
+fn are_doubtful(tables: &[u8]) -> bool
+    ensures { λ r. ⌜ r ≡ tablesDoubtful (now (tables .entry)) ⌝ }
+{
+    if (64 < count(tables)) | section::Tables::over(tables.len()) {
+        return true;
+    }
+    let found = check_tables(tables);
+    (found.misnamed != 0) | (found.unsound != 0)
+}
+
+// The answer by two texts and the tables of a section five whose frame is sound, or of none.
+pub fn find(allow: &[u8], deny: &[u8], tables: &[u8], names: &[u8], request: Request) -> Finding
+    requires { ⌜ tablesIn (now tables) ≡ tablesOf (now tables) ⌝ }
+    ensures { λ r.
+        ⌜ r
+        ≡ findingOf (contentsFault (now (allow .entry)) (now (deny .entry)) (now (tables .entry)))
+        (searchBy (matchOf (tablesOf (now (tables .entry)))) (now (allow .entry)) (now (deny .entry)) (requestAt (now (names .entry)) request)) ⌝ }
+{
+    if are_doubtful(tables) {
+        return Finding::Doubtful;
+    }
+    let notes = notes_on(tables, names, request);
+    found_by(pass_both(tables, &notes, allow, deny, names, request))
+}

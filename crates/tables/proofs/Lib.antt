@@ -1,0 +1,5 @@
+pub mod EntryLaws
+pub mod WordLaws
+pub mod CheckLaws
+pub mod TableLaws
+pub mod Examples

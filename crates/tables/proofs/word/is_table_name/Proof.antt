@@ -1,0 +1,14 @@
+-- `word::is_table_name` meets its contract. Assumes nothing.
+use borrow.Author.Needs.{needs}
+use Rattle.tables.proofs.WordLaws.{name-empty, name-over, name-is}
+use Rattle.tables.proofs.word.is_table_name.Statement.{statement}
+use Rattle.tables.proofs.word.is_table_name.Tie as tie
+
+pub is-table-name-spec : {M : Type 1} → statement M
+is-table-name-spec =
+    let facts = tie.spec
+    (λ c. search (name-empty, needs))
+    (λ c. search (name-over, needs))
+    (λ c κs. search needs)
+    (λ c. search (name-is, needs)) in
+    tie.close facts

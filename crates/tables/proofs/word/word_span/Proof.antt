@@ -1,0 +1,17 @@
+-- `word::word_span` meets its contract. Assumes nothing.
+use borrow.Author.Needs.{needs}
+use Rattle.tables.proofs.WordLaws.{span-is}
+use Rattle.tables.proofs.word.word_span.Statement.{statement}
+use Rattle.tables.proofs.word.word_span.Tie as tie
+
+pub word-span-spec : {M : Type 1} → statement M
+word-span-spec =
+    let facts = tie.spec
+    (λ c κs. search needs)
+    (λ c. search needs)
+    (λ c. search needs)
+    (λ c. search needs)
+    (λ c κs. search needs)
+    (λ c. search needs)
+    (λ c. search (span-is, needs)) in
+    tie.close facts

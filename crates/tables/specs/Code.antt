@@ -1,0 +1,129 @@
+-- Tables as the code reads them: what inner contracts cite. Nothing here needs to be believed for the meaning of document 02, request 1: its
+-- words are those of Table, and laws tie these to them.
+--   tablesIn t           == the tables of t, as far as its bytes go
+--   placeNamed ts n      == the place among ts of the first table named n
+-- Assumes nothing: these are definitions.
+use Prim.Native.Nat.{ℕ, zero, suc, _+_}
+use mathlib.Core.Bool.{Bool, true, false, not, _&&_, _||_}
+use mathlib.Core.List.{List, [], _∷_}
+use mathlib.Core.Option.{Option, none, some, Option·getD}
+use lib.ListN.{length, take, drop}
+use lib.Dec.{eqb, ltb}
+use Rattle.text.specs.Basics.{if_then_else_, _>>=_, holds, isSome, isEmpty, any}
+use Rattle.text.specs.Text.{among, split, equalFold}
+use Rattle.text.specs.Number.{fromDigits}
+use Rattle.text.specs.Scan.{spanLen}
+use Rattle.lines.specs.Rule.{nonEmpty, isExcept}
+use Rattle.patterns.specs.Pattern.{hostPattern}
+use Rattle.tables.specs.declared.entry.EntrySpan.{EntrySpan}
+use Rattle.tables.specs.declared.entry.Framing.{Framing}
+use Rattle.tables.specs.declared.entry.Framing.the-variants as Framing
+use Rattle.tables.specs.declared.entry.Place.{Place}
+use Rattle.tables.specs.declared.entry.Place.the-variants as Place
+use Rattle.tables.specs.declared.word.WordSpan.{WordSpan}
+use Rattle.tables.specs.declared.check.TextCheck.{TextCheck}
+use Rattle.tables.specs.declared.check.TablesCheck.{TablesCheck}
+use Rattle.tables.specs.Table.{Table, table, readTable, tableName, isMissing, firstTable, isMisnamed, isBadPattern, isUnsound}
+
+-- ## Entries
+
+abbrev pub followed : (List ℕ → List Table) → Option (Table × List ℕ) → List Table
+followed f none = []
+followed f (some p) = p .0 ∷ f (p .1)
+
+unfoldable pub entries : ℕ → List ℕ → List Table
+entries zero t = []
+entries (suc k) t = followed (entries k) (readTable t)
+
+-- the count of tables, 0 where its two bytes are not there
+unfoldable pub tableCount : List ℕ → ℕ
+tableCount t = if ltb (length t) 2 then 0 else fromDigits 256 0 (take 2 t)
+
+unfoldable pub tablesIn : List ℕ → List Table
+tablesIn t = entries (tableCount t) (drop 2 t)
+
+-- where the name and the text of the entry at the front of t end; cut: it is not whole
+abbrev pub cutEntry : EntrySpan
+cutEntry = record { cut = true; «name_end» = 0; end = 0 }
+
+abbrev pub spanOf : Option (Table × List ℕ) → EntrySpan
+spanOf none = cutEntry
+spanOf (some p) = let n : ℕ = 1 + length (p .0 .name) in record { cut = false; «name_end» = n; end = n + 4 + length (p .0 .text) }
+
+unfoldable pub entrySpan : List ℕ → EntrySpan
+entrySpan t = spanOf (readTable t)
+
+abbrev pub entryOr : Option (Table × List ℕ) → Table × List ℕ
+entryOr o = Option·getD o (table [] [], [])
+
+unfoldable pub entryTable : List ℕ → Table
+entryTable t = entryOr (readTable t) .0
+
+unfoldable pub afterEntry : List ℕ → List ℕ
+afterEntry t = entryOr (readTable t) .1
+
+abbrev pub frameOf : Option (List Table × List ℕ) → Framing
+frameOf none = Framing.Cut
+frameOf (some p) = if isEmpty (p .1) then Framing.Sound else Framing.Trailing
+
+-- the place of the first table so named
+unfoldable pub placeNamed : List Table → List ℕ → Option ℕ
+placeNamed [] n = none
+placeNamed (t ∷ ts) n = if equalFold n (t .name) then some 0 else (placeNamed ts n >>= λ i. some (suc i))
+
+abbrev pub placeOf : Option ℕ → Place
+placeOf none = Place.Missing
+placeOf (some i) = Place.At i
+
+-- ## Words
+
+unfoldable pub isParting : ℕ → Bool
+isParting x = among " \t\n" x
+
+unfoldable pub isWordByte : ℕ → Bool
+isWordByte x = not (isParting x)
+
+unfoldable pub words : List ℕ → List (List ℕ)
+words t = nonEmpty (split " \t\n" t)
+
+unfoldable pub wordSpan : List ℕ → WordSpan
+wordSpan t = let a : ℕ = spanLen isParting t in record { start = a; end = a + spanLen isWordByte (drop a t) }
+
+-- the first word, empty where there is none, and what follows it
+unfoldable pub firstWord : List ℕ → List ℕ
+firstWord t = let u : List ℕ = drop (spanLen isParting t) t in take (spanLen isWordByte u) u
+
+unfoldable pub afterWord : List ℕ → List ℕ
+afterWord t = let u : List ℕ = drop (spanLen isParting t) t in drop (spanLen isWordByte u) u
+
+-- ## Checks
+
+abbrev pub textChecked : Bool → Bool → TextCheck
+textChecked m b = record { missing = m; bad = b }
+
+abbrev pub wordMissing : List Table → List ℕ → Bool
+wordMissing ts w = holds (isMissing ts) (tableName w)
+
+-- what is found of the words of a text
+unfoldable pub wordsChecked : List Table → List (List ℕ) → TextCheck
+wordsChecked ts ws = textChecked (any (wordMissing ts) ws) (any isBadPattern ws)
+
+-- of a word that does not begin with a slash
+abbrev pub plainBad : List ℕ → Bool
+plainBad w = isExcept w || not (isSome (hostPattern w))
+
+abbrev pub namedBefore : List Table → List ℕ → ℕ → Bool
+namedBefore ts n i = holds (λ k. ltb k i) (placeNamed ts n)
+
+abbrev pub firstNumber : ℕ → Bool → ℕ → ℕ
+firstNumber before b n = if eqb before 0 && b then n else before
+
+-- a number of a table, 0 for none
+abbrev pub numberOr : Option ℕ → ℕ
+numberOr o = Option·getD o 0
+
+unfoldable pub tablesChecked : List Table → TablesCheck
+tablesChecked ts = record {
+  misnamed = numberOr (firstTable (isMisnamed ts) 1 [] ts);
+  unsound = numberOr (firstTable (λ before x. isUnsound x) 1 [] ts);
+}

@@ -1,0 +1,152 @@
+// The faults of the tables themselves: 15, a name given twice or missing, and 17, an unsound name or pattern.
+//   check_tables(tables) == the number of the first table of each, 0 where there is none
+ghost use mathlib.Core.Path.{_≡_};
+ghost use Rattle.tables.specs.Table.{isMissing, isBadPattern};
+ghost use Rattle.tables.specs.Code.{tablesIn, wordMissing, words, plainBad, wordsChecked, textChecked, namedBefore, firstNumber, tablesChecked};
+use super::entry::Place;
+use super::entry::after_count;
+use super::entry::after_entry;
+use super::entry::entry_name;
+use super::entry::entry_span;
+use super::entry::entry_text;
+use super::entry::find;
+use super::entry::table_count;
+use super::word::after_word;
+use super::word::has_slash;
+use super::word::is_table_name;
+use super::word::word;
+use super::word::word_span;
+use address::Addr;
+use patterns::Host;
+use patterns::Name;
+use patterns::pattern::host_read;
+
+// What is found of a table's patterns: one names a table that is missing, one is none.
+pub struct TextCheck {
+    pub missing: bool,
+    pub bad: bool,
+}
+
+// The number of the first table that is named like another before it or names one that is missing, and of the first that is unsound.
+pub struct TablesCheck {
+    pub misnamed: usize,
+    pub unsound: usize,
+}
+
+// Whether no table has that name.
+fn is_missing(tables: &[u8], name: &[u8]) -> bool
+    ensures { λ r. ⌜ r ≡ isMissing (tablesIn (now (tables .entry))) (now (name .entry)) ⌝ }
+{
+    match find(tables, name) {
+        Place::Missing => true,
+        Place::At(_) => false,
+    }
+}
+
+// Whether w, no `/name`, is no pattern of a table.
+fn is_bad(w: &[u8]) -> bool
+    ensures { λ r. ⌜ r ≡ plainBad (now (w .entry)) ⌝ }
+{
+    let nobody = Host {
+        name: Name::Unknown,
+        addr: Addr::Unknown,
+    };
+    let seen = host_read(w, false, nobody, &w[..0]);
+    text::equal_fold(b"EXCEPT", w) | !seen.sound
+}
+
+// What is found of the pattern w.
+fn check_word(tables: &[u8], w: &[u8]) -> TextCheck
+    ensures { λ r. ⌜ r ≡ textChecked (wordMissing (tablesIn (now (tables .entry))) (now (w .entry))) (isBadPattern (now (w .entry))) ⌝ }
+{
+    if has_slash(w) {
+        let name = &w[1..];
+        if is_table_name(name) {
+            return TextCheck {
+                missing: is_missing(tables, name),
+                bad: false,
+            };
+        }
+        return TextCheck {
+            missing: false,
+            bad: true,
+        };
+    }
+    TextCheck {
+        missing: false,
+        bad: is_bad(w),
+    }
+}
+
+// What is found of the patterns of a text.
+fn check_text(tables: &[u8], text: &[u8]) -> TextCheck
+    ensures { λ r. ⌜ r ≡ wordsChecked (tablesIn (now (tables .entry))) (words (now (text .entry))) ⌝ }
+{
+    let mut found = TextCheck {
+        missing: false,
+        bad: false,
+    };
+    let mut rest = text;
+    loop {
+        let at = word_span(rest);
+        let w = word(rest, at);
+        if w.len() == 0 {
+            return found;
+        }
+        let seen = check_word(tables, w);
+        found = TextCheck {
+            missing: found.missing | seen.missing,
+            bad: found.bad | seen.bad,
+        };
+        let next = after_word(rest, at);
+        rest = next;
+    }
+}
+
+// Whether the first table of that name stands before the place i.
+fn is_named_before(tables: &[u8], name: &[u8], i: usize) -> bool
+    ensures { λ r. ⌜ r ≡ namedBefore (tablesIn (now (tables .entry))) (now (name .entry)) i ⌝ }
+{
+    match find(tables, name) {
+        Place::Missing => false,
+        Place::At(k) => k < i,
+    }
+}
+
+// The first of two numbers of tables, 0 where there is none.
+fn first_number(before: usize, holds: bool, number: usize) -> usize
+    ensures { λ r. ⌜ r ≡ firstNumber before holds number ⌝ }
+{
+    if before == 0 {
+        if holds {
+            return number;
+        }
+    }
+    before
+}
+
+// The first faulty tables.
+pub fn check_tables(tables: &[u8]) -> TablesCheck
+    ensures { λ r. ⌜ r ≡ tablesChecked (tablesIn (now (tables .entry))) ⌝ }
+{
+    let n = table_count(tables);
+    let mut rest = after_count(tables);
+    let mut i = 0;
+    let mut misnamed = 0;
+    let mut unsound = 0;
+    while i < n {
+        let span = entry_span(rest);
+        if span.cut {
+            return TablesCheck { misnamed, unsound };
+        }
+        let name = entry_name(rest, span);
+        let text = check_text(tables, entry_text(rest, span));
+        let twice = is_named_before(tables, name, i);
+        misnamed = first_number(misnamed, twice | text.missing, i + 1);
+        unsound = first_number(unsound, !is_table_name(name) | text.bad, i + 1);
+        let next = after_entry(rest, span);
+        rest = next;
+        i += 1;
+    }
+    TablesCheck { misnamed, unsound }
+}

@@ -1,0 +1,42 @@
+-- `all_rows` meets its contract. The invariant is `Gathered`: the rows hold what the tables passed give. The measure is the count of the
+-- others. Assumes nothing.
+use borrow.Author.Needs.{needs}
+use Prim.Native.Nat.{_-_}
+use Rattle.patterns.specs.Host.{endpoint}
+use Rattle.views.proofs.RowLaws.{Gathered, gathered-start, gathered-end, gathered-cut, gathered-place, gathered-more}
+use Rattle.views.proofs.all_rows.Statement.{statement}
+use Rattle.views.proofs.all_rows.Tie as tie
+
+abbrev Inv-loop : tie.InvT-loop
+Inv-loop tables client client-name server server-name n rest₀ rows₀ i₀ rest rows i =
+    Gathered tables (endpoint client client-name) (endpoint server server-name) n rest rows i
+
+abbrev μ-loop : tie.MeasureT-loop
+μ-loop tables client client-name server server-name n rest₀ rows₀ i₀ rest rows i = n - i
+
+pub all-rows-spec : {M : Type 1} → statement M
+all-rows-spec =
+    let facts = tie.spec
+    Inv-loop
+    μ-loop
+    (λ c κs. search needs)
+    (λ c κs. search needs)
+    (λ c. search (gathered-start, needs))
+    (λ c κs. search needs)
+    (λ c. search (gathered-cut, needs))
+    (λ c κs. search needs)
+    (λ c κs. search needs)
+    (λ c. search needs)
+    (λ c. search (gathered-place, needs))
+    (λ c κs. search needs)
+    (λ c κs. search needs)
+    (λ c κs. search needs)
+    (λ c. search needs)
+    (λ c. search needs)
+    (λ c.
+    let b = c .before .before .before in
+    let e = b .before .before in
+    gathered-more _ _ _ _ _ _ _ (e .before .before .before .loop .inv) (e .before .before .loop-test .taken) _ (e .before .entry-span .ensures) (e .if1 .left)
+    _ (b .before .entry-text .ensures) _ (b .text-row .ensures) _ (c .before .before .mark .ensures) _ (c .before .mark2 .ensures) _ (c .after-entry .ensures))
+    (λ c. search (gathered-end, needs)) in
+    tie.close facts

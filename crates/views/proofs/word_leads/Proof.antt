@@ -1,0 +1,17 @@
+-- `word_leads` meets its contract. Assumes nothing.
+use borrow.Author.Needs.{needs}
+use Rattle.views.proofs.NoteLaws.{named-full, leads-unnamed, leads-named}
+use Rattle.views.proofs.word_leads.Statement.{statement}
+use Rattle.views.proofs.word_leads.Tie as tie
+
+pub word-leads-spec : {M : Type 1} → statement M
+word-leads-spec =
+    let facts = tie.spec
+    (λ c κs. search needs)
+    (λ c. search (named-full, needs))
+    (λ c. search (named-full, needs))
+    (λ c. search needs)
+    (λ c κs. search needs)
+    (λ c. search (leads-named, needs))
+    (λ c. search (leads-unnamed, needs)) in
+    tie.close facts

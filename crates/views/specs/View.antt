@@ -1,0 +1,148 @@
+-- What the tables are to one request, as the code finds it: what inner contracts cite. Nothing here needs to be believed for the meaning of
+-- document 02, request 1: laws tie it to inTable and leadsPast.
+--   bitAt i m            == bit i of the word m
+--   matchesAt ts h i, deepAt ts i, pastAt ts d i == the table at the place i matches h, leads too deep, leads more than d deep
+--   namingOf, notedMatch == what notes say of a named table: whether it may be named, and whether it matches
+-- Notes are words: a bit for each table that matches the client in the first, for each that matches the server in the second, and
+-- from the third on for each that leads too deep. Where there are no notes at all, names are not judged and nothing matches.
+-- Assumes nothing: these are definitions.
+use Prim.Native.Nat.{ℕ, zero, suc, _+_, _/_, _%_, _^_, _<_}
+use mathlib.Core.Bool.{Bool, true, false, not, _&&_, _||_}
+use mathlib.Core.List.{List, []}
+use mathlib.Core.Option.{Option, none, some}
+use mathlib.Core.Path.{_≡_}
+use lib.ListN.{length, getD}
+use lib.Dec.{eqb, ltb}
+use Rattle.text.specs.Basics.{if_then_else_, holds, isEmpty, any}
+use Rattle.text.specs.Text.{firstAmong}
+use Rattle.patterns.specs.Host.{Endpoint}
+use Rattle.patterns.specs.Code.{hostMatches}
+use Rattle.tables.specs.Table.{Table, table, tableName}
+use Rattle.tables.specs.Code.{words, placeNamed}
+use Rattle.views.specs.declared.Naming.{Naming}
+use Rattle.views.specs.declared.Naming.the-variants as Naming
+use Rattle.views.specs.declared.Reference.{Reference}
+use Rattle.views.specs.declared.Row.{Row}
+use Rattle.views.specs.declared.Rows.{Rows}
+use Rattle.views.specs.declared.TableBits.{TableBits}
+
+-- ## Bits
+
+unfoldable pub bitAt : ℕ → ℕ → Bool
+bitAt i m = eqb ((m / 2 ^ i) % 2) 1
+
+-- a word whose bits below n are told by p
+unfoldable pub Marks : ℕ → ℕ → (ℕ → Bool) → Type 0
+Marks m n p = (i : ℕ) → i < n → bitAt i m ≡ p i
+
+unfoldable pub anyBelow : (ℕ → Bool) → ℕ → Bool
+anyBelow p zero = false
+anyBelow p (suc n) = p n || anyBelow p n
+
+-- ## One pass over all tables
+
+abbrev pub noTable : Table
+noTable = table [] []
+
+-- the table at the place i
+abbrev pub tableAt : List Table → ℕ → Table
+tableAt ts i = getD ts i noTable
+
+-- a name is that of the table at the place j; a pattern, the words of a text name it
+unfoldable pub isNamed : List Table → List ℕ → ℕ → Bool
+isNamed ts n j = holds (eqb j) (placeNamed ts n)
+
+unfoldable pub wordNames : List Table → List ℕ → ℕ → Bool
+wordNames ts w j = holds (λ n. isNamed ts n j) (tableName w)
+
+unfoldable pub wordsName : List Table → List (List ℕ) → ℕ → Bool
+wordsName ts ws j = any (λ w. wordNames ts w j) ws
+
+abbrev pub textNames : List Table → List ℕ → ℕ → Bool
+textNames ts t j = wordsName ts (words t) j
+
+-- a pattern that names no table matches h
+abbrev pub isOwn : Endpoint → List ℕ → Bool
+isOwn h w = not (firstAmong "/" w) && hostMatches w h
+
+abbrev pub ownMatch : Endpoint → List ℕ → Bool
+ownMatch h t = any (isOwn h) (words t)
+
+-- what is reached d deep: at the start what start says, then what own says or what a table names that is reached one less deep
+unfoldable pub reached : (ℕ → ℕ → Bool) → (ℕ → Bool) → (ℕ → Bool) → ℕ → ℕ → Bool
+reached names own start zero i = start i
+reached names own start (suc d) i = own i || anyBelow (λ j. names i j && reached names own start d j) 64
+
+-- the tables that match a host, and those that lead too deep, by their places
+abbrev pub matchesAt : List Table → Endpoint → ℕ → Bool
+matchesAt ts h i =
+    reached (λ k j. textNames ts (tableAt ts k .text) j) (λ k. ownMatch h (tableAt ts k .text)) (λ k. false) 4 i
+
+abbrev pub deepAt : List Table → ℕ → Bool
+deepAt ts i = reached (λ k j. textNames ts (tableAt ts k .text) j) (λ k. false) (λ k. true) 4 i
+
+-- what the words of a text give as a row
+pub record RowOf (ts : List Table) (client server : Endpoint) (ws : List (List ℕ)) (r : Row) : Type 0 where
+  pub row-names : Marks (r .names) 64 (wordsName ts ws)
+  pub row-client : r .client ≡ any (isOwn client) ws
+  pub row-server : r .server ≡ any (isOwn server) ws
+
+pub record RowsOf (ts : List Table) (client server : Endpoint) (r : Rows) : Type 0 where
+  pub rows-names : (i : ℕ) → i < length ts → Marks (getD (r .names) i 0) 64 (textNames ts (tableAt ts i .text))
+  pub rows-client : Marks (r .client) (length ts) (λ i. ownMatch client (tableAt ts i .text))
+  pub rows-server : Marks (r .server) (length ts) (λ i. ownMatch server (tableAt ts i .text))
+
+pub record Viewed (ts : List Table) (client server : Endpoint) (v : TableBits) : Type 0 where
+  pub view-client : Marks (v .client) (length ts) (matchesAt ts client)
+  pub view-server : Marks (v .server) (length ts) (matchesAt ts server)
+  pub view-deep : Marks (v .deep) (length ts) (deepAt ts)
+
+-- a name is of a table of which p holds; a pattern, a text, names one
+unfoldable pub nameLeads : List Table → (ℕ → Bool) → List ℕ → Bool
+nameLeads ts p n = holds p (placeNamed ts n)
+
+unfoldable pub wordLeads : List Table → (ℕ → Bool) → List ℕ → Bool
+wordLeads ts p w = holds (nameLeads ts p) (tableName w)
+
+unfoldable pub textLeads : List Table → (ℕ → Bool) → List ℕ → Bool
+textLeads ts p t = any (wordLeads ts p) (words t)
+
+-- a table leads more than d deep; a name that is missing leads nowhere
+unfoldable pub pastAt : List Table → ℕ → ℕ → Bool
+pastAt ts zero i = true
+pastAt ts (suc d) i = textLeads ts (pastAt ts d) (tableAt ts i .text)
+
+-- ## Notes
+
+-- the notes mark the table at the place i as too deep
+unfoldable pub isDeep : List ℕ → ℕ → Bool
+isDeep notes i = bitAt (i % 64) (getD notes (2 + i / 64) 0)
+
+-- q marks just the tables that name one that p marks
+unfoldable pub Above : List Table → (ℕ → Bool) → (ℕ → Bool) → Type 0
+Above ts p q = (i : ℕ) → i < length ts → q i ≡ textLeads ts p (tableAt ts i .text)
+
+-- the notes mark just the tables that lead more than d deep
+unfoldable pub Deep : List Table → ℕ → List ℕ → Type 0
+Deep ts d notes = (i : ℕ) → i < length ts → isDeep notes i ≡ pastAt ts d i
+
+-- what the notes say of the table at the place i
+abbrev pub namingAt : List ℕ → ℕ → Naming
+namingAt notes i = if isDeep notes i then Naming.Deep else Naming.Sound
+
+abbrev pub placedNaming : List ℕ → Option ℕ → Naming
+placedNaming notes none = Naming.Missing
+placedNaming notes (some i) = namingAt notes i
+
+unfoldable pub namingOf : List Table → List ℕ → List ℕ → Naming
+namingOf ts notes n = if isEmpty notes then Naming.Sound else placedNaming notes (placeNamed ts n)
+
+-- the word k of the notes marks the table at the place i
+abbrev pub markedAt : ℕ → List ℕ → ℕ → Bool
+markedAt k notes i = ltb i 64 && bitAt i (getD notes k 0)
+
+unfoldable pub notedMatch : ℕ → List Table → List ℕ → List ℕ → Bool
+notedMatch k ts notes n = holds (markedAt k notes) (placeNamed ts n)
+
+unfoldable pub referenceOf : ℕ → List Table → List ℕ → List ℕ → Reference
+referenceOf k ts notes n = record { naming = namingOf ts notes n; matches = notedMatch k ts notes n }
