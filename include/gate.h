@@ -1,4 +1,4 @@
-/* The access gate for C: verdicts, port decisions, station sheets, command expansion and addresses.
+/* The access gate for C: verdicts, port decisions, authbind's order, station sheets, command expansion and addresses.
  *
  * Linking: libgate.a is a static archive; there is no shared library. From the C library it needs memcpy and memset, and nothing
  * else. It allocates nothing and keeps nothing between calls, so any thread may call any function at any time, with GATE_STACK bytes
@@ -38,7 +38,7 @@
 extern "C" {
 #endif
 
-#define GATE_VERSION "3.0.0"
+#define GATE_VERSION "3.1.0"
 
 /* Numbers: of an answer, or of a refusal. */
 enum gate_number {
@@ -59,7 +59,9 @@ enum gate_number {
     GATE_NO_ROOM = 14,         /* the whole output is longer than out_len */
     GATE_TABLE_NAME = 15,      /* a table's name is missing, in a rule or in a table, or given twice */
     GATE_TOO_DEEP = 16,        /* a rule leads more than four tables deep */
-    GATE_BAD_TABLE = 17        /* any other fault of the tables, their limits included */
+    GATE_BAD_TABLE = 17,       /* any other fault of the tables, their limits included */
+    GATE_DOTTED_ADDRESS = 18,  /* an IPv6 address that inet_ntop may write with dots; by gate_authbind */
+    GATE_LATE_ANSWER = 19      /* an answer after the one that settles the matter, or after the last test; by gate_authbind */
 };
 
 /* Sections. A sheet has the five in this order: four texts, each behind its count of bytes in four bytes, and the tables, whose own counts
@@ -98,6 +100,7 @@ enum gate_section {
  * directives, each of two bytes, none writes more than %c (user@name) and %s (daemon@name): so 1,023 times 64 + 1 + 255, and the one
  * byte left over. */
 #define GATE_ADDRESS_ROOM 39
+#define GATE_AUTHBIND_ROOM 66 /* for a name of gate_authbind: /etc/authbind/byaddr/!, an address, a comma and a port of four digits */
 #define GATE_EXPANSION_ROOM (GATE_LINE_LIMIT / 2 * (GATE_USER_LIMIT + 1 + GATE_NAME_LIMIT) + GATE_LINE_LIMIT % 2)
 
 /* The stack that any call needs, in bytes, with a margin; the caller's own frames come on top. On x86-64 the most is some 101,700, by the
@@ -112,12 +115,14 @@ enum gate_section {
 /* Words of a decision. */
 enum gate_word {
     GATE_NO_WORD = 0, /* refused */
-    GATE_GRANTED = 1, /* by all three decisions */
-    GATE_DENIED = 2,  /* by a verdict and by portacl */
+    GATE_GRANTED = 1, /* by all three decisions, and by gate_authbind */
+    GATE_DENIED = 2,  /* by a verdict, by portacl and by gate_authbind */
     GATE_ASK = 3,     /* by a verdict: fetch the user, then call again */
     GATE_NO_LINE = 4, /* by byuid: no line grants */
-    GATE_NOT_RULED = 5, /* by byuid and portacl */
-    GATE_EXEMPT = 6   /* by portacl */
+    GATE_NOT_RULED = 5, /* by byuid and portacl, and by gate_authbind */
+    GATE_EXEMPT = 6,  /* by portacl */
+    GATE_TEST = 7,    /* by gate_authbind: test the file whose name was written */
+    GATE_READ = 8     /* by gate_authbind: read the byuid file whose name was written */
 };
 
 /* What is known of a host's name. */
@@ -146,6 +151,13 @@ enum gate_kind {
 enum gate_mark {
     GATE_PLAIN_FILE = 0, /* grants ports 1 to 511 only; the byuid section of a sheet is this one */
     GATE_MARKED_FILE = 1 /* with a ! before its leaf name: grants ports 512 to 1023 only */
+};
+
+/* What an access test found: a byte of gate_authbind's answers. */
+enum gate_access {
+    GATE_ABSENT = 0,  /* the file does not exist: ENOENT */
+    GATE_ALLOWED = 1, /* access(2) allows it to be executed */
+    GATE_OTHER = 2    /* anything else: authbind refuses the bind */
 };
 
 /* Protocols of a bind, as IP numbers them. */
@@ -185,6 +197,14 @@ struct gate_written {
     uint32_t number, section;
     uint64_t line;
     uint64_t count; /* bytes written */
+};
+
+/* What comes next in authbind's order. */
+struct gate_next {
+    uint32_t number, section;
+    uint64_t line;
+    uint32_t word;  /* GATE_TEST, GATE_READ, GATE_GRANTED, GATE_DENIED or GATE_NOT_RULED */
+    uint64_t count; /* bytes of the name written; 0 at an outcome */
 };
 
 /* Where the five texts stand in an accepted sheet; the fifth is the whole section of the tables, its count included. */
@@ -264,6 +284,15 @@ struct gate_answer gate_byuid(const uint8_t *text, size_t text_len, uint32_t mar
 /* The same by a sheet, whose byuid section is the plain file: it grants no port over 511. */
 struct gate_answer gate_sheet_byuid(const uint8_t *sheet, size_t sheet_len, uint32_t port, uint32_t kind, uint64_t high,
                                     uint64_t low, uint32_t uid);
+
+/* Which file authbind(1) looks at next, where uid binds this port (0 to 65535) at this address: answers has a byte for each access test so
+ * far (enum gate_access), none at first. GATE_TEST: test the file whose name is written to out, by access(2) for X_OK, and call again with
+ * its answer behind the others. GATE_READ: no test settled it; read the byuid file whose name is written, and ask gate_byuid, which takes
+ * GATE_MARKED_FILE for ports 512 to 1023. GATE_GRANTED and GATE_DENIED: the last answer settled it. GATE_NOT_RULED: root, or a port outside 1
+ * to 1023. An unknown address or an answer of no kind is refused by 13; then 18, 19 and 14. GATE_AUTHBIND_ROOM bytes are always room
+ * enough; an outcome needs none. */
+struct gate_next gate_authbind(uint8_t *out, size_t out_len, uint32_t port, uint32_t kind, uint64_t high, uint64_t low, uint32_t uid,
+                               const uint8_t *answers, size_t answers_len);
 
 /* May uid, with at most 16 groups, bind this port (0 to 65535), by mac_portacl(4)'s rules and its four settings: GATE_GRANTED,
  * GATE_DENIED, GATE_EXEMPT or GATE_NOT_RULED. groups_len counts groups, not bytes. */
@@ -509,6 +538,12 @@ static inline struct gate_answer gate_sheet_byuid_for(const void *sheet, size_t 
     return gate_sheet_byuid(gate_bytes(sheet, sheet_len), sheet_len, port, at->kind, at->high, at->low, uid);
 }
 
+/* gate_authbind at a host's address; its name is not looked at. */
+static inline struct gate_next gate_authbind_for(void *out, size_t out_len, const struct gate_host *at, uint32_t port, uint32_t uid,
+                                                 const uint8_t *answers, size_t answers_len) {
+    return gate_authbind((uint8_t *)out, out_len, port, at->kind, at->high, at->low, uid, gate_bytes(answers, answers_len), answers_len);
+}
+
 /* The settings that mac_portacl(4) starts with. */
 static inline struct gate_settings gate_settings_default(void) {
     struct gate_settings settings;
@@ -560,6 +595,8 @@ static inline const char *gate_number_text(uint32_t number) {
     case GATE_TABLE_NAME: return "no table of this name, or two";
     case GATE_TOO_DEEP: return "a rule leads more than four tables deep";
     case GATE_BAD_TABLE: return "a table at fault, or the tables over their limits";
+    case GATE_DOTTED_ADDRESS: return "an IPv6 address that may be written with dots";
+    case GATE_LATE_ANSWER: return "an answer after the matter was settled";
     default: return "no such number";
     }
 }
@@ -574,6 +611,8 @@ static inline const char *gate_word_text(uint32_t word) {
     case GATE_NO_LINE: return "no line";
     case GATE_NOT_RULED: return "not ruled";
     case GATE_EXEMPT: return "exempt";
+    case GATE_TEST: return "test";
+    case GATE_READ: return "read";
     default: return "no such word";
     }
 }

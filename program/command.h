@@ -23,7 +23,7 @@ struct command {
     enum status (*run)(const struct arguments *);
 };
 
-extern const struct command check_command, match_command, byuid_command, portacl_command, pack_command, unpack_command, fleet_command,
-    upgrade_command, explain_command, test_command;
+extern const struct command check_command, match_command, byuid_command, portacl_command, authbind_command, pack_command, unpack_command,
+    fleet_command, upgrade_command, explain_command, test_command;
 
 #endif

@@ -72,7 +72,17 @@ static const struct {
      "tables, or over 12288 bytes of them, with their names and counts. Section is 5, and the line is the number of the table, 0 of the limits. A "
      "table has no EXCEPT, no users, no commas and no comments.",
      "a table", "van7.example, van8.example", "Write hosts alone, parted by blanks, tabs and newlines."},
+    [18] = {"In authbind's order an IPv6 address is left out whose text may have dots: its first 80 bits are zero and the next 16 ones, or its first "
+            "96 are zero and its seventh group is not. Nobody can say which name authbind tests for it.",
+            "a bind", "::ffff:10.20.1.2, port 80", "Ask for the IPv4 address itself: 10.20.1.2."},
+    [19] = {"In authbind's order an answer was given after the one that settled the matter, or after the last test before byuid.", "a call of the library",
+            "gate_authbind with the answers allowed, absent", "Stop at the first answer that is not absent, and read the byuid file after the last test."},
 };
+
+/* Whether the gate gives this number. */
+static bool is_number(uint32_t number) {
+    return number < sizeof numbers / sizeof *numbers && numbers[number].meaning;
+}
 
 #define NUMBERS ((uint32_t)(sizeof numbers / sizeof *numbers))
 
@@ -99,14 +109,20 @@ static void show_number(uint32_t number) {
 }
 
 static void show_all(void) {
-    for (uint32_t number = 0; number < NUMBERS; number++)
-        printf("%2u  %s\n", (unsigned)number, gate_number_text(number));
+    for (uint32_t number = 0; number < NUMBERS; number++) {
+        if (is_number(number))
+            printf("%2u  %s\n", (unsigned)number, gate_number_text(number));
+    }
 }
 
 static enum status run(const struct arguments *arguments) {
     uint32_t number = 0;
     if (arguments->operands && !read_number("gate", "number of the gate", arguments->operand[0], NUMBERS - 1, &number))
         return STATUS_FAILED;
+    if (!is_number(number)) {
+        complain("gate", "%u: not a number of the gate: gate explain lists them", (unsigned)number);
+        return STATUS_FAILED;
+    }
     if (arguments->option[QUIET])
         return STATUS_YES;
     if (arguments->operands)

@@ -12,7 +12,7 @@ struct text {
 };
 
 static struct lent {
-    struct text allow, deny, byuid, portacl, tables, sheet, old_sheet, command, address, daemon, client_name, server_name, user_name;
+    struct text allow, deny, byuid, portacl, tables, sheet, old_sheet, command, address, daemon, client_name, server_name, user_name, answers;
     uint32_t groups[2];
     uint8_t out[160];
 } m, expected, after;
@@ -62,6 +62,7 @@ static void begin(void) {
     SET(client_name, "van7");
     SET(server_name, "");
     SET(user_name, "a;b");
+    SET(answers, "\0\0");
     m.groups[0] = 20;
     m.groups[1] = 21;
 }
@@ -346,9 +347,46 @@ static void addresses(void) {
     expect("no address", a.number == GATE_BAD_REQUEST && a.section == 0 && a.line == 0 && a.kind == GATE_NO_ADDRESS && !(a.high | a.low) && untouched());
 }
 
+/* A word, and the name written. */
+static int next_is(struct gate_next n, uint32_t w, const char *name) {
+    return n.number == GATE_ANSWERED && n.section == 0 && n.line == 0 && n.word == w && n.count == strlen(name) && holds(name, strlen(name));
+}
+
+static int next_refused(struct gate_next n, uint32_t number) {
+    return n.number == number && n.section == 0 && n.line == 0 && n.word == GATE_NO_WORD && n.count == 0 && untouched();
+}
+
+/* uid 432 at authbind(1)'s address */
+#define AUTHBIND(room, port) gate_authbind(OUT(room), port, GATE_IPV6, 0x26200106e002f00f, 0x21, 432, TEXT(answers))
+
+static void authbind(void) {
+    begin(), lend();
+    expect("the third test in exact room", next_is(AUTHBIND(51, 80), GATE_TEST, "/etc/authbind/byaddr/2620:106:e002:f00f:0:0:0:21,80"));
+    begin(), lend();
+    expect("one byte less for it", next_refused(AUTHBIND(50, 80), GATE_NO_ROOM));
+    expect("a port that is not ruled", next_is(AUTHBIND(0, 1024), GATE_NOT_RULED, ""));
+    expect("a port over 65535", next_refused(AUTHBIND(100, 65536), GATE_BAD_REQUEST));
+    expect("an unknown address", next_refused(gate_authbind(OUT(100), 80, 0, 0, 0, 432, TEXT(answers)), GATE_BAD_REQUEST));
+    expect("an address with dots", next_refused(gate_authbind(OUT(0), 80, GATE_IPV6, 0, 0xffff0a000001, 432, TEXT(answers)), GATE_DOTTED_ADDRESS));
+    SET(answers, "\0\0\0"), lend();
+    expect("byuid with its mark", next_is(AUTHBIND(100, 512), GATE_READ, "/etc/authbind/byuid/!432"));
+    begin();
+    SET(answers, "\0\0\0\0"), lend();
+    expect("an answer after the last test", next_refused(AUTHBIND(0, 80), GATE_LATE_ANSWER));
+    SET(answers, "\0\1"), lend();
+    expect("allowed, in no room", next_is(AUTHBIND(0, 80), GATE_GRANTED, ""));
+    SET(answers, "\2"), lend();
+    expect("other", next_is(AUTHBIND(100, 80), GATE_DENIED, ""));
+    SET(answers, "\2\0"), lend();
+    expect("an answer after the one that settles", next_refused(AUTHBIND(100, 80), GATE_LATE_ANSWER));
+    SET(answers, "\2\3"), lend();
+    expect("an answer of no kind", next_refused(AUTHBIND(0, 1024), GATE_BAD_REQUEST));
+}
+
 /* What a refused text is read as is refused wherever an address is taken. */
 static void no_address(void) {
     begin(), lend();
+    expect("no address for authbind", next_refused(gate_authbind(OUT(100), 80, GATE_NO_ADDRESS, 0, 0, 432, TEXT(answers)), GATE_BAD_REQUEST));
     expect("no address to write", unwritten(gate_write_address(OUT(100), GATE_NO_ADDRESS, 0, 0), GATE_BAD_REQUEST, 0, 0));
     expect("no address to bind", refused(gate_byuid(TEXT(byuid), GATE_PLAIN_FILE, 80, GATE_NO_ADDRESS, 0, 0, 432), GATE_BAD_REQUEST, 0, 0));
     expect("the same by a sheet", refused(gate_sheet_byuid(TEXT(sheet), 80, GATE_NO_ADDRESS, 0, 0, 432), GATE_BAD_REQUEST, 0, 0));
@@ -365,7 +403,7 @@ static void no_address(void) {
 }
 
 /* What is handed over in each position that takes bytes or groups. */
-enum position { ALLOW, DENY, BYUID, PORTACL, TABLES, SHEET, OLD_SHEET, GIVEN_COMMAND, ADDRESS, DAEMON, CLIENT_NAME, SERVER_NAME, USER_NAME, LENT_OUT, LENT_GROUPS, POSITIONS };
+enum position { ALLOW, DENY, BYUID, PORTACL, TABLES, SHEET, OLD_SHEET, GIVEN_COMMAND, ADDRESS, DAEMON, CLIENT_NAME, SERVER_NAME, USER_NAME, ANSWERS, LENT_OUT, LENT_GROUPS, POSITIONS };
 static struct {
     const void *start;
     size_t len;
@@ -377,15 +415,16 @@ static struct answers {
     struct gate_checked check;
     struct gate_parts parts;
     struct gate_written packed, upgraded, expanded, written;
+    struct gate_next next;
     uint64_t address[3];
 } here, null;
 
 static void give_all(void) {
     const struct text *t[] = {&m.allow, &m.deny, &m.byuid, &m.portacl, &m.tables, &m.sheet, &m.old_sheet, &m.command, &m.address, &m.daemon,
-                              &m.client_name, &m.server_name, &m.user_name};
+                              &m.client_name, &m.server_name, &m.user_name, &m.answers};
     begin();
     SET(server_name, "station");
-    for (int i = ALLOW; i <= USER_NAME; i++)
+    for (int i = ALLOW; i <= ANSWERS; i++)
         given[i].start = t[i]->bytes, given[i].len = t[i]->len;
     given[LENT_OUT].start = m.out, given[LENT_OUT].len = sizeof m.out;
     given[LENT_GROUPS].start = m.groups, given[LENT_GROUPS].len = 2;
@@ -415,6 +454,7 @@ static void call_all(struct answers *a, uint32_t state) {
     a->upgraded = gate_upgrade(GIVEN_OUT, GIVEN(OLD_SHEET));
     a->expanded = gate_expand(GIVEN_OUT, GIVEN(GIVEN_COMMAND), GIVEN_REQUEST(state), 7);
     a->written = gate_write_address(GIVEN_OUT, read.kind, read.high, read.low);
+    a->next = gate_authbind(GIVEN_OUT, 80, read.kind, read.high, read.low, 432, GIVEN(ANSWERS));
     a->address[0] = read.number, a->address[1] = read.high, a->address[2] = read.low;
 }
 
@@ -465,6 +505,7 @@ static void null_answers(void) {
     expect("no room for a rule's command", without(LENT_OUT, 2)->command.number == GATE_NO_ROOM && null.sheet_command.number == GATE_NO_ROOM &&
            null.verdict.word == GATE_GRANTED);
     expect("no room is enough for none", without(LENT_OUT, 1)->command.word == GATE_DENIED && null.sheet_command.word == GATE_DENIED);
+    expect("no answers", without(ANSWERS, 1)->next.word == GATE_TEST && null.next.count == 23 && without(LENT_OUT, 1)->next.number == GATE_NO_ROOM);
     expect("no command", without(GIVEN_COMMAND, 1)->expanded.number == GATE_ANSWERED && null.expanded.count == 0);
     expect("no address", without(ADDRESS, 1)->address[0] == GATE_BAD_REQUEST && null.written.number == GATE_BAD_REQUEST);
 }
@@ -482,6 +523,9 @@ static void rooms(void) {
     expect("the longest expansion", LONGEST(sizeof out).count == sizeof out && out[0] == 'u' && out[sizeof out - 1] == 'x');
     expect("one byte less", LONGEST(sizeof out - 1).number == GATE_NO_ROOM);
 #undef LONGEST
+    uint8_t absent[3] = {0};
+    expect("the longest name of authbind", gate_authbind(out, GATE_AUTHBIND_ROOM, 1023, GATE_IPV6, UINT64_MAX, UINT64_MAX, UINT32_MAX, absent, 1).count
+           == GATE_AUTHBIND_ROOM);
     expect("the longest address", gate_write_address(out, GATE_ADDRESS_ROOM, GATE_IPV6, UINT64_MAX, UINT64_MAX).count == GATE_ADDRESS_ROOM);
 }
 
@@ -546,6 +590,7 @@ int main(void) {
     sheets();
     expansion();
     addresses();
+    authbind();
     no_address();
     nulls();
     null_answers();

@@ -13,7 +13,7 @@ import reference as ref
 from reference import BAD
 
 U8P, SIZE, U32, U64 = ctypes.c_char_p, ctypes.c_size_t, ctypes.c_uint32, ctypes.c_uint64
-WORDS = {0: None, 1: "granted", 2: "denied", 3: "ask", 4: "no line", 5: "not ruled", 6: "exempt"}
+WORDS = {0: None, 1: "granted", 2: "denied", 3: "ask", 4: "no line", 5: "not ruled", 6: "exempt", 7: "test", 8: "read"}
 PARTS = ("allow", "deny", "byuid", "portacl", "tables")
 NO_ADDRESS = 255
 
@@ -27,6 +27,7 @@ Answer = struct(word=U32, file=U32, place=U64, len=U64)
 Command = struct(word=U32, file=U32, place=U64, len=U64, count=U64)
 Check = struct()
 Written = struct(count=U64)
+Next = struct(word=U32, count=U64)
 Parts = struct(**{f"{part}_{what}": U64 for part in PARTS for what in ("place", "len")})
 Address = struct(kind=U32, high=U64, low=U64)
 
@@ -43,6 +44,7 @@ def load(path):
             ("command", out + text * 2 + request + [U32], Command), ("sheet_command", out + text + request + [U32], Command),
             ("byuid", text + [U32] + bind, Answer), ("sheet_byuid", text + bind, Answer),
             ("portacl", portacl, Answer), ("sheet_portacl", portacl, Answer),
+            ("authbind", out + bind + text, Next),
             ("check", text, Check), ("unpack", text, Parts), ("pack", out + text * 5, Written), ("upgrade", out + text, Written),
             ("expand", out + text + request + [U32], Written),
             ("read_address", text, Address), ("write_address", out + [U32, U64, U64], Written)):
@@ -139,6 +141,20 @@ def byuid(rng, call, text, mark, port, address, uid):
 
 def sheet_byuid(rng, call, sheet, port, address, uid):
     return word(call(*sized(sheet), port_arg(rng, port), *address_args(rng, address), uid))
+
+
+def authbind(rng, room, call, port, address, uid, answers):
+    """the word, and the name written"""
+    kinds = {"absent": [0], "allowed": [1], "other": [2], BAD: [3, 4, 127, 128, 255]}
+    given, words = bytes(rng.choice(kinds[answer]) for answer in answers), []
+
+    def kept(*arguments):
+        a = call(*arguments)
+        words.append(WORDS[a.word] if not (a.section or a.line) or a.number else ("an answer with a place", a.section, a.line))
+        return a
+
+    out = written(rng, room, kept, port_arg(rng, port), *address_args(rng, address), uid, *sized(given))
+    return (words[0], out) if isinstance(out, bytes) else out
 
 
 def portacl(rng, call, text, settings, uid, groups, protocol, port):
@@ -591,6 +607,7 @@ KINDS = {
     "command": VERDICTS | FILES | {"2", "14", "15"}, "sheet_command": VERDICTS | SHEET | {"14"},
     "verdict": VERDICTS | FILES | {"2", "15"}, "tables_verdict": VERDICTS | FILES | TABLES | {"1", "2", "3"}, "byuid": BYUID | {"2"}, "portacl": PORTACL | {"2", "12"},
     "sheet_verdict": VERDICTS | SHEET, "sheet_byuid": BYUID | SHEET, "sheet_portacl": PORTACL | SHEET,
+    "authbind": {"test", "read", "granted", "denied", "not ruled", "13", "14", "18", "19"},
     "check": SHEET | {"sheet ok"}, "unpack": SHEET | {"answered"}, "pack": {"answered", "14"} | SHEET,
     "upgrade": {"answered", "1", "2", "3", "14"},
     "expand": {"answered", "5", "6", "11", "13", "14"},
@@ -718,6 +735,20 @@ def main():
         port = BAD if rng.random() < 0.02 else rng.choice([0, 1, 80, 80, 80, 80, 511, 512, 512, 1023, 1024])
         return port, address, rng.choice([0, 1, 432, 432, 432])
 
+    def authbind_case():
+        """addresses with few groups that are not zero, about those left out; answers that mostly go on"""
+        groups = [rng.choice([0, 0, 0, 0, 1, 0x10, 0xfffe, 0xffff]) for _ in range(8)]
+        low = sum(group << 16 * place for place, group in enumerate(groups[:rng.choice([1, 2, 3, 4, 8, 8])]))
+        address = rng.choice([address_of(rng), ("4", rng.choice(SMALL)), ("6", low), ("6", low), ("6", 0xffff << 32 | low % 2 ** 32)])
+        port, _, uid = byuid_request()
+        uid = rng.choice([uid, 2 ** 32 - 1, rng.getrandbits(32)])
+        answers = ["absent"] * rng.choice([0, 1, 2, 2, 3, 3, 4])
+        answers += rng.choice([[]] * 4 + [["allowed"], ["other"], ["allowed", "absent"], ["other", "allowed"], [BAD]])
+        case = port, address, uid, answers
+        result = ref.authbind(*case, 1 << 32)
+        room = room_for(rng, result if ref.refused(result) else result[1])
+        compare("authbind", authbind(rng, room, lib.gate_authbind, *case), ref.authbind(*case, room), case, room)
+
     def portacl_request():
         settings = dict(enabled=rng.choice([0, 1, 1, 1, 2]), port_high=rng.choice([0, 79, 80, 1023, 1023, 65535, 2 ** 32 - 1]),
                         suser_exempt=rng.choice([0, 1, 7]), autoport_exempt=rng.choice([0, 1, 7]))
@@ -776,6 +807,7 @@ def main():
         prefix_cases()
         mapped_cases()
         port_cases()
+        authbind_case()
         sheet_cases()
         expand_case()
         address_cases()

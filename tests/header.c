@@ -219,6 +219,9 @@ static void ports(void) {
            gate_byuid_for(upper, sizeof upper - 1, GATE_MARKED_FILE, &at, 600, 432).word == GATE_GRANTED &&
            gate_byuid_for(upper, sizeof upper - 1, GATE_PLAIN_FILE, &at, 600, 432).word == GATE_NO_LINE &&
            gate_byuid_for(upper, sizeof upper - 1, 2, &at, 600, 432).number == GATE_BAD_REQUEST);
+    uint8_t name[GATE_AUTHBIND_ROOM];
+    expect("authbind", gate_authbind_for(name, sizeof name, &at, 80, 432, NULL, 0).word == GATE_TEST &&
+           gate_authbind_for(NULL, 0, &at, 80, 432, NULL, 0).number == GATE_NO_ROOM && !memcmp(name, "/etc/authbind/byport/80", 23));
     expect("portacl", gate_portacl_for(portacl, sizeof portacl - 1, &settings, &bind).word == GATE_GRANTED &&
            gate_sheet_portacl_for(sheet, sheet_len, &settings, &bind).word == GATE_GRANTED &&
            gate_portacl_for(NULL, 0, &settings, &bind).word == GATE_DENIED);
@@ -273,8 +276,8 @@ int main(void) {
     commands();
     ports();
     settings();
-    expect("texts of the numbers", texts(gate_number_text, GATE_BAD_TABLE) && !strcmp(gate_number_text(10), "no element kind fits"));
-    expect("texts of the words", texts(gate_word_text, GATE_EXEMPT) && !strcmp(gate_word_text(GATE_NOT_RULED), "not ruled"));
+    expect("texts of the numbers", texts(gate_number_text, GATE_LATE_ANSWER) && !strcmp(gate_number_text(10), "no element kind fits"));
+    expect("texts of the words", texts(gate_word_text, GATE_READ) && !strcmp(gate_word_text(GATE_NOT_RULED), "not ruled"));
     expect("texts of the sections", texts(gate_section_text, GATE_TABLES) && !strcmp(gate_section_text(GATE_BYUID), "byuid"));
     if (!failed)
         printf("header: inline calls as expected\n");

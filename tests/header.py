@@ -23,7 +23,8 @@ ANSWERS, REQUESTS = "crates/codes/specs/Answers.antt", "crates/codes/specs/Reque
 FIELDS, LINES, GROUPS = "crates/elements/specs/Request.antt", "crates/lines/specs/Line.antt", "crates/portacl/specs/Portacl.antt"
 TABLES = "crates/tables/specs/Table.antt"
 CALLERS = {"tests/calls.c": "gate_%s(", "tests/stack.c": '"gate_%s"', "tests/differential.py": '("%s",'}
-FILES = [HEADER, EXPORTS, STRUCTS, FAULTS, SECTIONS, ANSWERS, REQUESTS, FIELDS, LINES, GROUPS, TABLES]
+ORDER = "crates/authbind/specs/Authbind.antt"
+FILES = [HEADER, EXPORTS, STRUCTS, FAULTS, SECTIONS, ANSWERS, REQUESTS, FIELDS, LINES, GROUPS, TABLES, ORDER]
 
 SLICES = {"&[u8]": "const uint8_t *", "&mut [u8]": "uint8_t *", "&[u32]": "const uint32_t *"}
 NUMBERS = {"u32": "uint32_t", "u64": "uint64_t"}
@@ -140,6 +141,8 @@ def numbers(text):
             told["GATE_" + prefix + snake(case).upper()] = int(number)
     for case, number in kinds(text[REQUESTS], "markOf"):
         told["GATE_" + snake(case).upper() + "_FILE"] = int(number)
+    for case, number in kinds(text[ORDER], "accessOf"):
+        told["GATE_" + snake(case).upper()] = int(number)
     for case, number in kinds(text[REQUESTS], "addressOf"):
         told["GATE_" + {"Unknown": "ADDRESS_UNKNOWN", "V4": "IPV4", "V6": "IPV6"}[case]] = int(number)
     return told
@@ -158,6 +161,7 @@ def limits(text):
     found["GATE_GROUPS_LIMIT"] = constant(text[GROUPS], r"leb \(length \(b \.groups\)\) (\d+)", "the groups' limit")
     line = found["GATE_LINE_LIMIT"] = constant(text[LINES], r"isTooLong t = ltb (\d+) \(length t\)", "the line's limit")
     found["GATE_ADDRESS_ROOM"] = 8 * 4 + 7
+    found["GATE_AUTHBIND_ROOM"] = len("/etc/authbind/byaddr/!") + found["GATE_ADDRESS_ROOM"] + len(",1023")
     most = max(found["GATE_DAEMON_LIMIT"], found["GATE_USER_LIMIT"]) + 1 + found["GATE_NAME_LIMIT"]
     found["GATE_EXPANSION_ROOM"] = line // 2 * most + line % 2
     return found
@@ -236,7 +240,7 @@ def check(text, folder):
 # An edit of one file each, after which header and sources disagree
 PLANTED = [
     (HEADER, "struct gate_checked gate_check(", "struct gate_checked gate_checks("),
-    (HEADER, "uint32_t uid);\n\n/* May uid, with", "uint32_t uid, uint32_t gid);\n\n/* May uid, with"),
+    (HEADER, "uint32_t uid);\n\n/* Which file", "uint32_t uid, uint32_t gid);\n\n/* Which file"),
     (HEADER, "uint64_t high, uint64_t low);", "uint64_t low, uint64_t high);"),
     (HEADER, "uint32_t client_state, uint32_t client_kind", "uint32_t server_state, uint32_t client_kind"),
     (HEADER, "uint32_t kind, uint64_t high,", "uint32_t kind, uint32_t high,"),
@@ -250,13 +254,18 @@ PLANTED = [
     (HEADER, "size_t portacl_len, const uint8_t *tables, size_t tables_len);", "size_t portacl_len);"),
     (HEADER, "const uint8_t *tables, size_t tables_len,\n", "const uint8_t *table, size_t table_len,\n"),
     (HEADER, "struct gate_written gate_upgrade(", "struct gate_written gate_update("),
-    (HEADER, "GATE_CUT_SHORT = 1, ", "GATE_CUT_SHORT = 18, "),
-    (HEADER, "GATE_BAD_TABLE = 17 ", "GATE_BAD_TABLE = 17, GATE_LATER = 18 "),
-    (HEADER, "GATE_TOO_DEEP = 16,", "GATE_TOO_DEEP = 19,"),
+    (HEADER, "GATE_CUT_SHORT = 1, ", "GATE_CUT_SHORT = 20, "),
+        (HEADER, "GATE_TOO_DEEP = 16,", "GATE_TOO_DEEP = 20,"),
     (HEADER, "GATE_TABLES = 5", "GATE_TABLES = 6"),
     (HEADER, "GATE_TABLES_LIMIT 12288", "GATE_TABLES_LIMIT 12289"),
     (HEADER, "GATE_TABLES_COUNT 64", "GATE_TABLES_COUNT 65"),
     (HEADER, "GATE_TABLE_NAME_LIMIT 64", "GATE_TABLE_NAME_LIMIT 255"),
+    (HEADER, "GATE_LATE_ANSWER = 19 ", "GATE_LATE_ANSWER = 20 "),
+    (HEADER, "GATE_ALLOWED = 1,", "GATE_ALLOWED = 3,"),
+    (HEADER, "GATE_AUTHBIND_ROOM 66", "GATE_AUTHBIND_ROOM 65"),
+    (HEADER, "    uint32_t word;  /* GATE_TEST", "    uint64_t word;  /* GATE_TEST"),
+    (ORDER, "given (eqb n 2) Other", "given (eqb n 3) Other"),
+    (ANSWERS, 'word "read" 8', 'word "read" 9'),
     (HEADER, "GATE_ASK = 3,", "GATE_ASK = 7,"),
     (HEADER, "GATE_UDP = 17", "GATE_UDP = 16"),
     (HEADER, "GATE_MARKED_FILE = 1", "GATE_MARKED_FILE = 2"),

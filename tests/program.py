@@ -34,7 +34,7 @@ TEXTS = [(TOP / "sample" / name).read_bytes() for name in NAMES]
 SHEET_LIMIT = 54288
 SHEET = ref.pack(TEXTS + [ref.NO_TABLES], SHEET_LIMIT)
 OLD_SHEET = SHEET[:-2]
-COMMANDS = ("check", "match", "byuid", "portacl", "pack", "unpack", "fleet", "upgrade", "explain", "test")
+COMMANDS = ("check", "match", "byuid", "portacl", "authbind", "pack", "unpack", "fleet", "upgrade", "explain", "test")
 PAGE = os.sysconf("SC_PAGE_SIZE")
 runs, failures, statuses, skipped = 0, [], set(), []
 
@@ -126,7 +126,10 @@ def test_misread():
     for command, cases in MISREAD.items():
         for case in cases:
             expect(f"{command} {case} is an error", gate(command, SAMPLE, *case), 2, b"", "gate: ")
-    for case in (["18"], ["x"], ["-1"], ["010"], [""], ["1", "2"], ["4294967306"]):
+    for case in ([], ["432"], ["www-data", "10.20.1.2,80"], ["432", "10.20.1.2:80"], ["432", "10.20.1.2,65536"], ["432", "10.20.1.2,080"], ["432", "unknown,80"],
+                 ["432", "[::1],80"], ["-1", "::1,80"], ["432", "::1,80", "x"], ["432", "::1,80", "--root"], ["432", "::1,80", "--marked", "x"]):
+        expect(f"authbind {case} is an error", gate("authbind", *case), 2, b"", "gate: ")
+    for case in (["20"], ["x"], ["-1"], ["010"], [""], ["1", "2"], ["4294967306"]):
         expect(f"explain {case} is an error", gate("explain", *case), 2, b"", "gate: ")
     for case in ([], ["chek"], [""], ["-q"], ["--Version"], ["--version", "x"], ["check"], ["check", SAMPLE, SAMPLE], ["pack", SAMPLE], ["unpack", "x"],
                  ["test", SAMPLE], ["fleet", SAMPLE], ["upgrade", "x"], ["fleet", FLEET, "--tables", FLEET + "/tables"], ["check", "--warning", SAMPLE], ["check", "-q", "-q", SAMPLE], ["check", "--quiet=1", SAMPLE]):
@@ -354,9 +357,46 @@ def test_marked(folder):
     expect("a missing marked file in requests", gate("test", both, requests), 2, "1 not read", "none: No such file")
 
 
+def test_authbind(folder):
+    """authbind's files in a folder of their own: each of them decides where those before it are absent"""
+    root = pathlib.Path(folder + "/root")
+
+    def ask(address, port, *options, uid="432"):
+        return gate("authbind", uid, f"{address},{port}", "--root", str(root), *options)
+
+    for address, names in (("10.20.1.2", ["10.20.1.2,%d", "10.20.1.2:%d"]), ("2001:db8::1", ["2001:db8::1,%d", "2001:db8:0:0:0:0:0:1,%d"]),
+                           ("1:2:3:4:5:6:7:8", ["1:2:3:4:5:6:7:8,%d"])):
+        for port, mark in ((80, ""), (511, ""), (512, "!"), (1023, "!")):
+            shutil.rmtree(root, ignore_errors=True)
+            for part in ("byport", "byaddr", "byuid"):
+                (root / "etc/authbind" / part).mkdir(parents=True)
+            byuid = root / f"etc/authbind/byuid/{mark}432"
+            expect("no file at all", ask(address, port), 1, f"no line\nabsent    {byuid}\n", b"")
+            byuid.write_text(f"10.0.0.0/9,1-1023\n::/0,{port}\n")
+            expect("a line of byuid", ask(address, port), 0, f"granted\nrule      {byuid}:{1 if '.' in address else 2}\n", b"")
+            expect("another port", ask(address, port - 1 if port in (511, 1023) else port + 1), 0 if "." in address else 1, None, b"")
+            for path in [root / f"etc/authbind/byaddr/{mark}{name % port}" for name in reversed(names)] + [root / f"etc/authbind/byport/{mark}{port}"]:
+                path.touch(mode=0o644)
+                expect(f"{path} denies", ask(address, port), 1, f"denied\nfile      {path}\nwhy       Permission denied\n".encode(), b"")
+                path.chmod(0o755)
+                expect(f"{path} grants", ask(address, port), 0, f"granted\nfile      {path}\n".encode(), b"")
+                expect("quiet", ask(address, port, "-q"), 0, b"", b"")
+    for what, done, status, out, err in (
+            ("root", ask("10.20.1.2", 80, uid="0"), 4, "not ruled\n", b""), ("port 1024", ask("10.20.1.2", 1024), 4, "not ruled\n", b""),
+            ("an address with dots", ask("::ffff:10.20.1.2", 80), 2, b"", "[18]"), ("the loopback", ask("::1", 80), 1, "no line\n", b"")):
+        expect(what, done, status, out, err)
+    (root / "etc/authbind/byuid/432").write_bytes(b"#" * 8193)
+    expect("a byuid file over its limit", ask("::1", 80), 2, b"", "432: refused: longer than its section may be [2]")
+    (root / "etc/authbind/byuid/432").unlink()
+    (root / "etc/authbind/byuid/432").mkdir()
+    expect("a byuid file that can't be read", ask("::1", 80), 2, b"", "Is a directory")
+    expect("a root that is too long", gate("authbind", "432", "::1,80", "--root", "x/" * 2100), 2, b"", "the path is too long")
+
+
 def test_explain(folder):
-    expect("explain lists all", gate("explain"), 0, "\n17  ", b"")
-    for number in range(18):
+    expect("explain lists all", gate("explain"), 0, "\n14  ", b"")
+    expect("explain lists the last", gate("explain"), 0, "\n19  ", b"")
+    for number in range(20):
         done = gate("explain", str(number))
         expect(f"explain {number}", done, 0, "What to do", b"")
         example = re.search(rb"Example, in (hosts.allow|portacl|a table):\n    (.*)\n", done.stdout)
@@ -1082,7 +1122,7 @@ def run_all():
     os.chmod(SCRATCH, 0o755)
     test_misread()
     test_read()
-    for test in (test_answers, test_checks, test_marked, test_explain, test_requests, test_reading, test_pack, test_unpack, test_tables, test_fleet,
+    for test in (test_answers, test_checks, test_marked, test_authbind, test_explain, test_requests, test_reading, test_pack, test_unpack, test_tables, test_fleet,
                  test_upgrade, test_faults, test_full_disk):
         with tempfile.TemporaryDirectory(dir=SCRATCH) as folder:
             test(folder)

@@ -619,6 +619,52 @@ def byuid(text, mark, port, address, uid):
     return "no line"
 
 
+# The whole authbind order (document 02, request 4)
+
+def left_out(address):
+    """"80 zero bits and then 16 ones", or "96 zero bits and a seventh group not zero" """
+    kind, n = address
+    bits = format(n, "0128b")
+    return kind == "6" and (bits[:96] == "0" * 80 + "1" * 16 or bits[:96] == "0" * 96 and bits[96:112] != "0" * 16)
+
+
+def names(port, address, uid):
+    """the names of the tests in their order, and the one of the byuid file"""
+    mark = b"!" if 512 <= port <= 1023 else b""
+
+    def name(folder, leaf):
+        return b"/etc/authbind/" + folder + b"/" + mark + leaf
+
+    text = address_text(address)
+    tests = [name(b"byport", b"%d" % port), name(b"byaddr", text + b",%d" % port)]
+    if address[0] == "4":
+        tests.append(name(b"byaddr", text + b":%d" % port))
+    else:
+        whole = b":".join(b"%x" % (address[1] >> 16 * i & 0xffff) for i in range(7, -1, -1))
+        if whole != text:
+            tests.append(name(b"byaddr", whole + b",%d" % port))
+    return tests, name(b"byuid", b"%d" % uid)
+
+
+def authbind(port, address, uid, answers, room):
+    """a refusal, or the word and the name written; answers: "absent", "allowed", "other" or BAD"""
+    if address is None or BAD in (address, port) or BAD in answers:
+        return (13, 0, 0)
+    if not 1 <= port <= 1023 or uid == 0:
+        return ("not ruled", b"")
+    if left_out(address):
+        return (18, 0, 0)
+    tests, read = names(port, address, uid)
+    for i, answer in enumerate(answers):
+        settles = answer != "absent"
+        if i == len(tests) or settles and i + 1 < len(answers):
+            return (19, 0, 0)
+        if settles:
+            return ("granted" if answer == "allowed" else "denied", b"")
+    word, name = ("test", tests[len(answers)]) if len(answers) < len(tests) else ("read", read)
+    return (14, 0, 0) if len(name) > room else (word, name)
+
+
 def entry(text):
     form = re.fullmatch(rb"(uid|gid):(%s):(tcp|udp):(%s)" % (FIELD, FIELD), text)
     if not form or int(form.group(2)) > 2 ** 32 - 1 or int(form.group(4)) > 65535:

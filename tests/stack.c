@@ -18,7 +18,7 @@ enum { PAGE = 4096, PAINT = 0xa5, BEYOND = 3 };
 
 /* In the order of `exports`; NOTHING is no call at all, and its bytes are not counted. */
 enum export { VERDICT, TABLES_VERDICT, SHEET_VERDICT, COMMAND, SHEET_COMMAND, BYUID, SHEET_BYUID, PORTACL, SHEET_PORTACL, CHECK, UNPACK, PACK, UPGRADE,
-              EXPAND, READ_ADDRESS, WRITE_ADDRESS, NOTHING };
+              EXPAND, READ_ADDRESS, WRITE_ADDRESS, AUTHBIND, NOTHING };
 
 /* For tables over all limits too. */
 enum { TABLES_ROOM = 1 << 20 };
@@ -121,6 +121,10 @@ static uint32_t upgrade(void) { return gate_upgrade(out, sizeof out, sheet, shee
 static uint32_t expand(void) { return gate_expand_for(out, sizeof out, command.bytes, command.len, &request, 4294967295u).number; }
 static uint32_t read_address(void) { return gate_read_address(address.bytes, address.len).number; }
 static uint32_t write_address(void) { return gate_host_write(out, sizeof out, &at).number; }
+static uint32_t authbind(void) {
+    static const uint8_t absent[2] = {GATE_ABSENT, GATE_ABSENT};
+    return gate_authbind_for(out, sizeof out, &at, 1023, 4294967295u, absent, at.kind == GATE_IPV4 ? 2 : 1).number;
+}
 static uint32_t nothing(void) { return 0; }
 
 static const struct {
@@ -129,7 +133,7 @@ static const struct {
 } exports[] = {{"gate_verdict", verdict}, {"gate_tables_verdict", tables_verdict}, {"gate_sheet_verdict", sheet_verdict}, {"gate_command", with_command}, {"gate_sheet_command", sheet_command},
                {"gate_byuid", by_uid}, {"gate_sheet_byuid", sheet_byuid}, {"gate_portacl", port_acl}, {"gate_sheet_portacl", sheet_portacl},
                {"gate_check", check}, {"gate_unpack", unpack}, {"gate_pack", pack}, {"gate_upgrade", upgrade}, {"gate_expand", expand}, {"gate_read_address", read_address},
-               {"gate_write_address", write_address}, {"nothing", nothing}};
+               {"gate_write_address", write_address}, {"gate_authbind", authbind}, {"nothing", nothing}};
 
 /* In the thread. */
 

@@ -146,6 +146,12 @@ def expand(*fields):
     return shown(ref.expand(command, request(*of), process, min(room, BLOCK)))
 
 
+def authbind(room, port, at, uid, answers):
+    kinds = {0: "absent", 1: "allowed", 2: "other"}
+    answer = ref.authbind(port_of(port), address(at), uid, [kinds.get(byte, BAD) for byte in answers], min(room, BLOCK))
+    return refusal(answer) if ref.refused(answer) else b" ".join([answer[0].encode()] + [answer[1]] * bool(answer[1]))
+
+
 # Each call with the kinds of its fields: t a text, n a number, N any number of numbers.
 CALLS = {
     b"verdict": ("tttttttt", lambda *f: ruling(ref.verdict(*f[6:], request(*f[:6])))),
@@ -160,6 +166,7 @@ CALLS = {
     b"pack": ("ntttttt", pack),
     b"upgrade": ("ntt", upgrade),
     b"expand": ("ttttttnnt", expand),
+    b"authbind": ("nntnt", authbind),
     b"read_address": ("t", read_address),
     b"write_address": ("nt", lambda room, text: shown(ref.write_address(address(text), min(room, BLOCK)))),
 }

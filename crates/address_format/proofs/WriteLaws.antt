@@ -1,24 +1,24 @@
 -- Laws of writing addresses: hex groups in fewest digits, groups and fields one after the other, and how long a text can be.
 -- Assumes nothing.
 use Prim.Native.Nat.{ℕ, zero, suc, _+_, _-_, _*_, _/_, _%_, _^_, _<_, _≤_}
-use mathlib.Core.Bool.{Bool, true, false}
+use mathlib.Core.Bool.{Bool, true, false, not}
 use mathlib.Core.List.{List, [], _∷_, _++_, append-assoc, append-nil}
-use mathlib.Core.Path.{_≡_, refl, sym, ap, _∙_}
+use mathlib.Core.Path.{_≡_, refl, sym, ap, subst, _∙_}
 use native.Mathlib.Numerals.{add-one}
 use native.Mathlib.Omega.{arith}
 use native.Mathlib.Nat.{mod-lt, mod-eq-of-lt, div-div-eq-div-mul, mul-add-div-right, mul-add-mod-self-right, mul-assoc, pow-zero, pow-suc, div-lt-iff-lt-mul}
-use borrow.Author.Tests.{ltb-true, ltb-false, lt-ltb, le-ltb}
-use lib.Dec.{ltb}
-use lib.ListN.{length, take, drop, getD, set, length-append, length-drop, drop-of-length-le}
-use lib.Seq.{drop-cons, take-length, length-take-le, take-paste}
-use Rattle.text.specs.Text.{bytes, intercalate}
+use borrow.Author.Tests.{ltb-true, ltb-false, leb-true, leb-false, lt-ltb, le-ltb}
+use lib.Dec.{ltb, leb}
+use lib.ListN.{length, take, drop, getD, set, length-append, length-drop, drop-of-length-le, take-append-drop}
+use lib.Seq.{drop-cons, drop-drop, take-length, length-take-le, take-paste}
+use Rattle.text.specs.Text.{bytes, equal, intercalate}
 use Rattle.text.specs.Number.{toDigits, digitByte, numeral, decimal}
 use Rattle.text.specs.Scan.{putAt, after}
 use Rattle.text.proofs.Canonical.{numeral-digit, length-numeral-below}
 use Rattle.text.proofs.Digits.{length-toDigits}
 use Rattle.text.proofs.Numeral.{length-numeral}
 use Rattle.text.proofs.PasteLaws.{length-putAt, put-first}
-use Rattle.text.proofs.ScanLaws.{take-rest}
+use Rattle.text.proofs.ScanLaws.{equal-refl, equal-lengths, take-rest}
 use Rattle.section.specs.declared.Fault.the-variants as F
 use Rattle.section.specs.declared.Refusal.{Refusal}
 use Rattle.section.specs.declared.Written.the-variants as W
@@ -232,6 +232,73 @@ module _ (d gs : List ℕ) (at : ℕ) (r : Run) (is-r : r ≡ longestRun gs) (lo
         pub run-all : (q : List ℕ) (i : ℕ) → Wrote p q (hexGroups (take (length gs - (r .place + r .len)) (drop (r .place + r .len) gs))) k i
             → Wrote d q (compress 7 gs) at i
         run-all = third-all d (compress 7 gs) before (bytes "::") behind at whole-run room o m w p k v
+
+-- ## Where `::` makes a difference
+
+colonGroups-append : (a b : List ℕ) → length (colonGroups (a ++ b)) ≡ length (colonGroups a) + length (colonGroups b)
+unfolding colonGroups
+colonGroups-append [] b = omega arith
+colonGroups-append (g ∷ gs) b = simp length-append (omega (arith, colonGroups-append gs b))
+
+colonGroups-least : (gs : List ℕ) → 2 * length gs ≤ length (colonGroups gs)
+unfolding colonGroups
+colonGroups-least [] = omega arith
+colonGroups-least (g ∷ gs) = simp length-append (omega (arith, length-numeral 16 4 g .1 (omega arith), colonGroups-least gs))
+
+-- groups with a colon between each two have one byte less, where there are any
+hexGroups-most : (gs : List ℕ) → length (hexGroups gs) ≤ length (colonGroups gs)
+unfolding intercalate colonGroups
+hexGroups-most [] = omega arith
+hexGroups-most (g ∷ gs) = rw (hexGroups-cons g gs) (simp length-append (omega arith))
+
+hexGroups-least : (gs : List ℕ) → length (colonGroups gs) ≤ length (hexGroups gs) + 1
+unfolding intercalate colonGroups
+hexGroups-least [] = omega arith
+hexGroups-least (g ∷ gs) = rw (hexGroups-cons g gs) (simp length-append (omega arith))
+
+-- two groups or more have more bytes than `::`
+groups-longer : (a b c : List ℕ) → 2 ≤ length b → length (hexGroups a ++ bytes "::" ++ hexGroups c) < length (hexGroups (a ++ b ++ c))
+groups-longer a b c h =
+    rw (length-append (hexGroups a ++ bytes "::") (hexGroups c), length-append (hexGroups a) (bytes "::"))
+    (omega (
+      arith,
+      hexGroups-least (a ++ b ++ c),
+      colonGroups-append (a ++ b) c,
+      colonGroups-append a b,
+      colonGroups-least b,
+      hexGroups-most a,
+      hexGroups-most c,
+    ))
+
+-- the groups before a run, in it, and behind it
+parted : (gs : List ℕ) (p n : ℕ) → take p gs ++ take n (drop p gs) ++ drop (p + n) gs ≡ gs
+parted gs p n =
+    append-assoc (take p gs) (take n (drop p gs)) (drop (p + n) gs)
+    ∙ ap (λ (x : List ℕ). take p gs ++ x) (rw (← (drop-drop n p gs)) (take-append-drop n (drop p gs))) ∙ take-append-drop p gs
+
+module _ (gs : List ℕ) (r : Run) (is-r : r ≡ longestRun gs) (long : length gs ≡ 8) where
+  abbreviated : 2 ≤ r .len → equal (compress 7 gs) (hexGroups gs) ≡ false
+  abbreviated h = equal-lengths (compress 7 gs) (hexGroups gs) (λ e. omega (arith, e, shorter))
+    where
+      within : r .place + r .len ≤ length gs
+      within = run-within gs r is-r
+
+      two : 2 ≤ length (take (r .len) (drop (r .place) gs))
+      two = rw (length-take-le (r .len) (drop (r .place) gs) (omega (arith, within, length-drop (r .place) gs))) h
+
+      shorter : length (compress 7 gs) < length (hexGroups gs)
+      shorter =
+          rw (compress-run gs r is-r h 7 (omega (arith, within, long)))
+          (subst (λ (x : List ℕ). length (hexGroups (take (r .place) gs) ++ bytes "::" ++ hexGroups (drop (r .place + r .len) gs)) < length (hexGroups x))
+          (parted gs (r .place) (r .len))
+          (groups-longer (take (r .place) gs) (take (r .len) (drop (r .place) gs)) (drop (r .place + r .len) gs) two))
+
+  pub is-abbreviated : leb 2 (r .len) ≡ not (equal (compress 7 gs) (hexGroups gs))
+  is-abbreviated = by (leb 2 (r .len)) refl
+    where
+      by : (t : Bool) → leb 2 (r .len) ≡ t → leb 2 (r .len) ≡ not (equal (compress 7 gs) (hexGroups gs))
+      by true e = rw (e, abbreviated (leb-true 2 (r .len) e))
+      by false e = rw (e, compress-plain gs r is-r (leb-false 2 (r .len) e) 7, equal-refl (hexGroups gs))
 
 -- ## The digits of an address
 

@@ -2,14 +2,17 @@
 //   write_address(out, a)   == writes the text of a at the front of out, or refuses where out is too short
 //   put_address(out, at, a) == writes the text of a from at on, where there is room
 //   address_len(a)          == how many bytes that text has
+//   put_unabbreviated(out, at, high, low) == writes the eight groups of an IPv6 address from at on, where there is room
+//   is_abbreviated(high, low)             == whether the text of an IPv6 address differs from its eight groups
 use address::Addr;
 use section::Fault;
 use section::Written;
 ghost use mathlib.Core.Path.{_≡_};
+ghost use mathlib.Core.Bool.{not};
 ghost use mathlib.Core.List.{[], _∷_, _++_};
 ghost use Prim.Native.Nat.{_+_, _*_, _^_, _≤_, _<_};
 ghost use lib.ListN.{length};
-ghost use Rattle.text.specs.Text.{bytes};
+ghost use Rattle.text.specs.Text.{bytes, equal};
 ghost use Rattle.text.specs.Number.{toDigits, digitByte, numeral, decimal};
 ghost use Rattle.text.specs.Scan.{putAt};
 ghost use Rattle.section.specs.Refusal.{writtenOf, lentAfter};
@@ -178,6 +181,25 @@ fn put_v6(out: &mut [u8], at: usize, high: u64, low: u64) -> usize
 {
     let gs = groups(high, low);
     put_compressed(out, at, &gs)
+}
+
+// Writes the eight groups of an IPv6 address from at on, and answers the place after them.
+pub fn put_unabbreviated(out: &mut [u8], at: usize, high: u64, low: u64) -> usize
+    requires { ⌜ at + length (hexGroups (toDigits 65536 8 (high * 2 ^ 64 + low))) ≤ length (now out) ⌝ }
+    ensures next { λ r. ⌜ r ≡ at + length (hexGroups (toDigits 65536 8 (high * 2 ^ 64 + low))) ⌝ }
+    ensures written { λ _. ⌜ now (out .exit) ≡ putAt (now (out .entry)) at (hexGroups (toDigits 65536 8 (high * 2 ^ 64 + low))) ⌝ }
+{
+    let eight = groups(high, low);
+    put_groups(out, at, &eight)
+}
+
+// Whether the text of an IPv6 address differs from its eight groups: it does where it has `::`.
+pub fn is_abbreviated(high: u64, low: u64) -> bool
+    ensures { λ r. ⌜ r ≡ not (equal (textV6 (high * 2 ^ 64 + low)) (hexGroups (toDigits 65536 8 (high * 2 ^ 64 + low)))) ⌝ }
+{
+    let each = groups(high, low);
+    let longest = longest_run(&each);
+    2 <= longest.len
 }
 
 // Writes a dot and a field.

@@ -47,7 +47,7 @@ fn any_grants(s: &[u8], addr: Addr, port: u16) -> bool
 }
 
 // Whether the lines rule the bind of a port by a caller.
-fn is_ruled(port: u16, uid: u32) -> bool
+pub fn is_ruled(port: u16, uid: u32) -> bool
     ensures { λ r. ⌜ r ≡ isRuled port uid ⌝ }
 {
     (1 <= port) & (port <= 1023) & (uid != 0)

@@ -22,6 +22,7 @@ use Rattle.expansion.specs.Expand.{expand}
 use Rattle.byuid.specs.declared.Decision.{Decision as ByuidDecision}
 use Rattle.byuid.specs.declared.Decision.the-variants as B
 use Rattle.byuid.specs.Byuid.{decideByuid}
+use Rattle.authbind.specs.Authbind.{Step, nextStep, nameWritten}
 use Rattle.portacl.specs.declared.Decision.{Decision as PortaclDecision}
 use Rattle.portacl.specs.declared.Decision.the-variants as P
 use Rattle.portacl.specs.Portacl.{decidePortacl}
@@ -29,9 +30,9 @@ use Rattle.sheet.specs.declared.Parts.{Parts}
 use Rattle.sheet.specs.Sheet.{unpack, pack, upgrade}
 use Rattle.station.specs.Station.{decideSheet, decideByuidSheet, decidePortaclSheet}
 use Rattle.codes.specs.declared.GateCheck.{GateCheck}
-use Rattle.codes.specs.Requests.{request, byuidBind, byuidFileBind, portaclBind, writeBy}
+use Rattle.codes.specs.Requests.{request, byuidBind, byuidFileBind, authbindAsked, portaclBind, writeBy}
 use Rattle.codes.specs.Answers.{refusalAnswer, wordAnswer, answerNumbers, accepted, verdictAnswer, byuidAnswer, portaclAnswer, checkAnswer, partsAnswer, writtenAnswer, addressAnswer}
-use Rattle.codes.specs.Answers.{Command, together, commandAnswer}
+use Rattle.codes.specs.Answers.{Command, together, commandAnswer, nextAnswer}
 use Rattle.gate.specs.Calls.{wrote}
 use Rattle.claims.specs.Claims.{Accepted, front, Decision, by-word, by-refusal, EveryDecision, EveryNumber, RefusalWritesNothing}
 
@@ -53,6 +54,8 @@ fault-nonzero F.NoRoom e = omega arith
 fault-nonzero F.TableName e = omega arith
 fault-nonzero F.TooDeep e = omega arith
 fault-nonzero F.BadTable e = omega arith
+fault-nonzero F.DottedAddress e = omega arith
+fault-nonzero F.LateAnswer e = omega arith
 
 check-answered : (o : Outcome Parts) → checkAnswer o ≡ accepted → (p : Parts) × (o ≡ answered p)
 unfolding checkAnswer
@@ -77,7 +80,7 @@ front-answered out o t e = rw e (take-at t (drop (length t) out) (length t) refl
 
 -- ## Every decision
 
-fault-range : (f : Fault) → (1 ≤ faultNumber f) × (faultNumber f ≤ 17)
+fault-range : (f : Fault) → (1 ≤ faultNumber f) × (faultNumber f ≤ 19)
 fault-range F.CutShort = (omega arith, omega arith)
 fault-range F.OverLimit = (omega arith, omega arith)
 fault-range F.TrailingBytes = (omega arith, omega arith)
@@ -95,6 +98,8 @@ fault-range F.NoRoom = (omega arith, omega arith)
 fault-range F.TableName = (omega arith, omega arith)
 fault-range F.TooDeep = (omega arith, omega arith)
 fault-range F.BadTable = (omega arith, omega arith)
+fault-range F.DottedAddress = (omega arith, omega arith)
+fault-range F.LateAnswer = (omega arith, omega arith)
 
 refusal-decision : (r : Refusal) → Decision (refusalAnswer r)
 refusal-decision r = by-refusal r (fault-range (r .fault) .0) (fault-range (r .fault) .1)
@@ -140,30 +145,35 @@ every-decision = record {
 
 -- ## Every number
 
-fault-most : (f : Fault) → faultNumber f ≤ 17
+fault-most : (f : Fault) → faultNumber f ≤ 19
 fault-most f = fault-range f .1
 
-written-most : (o : Outcome (List ℕ)) → writtenAnswer o .number ≤ 17
+written-most : (o : Outcome (List ℕ)) → writtenAnswer o .number ≤ 19
 unfolding writtenAnswer
 written-most (refused r) = fault-most (r .fault)
 written-most (answered t) = omega arith
 
-check-most : (o : Outcome Parts) → checkAnswer o .number ≤ 17
+check-most : (o : Outcome Parts) → checkAnswer o .number ≤ 19
 unfolding checkAnswer
 check-most (refused r) = fault-most (r .fault)
 check-most (answered p) = omega arith
 
-parts-most : (o : Outcome Parts) → partsAnswer o .number ≤ 17
+parts-most : (o : Outcome Parts) → partsAnswer o .number ≤ 19
 unfolding partsAnswer
 parts-most (refused r) = fault-most (r .fault)
 parts-most (answered p) = omega arith
 
-address-most : (o : Outcome Addr) → addressAnswer o .number ≤ 17
+address-most : (o : Outcome Addr) → addressAnswer o .number ≤ 19
 unfolding addressAnswer
 address-most (refused r) = fault-most (r .fault)
 address-most (answered A.Unknown) = omega arith
 address-most (answered (A.V4 n)) = omega arith
 address-most (answered (A.V6 h l)) = omega arith
+
+next-most : (o : Outcome Step) → nextAnswer o .number ≤ 19
+unfolding nextAnswer
+next-most (refused r) = fault-most (r .fault)
+next-most (answered s) = omega arith
 
 pub every-number : EveryNumber
 every-number = record {
@@ -174,6 +184,7 @@ every-number = record {
   upgrade-number = λ sheet out. written-most (upgrade sheet (length out));
   expand-number = λ command n process out. written-most (expand command (request n) process (length out));
   write-number = λ kind high low out. written-most (writeBy kind high low (length out));
+  authbind-number = λ port kind high low uid answers out. next-most (nextStep (authbindAsked port kind high low uid answers) (length out));
 }
 
 -- ## A refusal writes nothing
@@ -188,6 +199,11 @@ unfolding commandAnswer
 command-kept out (refused r) h = refl
 command-kept out (answered c) h = absurd (h refl)
 
+name-kept : (out : List ℕ) (o : Outcome Step) → (nextAnswer o .number ≡ 0 → ⊥) → lentAfter out (nameWritten o) ≡ out
+unfolding nextAnswer
+name-kept out (refused r) h = refl
+name-kept out (answered s) h = absurd (h refl)
+
 pub refusal-writes-nothing : RefusalWritesNothing
 refusal-writes-nothing = record {
   packing = λ ts out. kept out (pack ts (length out));
@@ -198,4 +214,5 @@ refusal-writes-nothing = record {
       command-kept out (together (decide allow deny (request n)) (λ a. expand (commandBytes allow deny a) (request n) process (length out)));
   sheet-commanding = λ sheet n process out.
       command-kept out (together (decideSheet sheet (request n)) (λ a. expand (bytesAt sheet (a .command)) (request n) process (length out)));
+  naming = λ port kind high low uid answers out. name-kept out (nextStep (authbindAsked port kind high low uid answers) (length out));
 }

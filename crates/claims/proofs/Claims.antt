@@ -9,6 +9,7 @@ use Rattle.claims.proofs.CommandClaims.{command-in-turn}
 use Rattle.claims.proofs.UserClaims.{ask-only-unfetched, name-cannot-matter}
 use Rattle.claims.proofs.FileClaims.{grants-own-span, other-span-no-line, neither-file}
 use Rattle.claims.proofs.MappedClaims.{no-mapped, held-as-v4}
+use Rattle.claims.proofs.OrderClaims.{absent-goes-on, answer-settles, names-differ, reads-its-file, manual-example}
 
 pub claims : Claims
 claims = record {
@@ -35,4 +36,9 @@ claims = record {
   held-as-v4 = held-as-v4;
   table-examples = table-examples;
   upgraded = upgraded;
+  absent-goes-on = absent-goes-on;
+  answer-settles = answer-settles;
+  names-differ = names-differ;
+  reads-its-file = reads-its-file;
+  manual-example = manual-example;
 }

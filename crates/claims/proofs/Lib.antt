@@ -6,4 +6,5 @@ pub mod CommandClaims
 pub mod UserClaims
 pub mod FileClaims
 pub mod MappedClaims
+pub mod OrderClaims
 pub mod Claims

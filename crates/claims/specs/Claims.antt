@@ -30,11 +30,12 @@ use Rattle.codes.specs.Answers.{granted, denied, ask, noLine, wordAnswer}
 use Rattle.codes.specs.Answers.{refusalAnswer, refusedCheck, accepted, refusedParts, countWritten, withCount, addressWith}
 use Rattle.gate.specs.Calls.{gateVerdict, gateTablesVerdict, gateSheetVerdict, gateByuid, gateSheetByuid, gatePortacl, gateSheetPortacl}
 use Rattle.gate.specs.Calls.{gateCheck, gateUnpack, gateReadAddress, Wrote, gatePack, gateUpgrade, gateExpand, gateWriteAddress}
-use Rattle.gate.specs.Calls.{WroteCommand, gateCommand, gateSheetCommand}
+use Rattle.gate.specs.Calls.{WroteCommand, gateCommand, gateSheetCommand, gateAuthbind}
 use Rattle.claims.specs.Examples.{Examples}
 use Rattle.claims.specs.MaskExamples.{MaskExamples}
 use Rattle.claims.specs.MappedExamples.{MappedExamples}
 use Rattle.claims.specs.TableExamples.{TableExamples}
+use Rattle.claims.specs.AuthbindOrder.{AbsentGoesOn, AnswerSettles, NamesDiffer, ReadsItsFile, ManualExample}
 
 -- numbers that fit a byte
 abbrev pub AreBytes : List ℕ → Type 0
@@ -89,11 +90,13 @@ pub record RefusalWritesNothing : Type 0 where
       → gateCommand allow deny n process out .out ≡ out
   pub sheet-commanding : (sheet : List ℕ) (n : RequestNumbers) (process : ℕ) (out : List ℕ) → (gateSheetCommand sheet n process out .answer .number ≡ 0 → ⊥)
       → gateSheetCommand sheet n process out .out ≡ out
+  pub naming : (port kind high low uid : ℕ) (answers out : List ℕ) → (gateAuthbind port kind high low uid answers out .answer .number ≡ 0 → ⊥)
+      → gateAuthbind port kind high low uid answers out .out ≡ out
 
--- a decision is a word, or a refusal by one of the seventeen numbers "and gives no verdict"
+-- a decision is a word, or a refusal by one of the papers' numbers "and gives no verdict"
 pub data Decision : GateAnswer → Type 0 where
   by-word : (a : GateAnswer) → a .number ≡ 0 → a .section ≡ 0 → 1 ≤ a .word → a .word ≤ 6 → Decision a
-  by-refusal : (r : Refusal) → 1 ≤ refusalAnswer r .number → refusalAnswer r .number ≤ 17 → Decision (refusalAnswer r)
+  by-refusal : (r : Refusal) → 1 ≤ refusalAnswer r .number → refusalAnswer r .number ≤ 19 → Decision (refusalAnswer r)
 
 pub record EveryDecision : Type 0 where
   pub verdict-decided : (allow deny : List ℕ) (n : RequestNumbers) → Decision (gateVerdict allow deny n)
@@ -105,15 +108,16 @@ pub record EveryDecision : Type 0 where
   pub sheet-portacl-decided : (sheet : List ℕ) (s : Settings) (uid : ℕ) (groups : List ℕ) (protocol port : ℕ)
       → Decision (gateSheetPortacl sheet s uid groups protocol port)
 
--- the other calls give none but the seventeen numbers, and 0, either
+-- the other calls give none but these numbers, and 0, either
 pub record EveryNumber : Type 0 where
-  pub check-number : (sheet : List ℕ) → gateCheck sheet .number ≤ 17
-  pub unpack-number : (sheet : List ℕ) → gateUnpack sheet .number ≤ 17
-  pub read-number : (text : List ℕ) → gateReadAddress text .number ≤ 17
-  pub pack-number : (ts : Texts) (out : List ℕ) → gatePack ts out .answer .number ≤ 17
-  pub upgrade-number : (sheet out : List ℕ) → gateUpgrade sheet out .answer .number ≤ 17
-  pub expand-number : (command : List ℕ) (n : RequestNumbers) (process : ℕ) (out : List ℕ) → gateExpand command n process out .answer .number ≤ 17
-  pub write-number : (kind high low : ℕ) (out : List ℕ) → gateWriteAddress kind high low out .answer .number ≤ 17
+  pub check-number : (sheet : List ℕ) → gateCheck sheet .number ≤ 19
+  pub unpack-number : (sheet : List ℕ) → gateUnpack sheet .number ≤ 19
+  pub read-number : (text : List ℕ) → gateReadAddress text .number ≤ 19
+  pub pack-number : (ts : Texts) (out : List ℕ) → gatePack ts out .answer .number ≤ 19
+  pub upgrade-number : (sheet out : List ℕ) → gateUpgrade sheet out .answer .number ≤ 19
+  pub expand-number : (command : List ℕ) (n : RequestNumbers) (process : ℕ) (out : List ℕ) → gateExpand command n process out .answer .number ≤ 19
+  pub write-number : (kind high low : ℕ) (out : List ℕ) → gateWriteAddress kind high low out .answer .number ≤ 19
+  pub authbind-number : (port kind high low uid : ℕ) (answers out : List ℕ) → gateAuthbind port kind high low uid answers out .answer .number ≤ 19
 
 -- ## Demand 2
 
@@ -324,3 +328,9 @@ pub record Claims : Type 0 where
   pub held-as-v4 : HeldAsV4
   pub table-examples : TableExamples
   pub upgraded : Upgraded
+  -- document 02, request 4
+  pub absent-goes-on : AbsentGoesOn
+  pub answer-settles : AnswerSettles
+  pub names-differ : NamesDiffer
+  pub reads-its-file : ReadsItsFile
+  pub manual-example : ManualExample

@@ -26,6 +26,9 @@ use Rattle.portacl.specs.declared.Decision.{Decision as PortaclDecision}
 use Rattle.portacl.specs.declared.Ruling.{Ruling as PortaclRuling}
 use Rattle.portacl.specs.declared.Ruling.the-variants as P
 use Rattle.portacl.specs.Portacl as Portacl
+use Rattle.authbind.specs.declared.Next.{Next}
+use Rattle.authbind.specs.declared.Next.the-variants as N
+use Rattle.authbind.specs.Authbind as Authbind
 use Rattle.sheet.specs.declared.Parts.{Parts}
 use Rattle.sheet.specs.declared.unpack.Unpacked.{Unpacked}
 use Rattle.sheet.specs.declared.unpack.Unpacked.the-variants as Un
@@ -33,12 +36,13 @@ use Rattle.sheet.specs.Sheet.{unpackedOf}
 use Rattle.codes.specs.declared.GateAnswer.{GateAnswer}
 use Rattle.codes.specs.declared.GateCheck.{GateCheck}
 use Rattle.codes.specs.declared.GateCommand.{GateCommand}
+use Rattle.codes.specs.declared.GateNext.{GateNext}
 use Rattle.codes.specs.declared.GateParts.{GateParts}
 use Rattle.codes.specs.declared.GateWritten.{GateWritten}
 use Rattle.codes.specs.declared.GateAddress.{GateAddress}
 use Rattle.codes.specs.Answers.{verdictWord, byuidWord, portaclWord, refusalAnswer, wordAnswer, answerNumbers, accepted, foundParts, countWritten, addressWith}
-use Rattle.codes.specs.Answers.{addressNumbers, verdictAnswer, byuidAnswer, portaclAnswer, checkAnswer, partsAnswer, writtenAnswer, addressAnswer, command, together, withCount, commandAnswer}
-use Rattle.codes.specs.Code.{byuidNumbers, portaclNumbers, verdictNumbers, checkNumbers, partsNumbers, writtenNumbers, commandWritten, readNumbers}
+use Rattle.codes.specs.Answers.{addressNumbers, verdictAnswer, byuidAnswer, portaclAnswer, checkAnswer, partsAnswer, writtenAnswer, addressAnswer, command, together, withCount, commandAnswer, nextWith, nextAnswer}
+use Rattle.codes.specs.Code.{byuidNumbers, portaclNumbers, verdictNumbers, checkNumbers, partsNumbers, writtenNumbers, commandWritten, nextNumbers, readNumbers}
 
 pub byuid-numbers : (o : Outcome ByuidDecision) (x : ByuidRuling) (a : GateAnswer) → x ≡ Byuid.byuidRuling o → a ≡ byuidNumbers x → a ≡ byuidAnswer o
 unfolding byuidNumbers byuidAnswer
@@ -83,6 +87,44 @@ pub read-numbers : (o : Outcome Addr) (x : AddressRead) (a : GateAddress) → x 
 unfolding readNumbers addressAnswer
 read-numbers (refused r) x a e f = rw e at f
 read-numbers (answered b) x a e f = rw e at f
+
+pub next-numbers : (o : Outcome Authbind.Step) (x : Next) (a : GateNext) → x ≡ Authbind.nextOf o → a ≡ nextNumbers x → a ≡ nextAnswer o
+unfolding nextNumbers nextAnswer
+next-numbers (refused r) x a e f = rw e at f
+next-numbers (answered (Authbind.test name)) x a e f = rw e at f
+next-numbers (answered (Authbind.read name)) x a e f = rw e at f
+next-numbers (answered Authbind.granted) x a e f = rw e at f
+next-numbers (answered Authbind.denied) x a e f = rw e at f
+next-numbers (answered Authbind.notRuled) x a e f = rw e at f
+
+pub refusal-next : (r : Refusal) (n : GateAnswer) → n ≡ refusalAnswer r
+    → record { number = n .number; section = n .section; line = n .line; word = n .word; count = n .len } ≡ nextNumbers (N.Refused r)
+unfolding nextNumbers
+refusal-next r n e = rw e
+
+module _ (x : Next) (a : GateNext) where
+  pub next-refused : (r : Refusal) → x ≡ N.Refused r → a ≡ nextNumbers (N.Refused r) → a ≡ nextNumbers x
+  next-refused r e f = rw e f
+
+  pub next-granted : x ≡ N.Granted → a ≡ nextWith 1 0 → a ≡ nextNumbers x
+  unfolding nextNumbers
+  next-granted e f = rw e f
+
+  pub next-denied : x ≡ N.Denied → a ≡ nextWith 2 0 → a ≡ nextNumbers x
+  unfolding nextNumbers
+  next-denied e f = rw e f
+
+  pub next-not-ruled : x ≡ N.NotRuled → a ≡ nextWith 5 0 → a ≡ nextNumbers x
+  unfolding nextNumbers
+  next-not-ruled e f = rw e f
+
+  pub next-test : (n : ℕ) → x ≡ N.Test n → a ≡ nextWith 7 n → a ≡ nextNumbers x
+  unfolding nextNumbers
+  next-test n e f = rw e f
+
+  pub next-read : (n : ℕ) → x ≡ N.Read n → a ≡ nextWith 8 n → a ≡ nextNumbers x
+  unfolding nextNumbers
+  next-read n e f = rw e f
 
 pub byuid-refused : (x : ByuidRuling) (r : Refusal) (a : GateAnswer) → x ≡ B.Refused r → a ≡ refusalAnswer r → a ≡ byuidNumbers x
 unfolding byuidNumbers

@@ -9,7 +9,7 @@ use mathlib.Core.Path.{_≡_, refl, sym, ap, _∙_}
 use borrow.Author.Tests.{ne-eqb, lt-ltb, le-ltb, leb-true}
 use lib.Dec.{leb, ltb, eqb}
 use lib.ListN.{length, replicate, length-append}
-use Rattle.text.specs.Basics.{if_then_else_, _>>=_, given, isSome}
+use Rattle.text.specs.Basics.{if_then_else_, _>>=_, given, isSome, each}
 use Rattle.text.specs.Text.{inRange}
 use Rattle.text.specs.Scan.{after}
 use Rattle.text.proofs.BasicLaws.{and-true}
@@ -31,6 +31,8 @@ use Rattle.byuid.specs.declared.Mark.{Mark}
 use Rattle.byuid.specs.declared.Mark.the-variants.{Plain, Marked}
 use Rattle.byuid.specs.Byuid as Byuid
 use Rattle.byuid.specs.Byuid.{addressKnown}
+use Rattle.authbind.specs.declared.Access.{Access}
+use Rattle.authbind.specs.Authbind.{accessOf, asked, asking, nextStep}
 use Rattle.portacl.specs.declared.Protocol.{Protocol}
 use Rattle.portacl.specs.declared.Protocol.the-variants.{Tcp, Udp}
 use Rattle.portacl.specs.Portacl as Portacl
@@ -39,7 +41,7 @@ use Rattle.codes.specs.declared.request.HostNumbers.{HostNumbers}
 use Rattle.codes.specs.declared.request.States.{States}
 use Rattle.codes.specs.declared.request.Target.{Target}
 use Rattle.codes.specs.Requests.{nameState, userState, addressOf, protocolOf, markOf, isPort, requestNumbers, request, knownName, knownUser}
-use Rattle.codes.specs.Requests.{hostBy, byuidBind, byuidFileBind, portaclBind}
+use Rattle.codes.specs.Requests.{hostBy, byuidBind, byuidFileBind, authbindAsked, portaclBind}
 use Rattle.codes.specs.Code.{nameBy, userBy, addrBy, protocolBy, markBy, hostFits, hostTaken, numbersFit, statesOf, withNames}
 use Rattle.codes.specs.Code.{placed, unfit, portBy, addressBy, addressFrom, targetOf}
 
@@ -325,6 +327,36 @@ module _ (port kind high low uid p : ℕ) (is-p : p ≡ portBy port) {B : Type 0
           ≡ fitting addressKnown (o >>= λ x. Byuid.fromFile x (byuidBind port kind high low uid)) f
       by none = refl
       by (some x) = byuid-read x (addressBy port kind high low) refl
+
+-- the same with the answers of access tests
+no-bind : (room : ℕ) → nextStep none room ≡ refused (placeless F.BadRequest)
+unfolding nextStep
+no-bind room = refl
+
+module _ (port kind high low uid p : ℕ) (is-p : p ≡ portBy port) (answers : List ℕ) (room : ℕ) where
+  unknown-refused : (q : ℕ) → nextStep (asking answers (Byuid.bind q A.Unknown uid)) room ≡ refused (placeless F.BadRequest)
+  unfolding nextStep
+  unknown-refused q = by (each accessOf answers)
+    where
+      by : (o : Option (List Access)) → nextStep (o >>= λ xs. some (asked (Byuid.bind q A.Unknown uid) xs)) room ≡ refused (placeless F.BadRequest)
+      by none = refl
+      by (some xs) = refl
+
+  pub authbind-read : (a : Addr) → a ≡ addressBy port kind high low
+      → nextStep (asking answers (Byuid.bind p a uid)) room ≡ nextStep (authbindAsked port kind high low uid answers) room
+  unfolding portBy addressBy byuidBind authbindAsked
+  authbind-read a is-a = rw (is-p, is-a) (by (isPort port) (addressOf kind high low))
+    where
+      refuses : nextStep none room ≡ refused (placeless F.BadRequest)
+      refuses = no-bind room
+
+      by : (b : Bool) (o : Option Addr)
+          → nextStep (asking answers (Byuid.bind (if b then port else 0) (if b then Option·getD o A.Unknown else A.Unknown) uid)) room
+          ≡ nextStep ((o >>= λ x. given b (Byuid.bind port x uid)) >>= asking answers) room
+      by true none = unknown-refused port ∙ sym refuses
+      by true (some x) = refl
+      by false none = unknown-refused 0 ∙ sym refuses
+      by false (some x) = unknown-refused 0 ∙ sym refuses
 
 module _ (uid protocol port : ℕ) (groups groups' : List ℕ) (x : Target) (is-x : x ≡ targetOf protocol port)
     (is-groups : groups' ≡ (if x .fit then groups else replicate 17 0)) where

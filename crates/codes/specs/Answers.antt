@@ -4,6 +4,7 @@
 --   checkAnswer, partsAnswer                  == what checking and unpacking a sheet answer
 --   writtenAnswer                             == what a call that writes answers
 --   commandAnswer                             == what a call that decides and expands answers
+--   nextAnswer                                == what comes next in authbind's order
 --   addressAnswer                             == an address read
 -- Of a refusal all have number, section and line; all else is 0, and of an address its kind is one that no address has.
 -- Assumes nothing: these are definitions.
@@ -24,10 +25,12 @@ use Rattle.byuid.specs.declared.Decision.{Decision as ByuidDecision}
 use Rattle.byuid.specs.declared.Decision.the-variants as B
 use Rattle.portacl.specs.declared.Decision.{Decision as PortaclDecision}
 use Rattle.portacl.specs.declared.Decision.the-variants as P
+use Rattle.authbind.specs.Authbind as Authbind
 use Rattle.sheet.specs.declared.Parts.{Parts}
 use Rattle.codes.specs.declared.GateAnswer.{GateAnswer}
 use Rattle.codes.specs.declared.GateCheck.{GateCheck}
 use Rattle.codes.specs.declared.GateCommand.{GateCommand}
+use Rattle.codes.specs.declared.GateNext.{GateNext}
 use Rattle.codes.specs.declared.GateWritten.{GateWritten}
 use Rattle.codes.specs.declared.GateParts.{GateParts}
 use Rattle.codes.specs.declared.GateAddress.{GateAddress}
@@ -60,6 +63,12 @@ notRuled = word "not ruled" 5
 abbrev pub exempt : Word
 exempt = word "exempt" 6
 
+abbrev pub test : Word
+test = word "test" 7
+
+abbrev pub read : Word
+read = word "read" 8
+
 abbrev pub verdictWord : Verdict → Word
 verdictWord Ver.Granted = granted
 verdictWord Ver.Denied = denied
@@ -75,6 +84,14 @@ portaclWord P.Granted = granted
 portaclWord P.Denied = denied
 portaclWord P.NotRuled = notRuled
 portaclWord P.Exempt = exempt
+
+-- document 02, request 4: "which file to test next, or the outcome"
+abbrev pub stepWord : Authbind.Step → Word
+stepWord (Authbind.test name) = test
+stepWord (Authbind.read name) = read
+stepWord Authbind.granted = granted
+stepWord Authbind.denied = denied
+stepWord Authbind.notRuled = notRuled
 
 -- ## Decisions
 
@@ -200,6 +217,17 @@ withCount a n = record {
 unfoldable pub commandAnswer : Outcome Command → GateCommand
 commandAnswer (refused r) = withCount (refusalAnswer r) 0
 commandAnswer (answered c) = withCount (answerNumbers (c .answer)) (length (c .text))
+
+abbrev pub refusedNext : Refusal → GateNext
+refusedNext r = record { number = faultNumber (r .fault); section = r .section; line = r .line; word = 0; count = 0 }
+
+abbrev pub nextWith : ℕ → ℕ → GateNext
+nextWith w n = record { number = 0; section = 0; line = 0; word = w; count = n }
+
+-- the word, and how many bytes of a name were written
+unfoldable pub nextAnswer : Outcome Authbind.Step → GateNext
+nextAnswer (refused r) = refusedNext r
+nextAnswer (answered s) = nextWith (stepWord s .number) (length (Authbind.nameOf s))
 
 -- no address has this kind, so a refused answer can't be handed on as one
 abbrev pub noAddress : ℕ

@@ -37,6 +37,8 @@ use Rattle.byuid.specs.declared.Ruling.{Ruling as ByuidRuling}
 use Rattle.byuid.specs.declared.Ruling.the-variants as B
 use Rattle.portacl.specs.declared.Ruling.{Ruling as PortaclRuling}
 use Rattle.portacl.specs.declared.Ruling.the-variants as P
+use Rattle.authbind.specs.declared.Next.{Next}
+use Rattle.authbind.specs.declared.Next.the-variants as Step
 use Rattle.rules.specs.declared.Answer.{Answer}
 use Rattle.rules.specs.declared.Ruling.{Ruling as VerdictRuling}
 use Rattle.rules.specs.declared.Ruling.the-variants as Ver
@@ -45,13 +47,14 @@ use Rattle.sheet.specs.declared.unpack.Unpacked.the-variants as Un
 use Rattle.codes.specs.declared.GateAnswer.{GateAnswer}
 use Rattle.codes.specs.declared.GateCheck.{GateCheck}
 use Rattle.codes.specs.declared.GateCommand.{GateCommand}
+use Rattle.codes.specs.declared.GateNext.{GateNext}
 use Rattle.codes.specs.declared.GateParts.{GateParts}
 use Rattle.codes.specs.declared.GateWritten.{GateWritten}
 use Rattle.codes.specs.declared.GateAddress.{GateAddress}
 use Rattle.codes.specs.declared.request.States.{States}
 use Rattle.codes.specs.declared.request.Target.{Target}
 use Rattle.codes.specs.Answers.{byuidWord, portaclWord, refusalAnswer, wordAnswer, answerNumbers, refusedCheck, accepted, refusedParts, foundParts, refusedWritten, countWritten}
-use Rattle.codes.specs.Answers.{withCount, refusedAddress, addressNumbers}
+use Rattle.codes.specs.Answers.{withCount, refusedNext, nextWith, granted, denied, notRuled, test, read, refusedAddress, addressNumbers}
 use Rattle.codes.specs.Requests.{nameState, userState, addressOf, protocolOf, markOf, isPort, RequestNumbers, knownName, knownUser}
 
 -- ## Requests
@@ -158,6 +161,14 @@ writtenNumbers (W.Count n) = countWritten n
 unfoldable pub commandWritten : Answer → Written → GateCommand
 commandWritten a (W.Refused r) = withCount (refusalAnswer r) 0
 commandWritten a (W.Count n) = withCount (answerNumbers a) n
+
+unfoldable pub nextNumbers : Next → GateNext
+nextNumbers (Step.Refused r) = refusedNext r
+nextNumbers Step.Granted = nextWith (granted .number) 0
+nextNumbers Step.Denied = nextWith (denied .number) 0
+nextNumbers Step.NotRuled = nextWith (notRuled .number) 0
+nextNumbers (Step.Test n) = nextWith (test .number) n
+nextNumbers (Step.Read n) = nextWith (read .number) n
 
 unfoldable pub readNumbers : AddressRead → GateAddress
 readNumbers (R.Refused r) = refusedAddress r

@@ -3,10 +3,12 @@ use crate::GateAddress;
 use crate::GateAnswer;
 use crate::GateCheck;
 use crate::GateCommand;
+use crate::GateNext;
 use crate::GateParts;
 use crate::GateWritten;
 use address::Addr;
 use address::read::AddressRead;
+use authbind::Next;
 use section::Refusal;
 use section::Written;
 use sheet::Parts;
@@ -16,8 +18,9 @@ ghost use Rattle.rules.specs.Search.{fileSection};
 ghost use Rattle.section.specs.declared.Written.the-variants as W;
 ghost use Rattle.address.specs.declared.read.AddressRead.the-variants as R;
 ghost use Rattle.sheet.specs.declared.unpack.Unpacked.the-variants as Un;
-ghost use Rattle.codes.specs.Answers.{verdictWord, byuidWord, portaclWord, refusalAnswer, wordAnswer, answerNumbers, foundParts, withCount, addressWith, addressNumbers};
-ghost use Rattle.codes.specs.Code.{byuidNumbers, portaclNumbers, verdictNumbers, checkNumbers, partsNumbers, writtenNumbers, commandWritten, readNumbers};
+ghost use Rattle.authbind.specs.declared.Next.the-variants as N;
+ghost use Rattle.codes.specs.Answers.{verdictWord, byuidWord, portaclWord, refusalAnswer, wordAnswer, answerNumbers, foundParts, withCount, nextWith, addressWith, addressNumbers};
+ghost use Rattle.codes.specs.Code.{byuidNumbers, portaclNumbers, verdictNumbers, checkNumbers, partsNumbers, writtenNumbers, commandWritten, nextNumbers, readNumbers};
 
 // The kind of an address that was not read: no address has it.
 pub const NO_ADDRESS: u32 = 255;
@@ -277,6 +280,45 @@ pub fn command_numbers(a: rules::Answer, w: Written) -> GateCommand
     match w {
         Written::Refused(refusal) => no_command(refusal),
         Written::Count(n) => with_count(verdict_word(a), n),
+    }
+}
+
+fn no_next(r: Refusal) -> GateNext
+    ensures { λ a. ⌜ a ≡ nextNumbers (N.Refused r) ⌝ }
+{
+    let none = refused(r);
+    GateNext {
+        number: none.number,
+        section: none.section,
+        line: none.line,
+        word: none.word,
+        count: none.len,
+    }
+}
+
+fn next_with(word: u32, written: usize) -> GateNext
+    ensures { λ r. ⌜ r ≡ nextWith word written ⌝ }
+{
+    GateNext {
+        number: 0,
+        section: 0,
+        line: 0,
+        word,
+        count: written as u64,
+    }
+}
+
+// What comes next in authbind's order, as numbers.
+pub fn next_numbers(x: Next) -> GateNext
+    ensures { λ a. ⌜ a ≡ nextNumbers x ⌝ }
+{
+    match x {
+        Next::Refused(refusal) => no_next(refusal),
+        Next::Granted => next_with(1, 0),
+        Next::Denied => next_with(2, 0),
+        Next::NotRuled => next_with(5, 0),
+        Next::Test(n) => next_with(7, n),
+        Next::Read(n) => next_with(8, n),
     }
 }
 

@@ -74,3 +74,13 @@ pub struct GateAddress {
     pub high: u64,
     pub low: u64,
 }
+
+// What comes next in authbind's order, and how many bytes of a name were written.
+#[repr(C)]
+pub struct GateNext {
+    pub number: u32,
+    pub section: u32,
+    pub line: u64,
+    pub word: u32,
+    pub count: u64,
+}

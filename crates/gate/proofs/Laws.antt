@@ -38,6 +38,8 @@ use Rattle.byuid.specs.declared.Mark.the-variants.{Plain}
 use Rattle.byuid.specs.declared.Ruling.{Ruling as ByuidRuling}
 use Rattle.byuid.specs.Byuid as Byuid
 use Rattle.byuid.specs.Byuid.{byuidDecision, decideByuid}
+use Rattle.authbind.specs.declared.Next.{Next}
+use Rattle.authbind.specs.Authbind.{Step, asking, nextStep, nameWritten, nextOf}
 use Rattle.portacl.specs.declared.Decision.{Decision as PortaclDecision}
 use Rattle.portacl.specs.declared.Ruling.{Ruling as PortaclRuling}
 use Rattle.portacl.specs.declared.Settings.{Settings}
@@ -49,15 +51,16 @@ use Rattle.station.specs.Station.{inSheet, decideSheet, decideByuidSheet, decid
 use Rattle.codes.specs.declared.GateAddress.{GateAddress}
 use Rattle.codes.specs.declared.GateAnswer.{GateAnswer}
 use Rattle.codes.specs.declared.GateCommand.{GateCommand}
+use Rattle.codes.specs.declared.GateNext.{GateNext}
 use Rattle.codes.specs.declared.GateWritten.{GateWritten}
 use Rattle.codes.specs.declared.request.Target.{Target}
-use Rattle.codes.specs.Requests.{RequestNumbers, request, addressOf, byuidBind, byuidFileBind, portaclBind, writeBy}
-use Rattle.codes.specs.Answers.{verdictAnswer, byuidAnswer, portaclAnswer, writtenAnswer, addressAnswer, Command, together, refusalAnswer, withCount, commandAnswer}
+use Rattle.codes.specs.Requests.{RequestNumbers, request, addressOf, byuidBind, byuidFileBind, authbindAsked, portaclBind, writeBy}
+use Rattle.codes.specs.Answers.{verdictAnswer, byuidAnswer, portaclAnswer, writtenAnswer, addressAnswer, Command, together, refusalAnswer, withCount, commandAnswer, nextAnswer}
 use Rattle.codes.specs.Code.{addrBy, markBy, portBy, addressBy, addressFrom, targetOf}
-use Rattle.codes.specs.Code.{verdictNumbers, byuidNumbers, portaclNumbers, writtenNumbers, commandWritten, readNumbers}
+use Rattle.codes.specs.Code.{verdictNumbers, byuidNumbers, portaclNumbers, writtenNumbers, commandWritten, nextNumbers, readNumbers}
 use Rattle.gate.specs.Calls.{gateCommand, gateSheetCommand}
-use Rattle.codes.proofs.RequestLaws.{byuid-read, byuid-file-read, portacl-read}
-use Rattle.codes.proofs.AnswerLaws.{verdict-numbers, byuid-numbers, portacl-numbers, written-numbers, read-numbers, together-refused, together-kept, together-written, together-holds}
+use Rattle.codes.proofs.RequestLaws.{byuid-read, byuid-file-read, authbind-read, portacl-read}
+use Rattle.codes.proofs.AnswerLaws.{verdict-numbers, byuid-numbers, portacl-numbers, written-numbers, next-numbers, read-numbers, together-refused, together-kept, together-written, together-holds}
 
 -- ## Verdicts and expansion: the request that was read is answered as the one handed over
 
@@ -299,3 +302,17 @@ module _ (kind high low : ℕ) (out : List ℕ) (b : Bool) (is-b : b ≡ isSome 
 
   pub write-kept : b ≡ false → out ≡ lentAfter out (writeBy kind high low (length out))
   write-kept e = ap (lentAfter out) (write-unknown e (placeless F.BadRequest) refl)
+
+-- ## authbind's order
+
+module _ (port kind high low uid : ℕ) (answers out : List ℕ) (p : ℕ) (is-p : p ≡ portBy port) (b : Addr) (is-b : b ≡ addressBy port kind high low) where
+  asked-read : nextStep (asking answers (Byuid.bind p b uid)) (length out) ≡ nextStep (authbindAsked port kind high low uid answers) (length out)
+  asked-read = authbind-read port kind high low uid p is-p answers (length out) b is-b
+
+  pub authbind-answer : (x : Next) (a : GateNext) → x ≡ nextOf (nextStep (asking answers (Byuid.bind p b uid)) (length out)) → a ≡ nextNumbers x
+      → a ≡ nextAnswer (nextStep (authbindAsked port kind high low uid answers) (length out))
+  authbind-answer x a e f = next-numbers _ x a e f ∙ ap nextAnswer asked-read
+
+  pub authbind-holds : (out' : List ℕ) → out' ≡ lentAfter out (nameWritten (nextStep (asking answers (Byuid.bind p b uid)) (length out)))
+      → out' ≡ lentAfter out (nameWritten (nextStep (authbindAsked port kind high low uid answers) (length out)))
+  authbind-holds out' e = e ∙ ap (λ (o : Outcome Step). lentAfter out (nameWritten o)) asked-read

@@ -1,5 +1,5 @@
 -- What each exported call answers, by the bytes and numbers that C hands over: one definition for each, which its promise and the claims cite.
---   wrote out o, wroteCommand out o == what a call with the outcome o answers, and what the lent output out holds afterwards
+--   wrote out o, wroteCommand out o, wroteNext out o == what a call with the outcome o answers, and what the lent output out holds afterwards
 -- Assumes nothing: these are definitions.
 use Prim.Native.Nat.{ℕ}
 use mathlib.Core.List.{List}
@@ -10,6 +10,7 @@ use Rattle.address.specs.Address.{readAddress}
 use Rattle.rules.specs.Search.{decide, decideTables, commandBytes}
 use Rattle.expansion.specs.Expand.{expand}
 use Rattle.byuid.specs.Byuid.{decideByuid}
+use Rattle.authbind.specs.Authbind.{Step, nextStep, nameWritten}
 use Rattle.portacl.specs.declared.Settings.{Settings}
 use Rattle.portacl.specs.Portacl.{decidePortacl}
 use Rattle.sheet.specs.Sheet as Sheet
@@ -19,10 +20,12 @@ use Rattle.codes.specs.declared.GateAddress.{GateAddress}
 use Rattle.codes.specs.declared.GateAnswer.{GateAnswer}
 use Rattle.codes.specs.declared.GateCheck.{GateCheck}
 use Rattle.codes.specs.declared.GateCommand.{GateCommand}
+use Rattle.codes.specs.declared.GateNext.{GateNext}
 use Rattle.codes.specs.declared.GateParts.{GateParts}
 use Rattle.codes.specs.declared.GateWritten.{GateWritten}
-use Rattle.codes.specs.Requests.{RequestNumbers, request, byuidBind, byuidFileBind, portaclBind, writeBy}
+use Rattle.codes.specs.Requests.{RequestNumbers, request, byuidBind, byuidFileBind, authbindAsked, portaclBind, writeBy}
 use Rattle.codes.specs.Answers.{verdictAnswer, byuidAnswer, portaclAnswer, checkAnswer, partsAnswer, writtenAnswer, addressAnswer, Command, together, commandAnswer}
+use Rattle.codes.specs.Answers.{nextAnswer}
 
 -- ## Decisions
 
@@ -96,3 +99,14 @@ gateSheetCommand sheet n process out =
 
 abbrev pub gateWriteAddress : ℕ → ℕ → ℕ → List ℕ → Wrote
 gateWriteAddress kind high low out = wrote out (writeBy kind high low (length out))
+
+-- document 02, request 4: "which file to test next, or the outcome"; "Names are written whole .. into a lent buffer"
+pub record WroteNext : Type 0 where
+  pub answer : GateNext
+  pub out : List ℕ
+
+abbrev pub wroteNext : List ℕ → Outcome Step → WroteNext
+wroteNext out o = record { answer = nextAnswer o; out = lentAfter out (nameWritten o) }
+
+abbrev pub gateAuthbind : ℕ → ℕ → ℕ → ℕ → ℕ → List ℕ → List ℕ → WroteNext
+gateAuthbind port kind high low uid answers out = wroteNext out (nextStep (authbindAsked port kind high low uid answers) (length out))

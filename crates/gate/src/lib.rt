@@ -6,11 +6,13 @@
 //   gate_expand                            == a command expanded
 //   gate_command, gate_sheet_command       == a verdict, and its command expanded
 //   gate_read_address, gate_write_address  == addresses as text
+//   gate_authbind                          == the next file in authbind's order, or the outcome
 // A number outside its kinds is refused by 13, after every check of the texts.
 use codes::GateAddress;
 use codes::GateAnswer;
 use codes::GateCheck;
 use codes::GateCommand;
+use codes::GateNext;
 use codes::GateParts;
 use codes::GateWritten;
 use portacl::Settings;
@@ -22,6 +24,7 @@ ghost use Rattle.sheet.specs.Sheet.{texts};
 ghost use Rattle.codes.specs.Requests.{hostNumbers, requestNumbers, settingsOf};
 ghost use Rattle.gate.specs.Calls.{gateVerdict, gateTablesVerdict, gateSheetVerdict, gateByuid, gateSheetByuid, gatePortacl, gateSheetPortacl};
 ghost use Rattle.gate.specs.Calls.{gateCheck, gateUnpack, gateReadAddress, gatePack, gateUpgrade, gateExpand, gateCommand, gateSheetCommand, gateWriteAddress};
+ghost use Rattle.gate.specs.Calls.{gateAuthbind};
 
 // The verdict by two texts.
 #[no_mangle]
@@ -515,4 +518,24 @@ pub extern "C" fn gate_write_address(out: &mut [u8], kind: u32, high: u64, low: 
         return codes::answer::written_numbers(address_format::write_address(out, a));
     }
     codes::answer::written_numbers(Written::Refused(section::placeless(Fault::BadRequest)))
+}
+
+// Which file authbind looks at next for a bind, after the answers of the access tests so far, or the outcome. A name is written at the front of
+// out; all else leaves out as it was.
+#[no_mangle]
+pub extern "C" fn gate_authbind(
+    out: &mut [u8],
+    port: u32,
+    kind: u32,
+    high: u64,
+    low: u64,
+    uid: u32,
+    answers: &[u8],
+) -> GateNext
+    ensures answer { λ r. ⌜ r ≡ gateAuthbind port kind high low uid (now (answers .entry)) (now (out .entry)) .answer ⌝ }
+    ensures holds { λ _. ⌜ now (out .exit) ≡ gateAuthbind port kind high low uid (now (answers .entry)) (now (out .entry)) .out ⌝ }
+{
+    let bound = codes::request::port_by(port);
+    let place = codes::request::address_by(port, kind, high, low);
+    codes::answer::next_numbers(authbind::next_step(out, bound, place, uid, answers))
 }

@@ -2,41 +2,41 @@
 use libc::STDOUT_FILENO;
 
 // The places of the words that are written; a decision's word is at its own number.
-pub const NO_FILE: usize = 7;
+pub const NO_FILE: usize = 9;
 
-pub const REFUSED: usize = 10;
+pub const REFUSED: usize = 12;
 
-pub const SECTION: usize = 11;
+pub const SECTION: usize = 13;
 
-pub const LINE: usize = 12;
+pub const LINE: usize = 14;
 
-pub const SHEET_OK: usize = 13;
+pub const SHEET_OK: usize = 15;
 
-pub const COMMAND: usize = 14;
+pub const COMMAND: usize = 16;
 
-pub const BYTES: usize = 15;
+pub const BYTES: usize = 17;
 
-pub const SAME: usize = 16;
+pub const SAME: usize = 18;
 
-pub const OTHERS: usize = 17;
+pub const OTHERS: usize = 19;
 
-pub const ALLOW_AT: usize = 18;
+pub const ALLOW_AT: usize = 20;
 
-pub const DENY_AT: usize = 19;
+pub const DENY_AT: usize = 21;
 
-pub const BYUID_AT: usize = 20;
+pub const BYUID_AT: usize = 22;
 
-pub const PORTACL_AT: usize = 21;
+pub const PORTACL_AT: usize = 23;
 
-pub const TABLES_AT: usize = 22;
+pub const TABLES_AT: usize = 24;
 
-pub const COMMA: usize = 23;
+pub const COMMA: usize = 25;
 
-pub const ARROW: usize = 24;
+pub const ARROW: usize = 26;
 
-pub const TOUCHED: usize = 25;
+pub const TOUCHED: usize = 27;
 
-pub const MALFORMED: usize = 26;
+pub const MALFORMED: usize = 28;
 
 pub fn text(s: &[u8]) {
     io::write_all(STDOUT_FILENO, s);
@@ -83,7 +83,7 @@ fn nth(texts: &[u8], place: usize) -> &[u8] {
 // Writes the word at a place. Each costs no more than its number where it is written, as they stand in one text.
 pub fn word(place: usize) {
     text(nth(
-        b"|granted|denied|ask|no line|not ruled|exempt|, no file|, allow line |, deny line |refused | section | line |sheet ok|\
+        b"|granted|denied|ask|no line|not ruled|exempt|test|read|, no file|, allow line |, deny line |refused | section | line |sheet ok|\
           , command:| bytes|, the same|, others|allow at |deny at |byuid at |portacl at |tables at |, | -> |touched: |malformed: ",
         place,
     ));

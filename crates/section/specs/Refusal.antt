@@ -40,6 +40,8 @@ faultNumber F.NoRoom = 14
 faultNumber F.TableName = 15
 faultNumber F.TooDeep = 16
 faultNumber F.BadTable = 17
+faultNumber F.DottedAddress = 18
+faultNumber F.LateAnswer = 19
 
 -- f, unless the other has a lower number
 abbrev pub lowerFault : Fault → Option Fault → Fault

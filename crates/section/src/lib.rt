@@ -31,6 +31,8 @@ pub enum Fault {
     TableName,
     TooDeep,
     BadTable,
+    DottedAddress,
+    LateAnswer,
 }
 
 // A refusal carries number, section and line.
@@ -96,6 +98,8 @@ pub fn fault_number(f: Fault) -> u8
         Fault::TableName => 15,
         Fault::TooDeep => 16,
         Fault::BadTable => 17,
+        Fault::DottedAddress => 18,
+        Fault::LateAnswer => 19,
     }
 }
 

@@ -394,13 +394,47 @@ fn write_address(case: &[u8], out: &mut [u8]) {
     written(w.number, w.section, w.line, w.count, out);
 }
 
+// What comes next, and the name that was written.
+fn next(word: u32, name: &[u8]) {
+    report::word(word as usize);
+    if 0 < name.len() {
+        report::text(b" ");
+        report::text(name);
+    }
+    report::end_line();
+}
+
+fn authbind(case: &[u8], out: &mut [u8]) {
+    let at = gate::gate_read_address(cases::field(case, 3));
+    let kind = cases::kind(at.number, at.kind, cases::field(case, 3));
+    let room = cases::number(case, 1);
+    let port = cases::number(case, 2);
+    let uid = cases::number(case, 4);
+    let answers = cases::field(case, 5);
+    let n = gate::gate_authbind(
+        cases::room(out, room),
+        port,
+        kind,
+        at.high,
+        at.low,
+        uid,
+        answers,
+    );
+    untouched(out, n.count);
+    if report::refused(n.number, n.section, n.line) {
+        return;
+    }
+    next(n.word, part(out, 0, n.count));
+}
+
 fn write(call: usize, case: &[u8], out: &mut [u8]) {
     match call {
         9 => pack(case, out),
         10 => upgrade(case, out),
         11 => expand(case, out),
         12 => read_address(case, out),
-        _ => write_address(case, out),
+        13 => write_address(case, out),
+        _ => authbind(case, out),
     }
 }
 
@@ -437,14 +471,14 @@ fn malformed(line: &[u8]) {
 fn call(case: &[u8]) -> usize {
     cases::call(
         b"verdict:tttttttt. tables_verdict:ttttttttt. sheet_verdict:ttttttt. byuid:ntnnt. sheet_byuid:ntnt. portacl:nnnnnnntn \
-          sheet_portacl:nnnnnnntn check:t. unpack:t. pack:ntttttt. upgrade:ntt. expand:ttttttnnt. read_address:t. write_address:nt.",
+          sheet_portacl:nnnnnnntn check:t. unpack:t. pack:ntttttt. upgrade:ntt. expand:ttttttnnt. read_address:t. write_address:nt. authbind:nntnt.",
         case,
     )
 }
 
 fn run_case(line: &[u8], case: &[u8]) {
     let place = call(case);
-    if 13 < place {
+    if 14 < place {
         malformed(line);
         return;
     }

@@ -1,0 +1,2 @@
+pub mod Authbind
+pub mod Code
