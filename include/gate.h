@@ -38,7 +38,7 @@
 extern "C" {
 #endif
 
-#define GATE_VERSION "3.1.0"
+#define GATE_VERSION "3.2.0"
 
 /* Numbers: of an answer, or of a refusal. */
 enum gate_number {
@@ -79,9 +79,9 @@ enum gate_section {
 #define GATE_ALLOW_LIMIT 16384
 #define GATE_DENY_LIMIT 16384
 #define GATE_BYUID_LIMIT 8192
-#define GATE_PORTACL_LIMIT 1024
+#define GATE_PORTACL_LIMIT 4096
 #define GATE_TABLES_LIMIT 12288
-#define GATE_SHEET_LIMIT 54288
+#define GATE_SHEET_LIMIT 57360
 
 /* The most tables, and the most bytes of a table's name. */
 #define GATE_TABLES_COUNT 64

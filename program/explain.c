@@ -30,7 +30,7 @@ static const struct {
      "seventeen zero bytes: the fifth count, of two bytes, is cut",
      "The sheet was cut on its way, or is no sheet: fetch it again, and compare its size; gate pack writes sheets whole or not at all. "
      "A sheet from before there were tables ends where section 5 should begin: gate upgrade OLD NEW appends it."},
-    {"A section is longer than it may be: hosts.allow and hosts.deny 16384 bytes, byuid 8192, portacl 1024. The limits of the tables are 17's.",
+    {"A section is longer than it may be: hosts.allow and hosts.deny 16384 bytes, byuid 8192, portacl 4096. The limits of the tables are 17's.",
      "byuid", "8193 bytes",
      "Shorten the text: leave out comments, join rules that differ in one element, drop rules that are out of reach (gate check -W)."},
     {"Bytes follow the last section of the sheet.", "a sheet", "nineteen zero bytes: one behind the fifth section",

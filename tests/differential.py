@@ -498,7 +498,7 @@ def portacl_text(rng):
                                                            b"uid:80:tcp:65536", b" uid:80:tcp:80", b"uid:80:icmp:80", good + b"\n"])
     text = b",".join(entry() for _ in range(rng.choice([0, 1, 2, 4])))
     if rng.random() < 0.02:
-        text = b",".join([b"uid:0:tcp:0"] * 84 + [b"uid:10:tcp:65535" if rng.random() < 0.5 else b"uid:100:tcp:65535"])
+        text = b",".join([b"uid:0:tcp:0"] * rng.choice([84, 340, 340]) + [b"uid:10:tcp:65535" if rng.random() < 0.5 else b"uid:100:tcp:65535"])
     return text
 
 

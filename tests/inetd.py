@@ -18,8 +18,8 @@ CONNECTIONS, AT_ONCE, TIMEOUT = 2000, 16, 0.4
 GRANTED, REFUSED = b"granted\n", b"refused\n"
 FAMILIES = {"127.0.0.1": socket.AF_INET, "::1": socket.AF_INET6}
 DENY_ALL = b"ALL: ALL: log denied %c\n"
-FULLEST = ref.pack([b"\n" * 16384, b"\n" * 16384, b"\n" * 8192, b"uid:0:tcp:0," * 84 + b"uid:10:tcp:65535",
-                    ref.section_five([(b"t", b"\n" * 12280)])], 54288)
+FULLEST = ref.pack([b"\n" * 16384, b"\n" * 16384, b"\n" * 8192, b"uid:0:tcp:0," * 340 + b"uid:10:tcp:65535",
+                    ref.section_five([(b"t", b"\n" * 12280)])], 57360)
 
 
 def fail(what):
@@ -28,7 +28,7 @@ def fail(what):
 
 
 def sheet_of(allow, deny=DENY_ALL, tables=()):
-    return ref.pack([allow, deny, b"", b"", ref.section_five(list(tables))], 54288)
+    return ref.pack([allow, deny, b"", b"", ref.section_five(list(tables))], 57360)
 
 
 class Ident:

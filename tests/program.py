@@ -31,7 +31,7 @@ SAMPLE = shutil.copytree(TOP / "sample", SCRATCH + "/sample")
 FLEET = SAMPLE + "/fleet"
 NAMES = ("hosts.allow", "hosts.deny", "byuid", "portacl")
 TEXTS = [(TOP / "sample" / name).read_bytes() for name in NAMES]
-SHEET_LIMIT = 54288
+SHEET_LIMIT = 57360
 SHEET = ref.pack(TEXTS + [ref.NO_TABLES], SHEET_LIMIT)
 OLD_SHEET = SHEET[:-2]
 COMMANDS = ("check", "match", "byuid", "portacl", "authbind", "pack", "unpack", "fleet", "upgrade", "explain", "test")
@@ -310,15 +310,15 @@ def test_checks(folder):
             ("seventeen bytes", bytes(17), b"-(tables): the sheet ends within a section: the count of its tables, of two bytes, is not there whole [1]\n"),
             ("nineteen bytes", bytes(19), b"-: bytes follow the last section [3]\n"),
             ("a cut table", bytes(17) + b"\2\1a\0\0\0\0\1", b"-(tables): the sheet ends within a section: its count is 2 tables, and table 2 is not there whole [1]\n"),
-            ("two megabytes", bytes(1 << 21), b"-: over 1048576 bytes, and the longest sheet has 54288: it is not looked at\n"),
+            ("two megabytes", bytes(1 << 21), b"-: over 1048576 bytes, and the longest sheet has 57360: it is not looked at\n"),
             ("a cut sheet", SHEET[:-3], b"-(portacl): the sheet ends within a section: its count is 29 bytes, and 28 follow [1]\n")):
         expect(what, gate("check", "-", stdin=sheet), 1, b"-: 1 fault\n", line)
     expect("eighteen zero bytes", gate("check", "-", stdin=bytes(18)), 0, b"-: sound, 18 bytes\n", b"")
     expect("a megabyte", gate("check", "-", stdin=bytes(1 << 20)), 1, b"-: 1 fault\n", b"-: bytes follow the last section [3]\n")
     expect("a text for a sheet", gate("check", SAMPLE + "/hosts.allow"), 1, "1 fault", "give the folder that holds all four")
-    most = station(folder + "/most", b"x\n" * 8192, b"x\n" * 8191 + b"x", b"x\n" * 4096, b"," * 1024)
+    most = station(folder + "/most", b"x\n" * 8192, b"x\n" * 8191 + b"x", b"x\n" * 4096, b"," * 4096)
     before = time.monotonic()
-    expect("17,410 faults and as many warnings", gate("check", "-W", most), 1, ": 17410 faults, 4096 warnings", None)
+    expect("20,482 faults and as many warnings", gate("check", "-W", most), 1, ": 20482 faults, 4096 warnings", None)
     if time.monotonic() - before > 2:
         fail("faults take too long")
     expect("a text over its limit", gate("check", station(folder + "/over", b"\n" * 16385 + b"x\n")), 1, ": 2 faults", "16387 bytes, and the most is 16384 [2]")
@@ -769,14 +769,14 @@ def test_upgrade(folder):
     expect("a sheet with faults in its lines", gate("upgrade", "-", new, stdin=faulty), 0, "bytes, with no tables", "it has faults: gate check shows them")
     if new.read_bytes() != faulty + bytes(2):
         fail("an upgraded sheet with faults")
-    full = ref.sheet_of([b"\n" * 16384, b"\n" * 16384, b"\n" * 8192, b"x" * 1024, b""])
-    expect("the longest sheet of four sections", gate("upgrade", "-", new, stdin=full), 0, "42002 bytes", None)
+    full = ref.sheet_of([b"\n" * 16384, b"\n" * 16384, b"\n" * 8192, b"x" * 4096, b""])
+    expect("the longest sheet of four sections", gate("upgrade", "-", new, stdin=full), 0, "45074 bytes", None)
     for what, sheet, message in (
             ("a sheet of five sections", SHEET, "has its tables already"), ("one with tables", SHEETS["north"], "has its tables already"),
             ("a cut one", OLD_SHEET[:-1], "section 4, portacl: it is no sheet of four sections [1]"), ("none", b"", "section 1, allow: it is no sheet of four sections [1]"),
             ("one with a byte more", OLD_SHEET + b"\0", "bytes follow the fourth section, and are no tables: it is no sheet of four sections [3]"),
             ("one over a limit", b"\0\0\x40\1" + bytes(20000), "section 1, allow: it is no sheet of four sections [2]"), ("a text", TEXTS[0], "it is no sheet of four sections [2]"),
-            ("two megabytes", bytes(1 << 21), "over 1048576 bytes, and the longest sheet has 54288")):
+            ("two megabytes", bytes(1 << 21), "over 1048576 bytes, and the longest sheet has 57360")):
         new.write_bytes(b"what was there")
         expect("upgrading " + what, gate("upgrade", "-", new, stdin=sheet), 2, b"", message)
         if new.read_bytes() != b"what was there" or left_over(folder):
@@ -1014,7 +1014,7 @@ def test_generated_checks(folder, rng):
     for _ in range(STATIONS // 2):
         tables, names = generated_tables(rng)
         hosts = [gen.naming_text(rng, False, names) if rng.random() < 0.5 else gen.hosts_text(rng, False) for _ in range(2)]
-        texts = hosts + [gen.byuid_text(rng)[:8192], gen.portacl_text(rng)[:1024], ref.section_five(tables)]
+        texts = hosts + [gen.byuid_text(rng)[:8192], gen.portacl_text(rng)[:4096], ref.section_five(tables)]
         faults = all_faults(texts)
         if bool(faults) != ref.refused(ref.pack(texts, SHEET_LIMIT)) or faults and faults[0] != ref.pack(texts, SHEET_LIMIT):
             fail("the reference agrees with itself", faults, ref.pack(texts, SHEET_LIMIT), texts)

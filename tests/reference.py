@@ -10,7 +10,7 @@ import functools
 import ipaddress
 import re
 
-LIMITS = {1: 16384, 2: 16384, 3: 8192, 4: 1024}
+LIMITS = {1: 16384, 2: 16384, 3: 8192, 4: 4096}
 TABLES, TABLES_LIMIT, TABLES_COUNT, TABLES_DEEP = 5, 12288, 64, 4
 NO_TABLES = b"\0\0"
 BLANKS = b" \t"

@@ -12,7 +12,7 @@ program = str(pathlib.Path(sys.argv[1]).resolve())
 sample = pathlib.Path(__file__).resolve().parent.parent / "sample"
 TEXTS = [(sample / name).read_bytes() for name in ("hosts.allow", "hosts.deny", "byuid", "portacl")]
 OLD = ref.sheet_of(TEXTS + [b""])
-FULLEST = ref.sheet_of([b"\n" * 16384, b"\n" * 16384, b"\n" * 8192, b"x" * 1024, b""])
+FULLEST = ref.sheet_of([b"\n" * 16384, b"\n" * 16384, b"\n" * 8192, b"x" * 4096, b""])
 
 
 def expect(what, arguments, out, err):

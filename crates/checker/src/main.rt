@@ -17,11 +17,11 @@ fn at_end(fd: i32) -> bool {
     libc::read(fd, &mut next) == 0
 }
 
-// A sheet has at most 54,288 bytes. A longer file is read on, to 1 MiB, as the number that its tables are refused by depends on them all.
+// A sheet has at most 57,360 bytes. A longer file is read on, to 1 MiB, as the number that its tables are refused by depends on them all.
 fn check_in(room: &mut [u8], fd: i32, name: &[u8]) {
     let n = io::read_full(fd, room);
     if n == room.len() {
-        report::text(b"too long: over 1048576 bytes, and the longest sheet has 54288\n");
+        report::text(b"too long: over 1048576 bytes, and the longest sheet has 57360\n");
         return;
     }
     if !at_end(fd) {

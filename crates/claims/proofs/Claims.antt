@@ -10,6 +10,7 @@ use Rattle.claims.proofs.UserClaims.{ask-only-unfetched, name-cannot-ma
 use Rattle.claims.proofs.FileClaims.{grants-own-span, other-span-no-line, neither-file}
 use Rattle.claims.proofs.MappedClaims.{no-mapped, held-as-v4}
 use Rattle.claims.proofs.OrderClaims.{absent-goes-on, answer-settles, names-differ, reads-its-file, manual-example}
+use Rattle.claims.proofs.LimitClaims.{old-boxes}
 
 pub claims : Claims
 claims = record {
@@ -41,4 +42,5 @@ claims = record {
   names-differ = names-differ;
   reads-its-file = reads-its-file;
   manual-example = manual-example;
+  old-boxes = old-boxes;
 }

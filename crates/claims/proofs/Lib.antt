@@ -7,4 +7,5 @@ pub mod UserClaims
 pub mod FileClaims
 pub mod MappedClaims
 pub mod OrderClaims
+pub mod LimitClaims
 pub mod Claims

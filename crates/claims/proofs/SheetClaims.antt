@@ -74,7 +74,7 @@ pub longest : Longest
 longest = record {
   at-most = λ sheet e. let p = accepted-parts sheet e in Laws.at-most sheet (p .0) (p .1);
   reached = (sheetOf Long.longest, Long.longest-bytes, parts-accepted (sheetOf Long.longest) (partsOf Long.longest) Long.reached, Long.longest-length);
-  enough = λ sheet e. let p = accepted-parts (take 54289 sheet) e in Laws.whole sheet (p .0) (p .1);
+  enough = λ sheet e. let p = accepted-parts (take 57361 sheet) e in Laws.whole sheet (p .0) (p .1);
 }
 
 -- ## Request 1: the upgrade

@@ -35,6 +35,7 @@ use Rattle.claims.specs.Examples.{Examples}
 use Rattle.claims.specs.MaskExamples.{MaskExamples}
 use Rattle.claims.specs.MappedExamples.{MappedExamples}
 use Rattle.claims.specs.TableExamples.{TableExamples}
+use Rattle.claims.specs.OldBoxes.{OldBoxes}
 use Rattle.claims.specs.AuthbindOrder.{AbsentGoesOn, AnswerSettles, NamesDiffer, ReadsItsFile, ManualExample}
 
 -- numbers that fit a byte
@@ -70,13 +71,13 @@ abbrev pub CutShort : Type 0
 CutShort = (sheet : List ℕ) (n : ℕ) → Accepted sheet → n < length sheet
     → (s : ℕ) × (1 ≤ s) × (s ≤ 5) × RefusedBy (refusal F.CutShort s 0) (take n sheet)
 
--- document 02, request 1: "the longest sheet 54,288"
+-- document 02, request 10: "the longest sheet is 57,360 bytes"
 pub record Longest : Type 0 where
-  pub at-most : (sheet : List ℕ) → Accepted sheet → length sheet ≤ 54288
-  pub reached : (sheet : List ℕ) × AreBytes sheet × Accepted sheet × (length sheet ≡ 54288)
+  pub at-most : (sheet : List ℕ) → Accepted sheet → length sheet ≤ 57360
+  pub reached : (sheet : List ℕ) × AreBytes sheet × Accepted sheet × (length sheet ≡ 57360)
   -- so a reader that stops after one byte more accepts no other sheet. The number of a refusal needs the whole sheet: a section five
   -- over its limit is 17, and 15 and 16, which come before it, are looked for in all of it
-  pub enough : (sheet : List ℕ) → Accepted (take 54289 sheet) → take 54289 sheet ≡ sheet
+  pub enough : (sheet : List ℕ) → Accepted (take 57361 sheet) → take 57361 sheet ≡ sheet
 
 -- "A refusal .. writes nothing": a lent output is as it was
 pub record RefusalWritesNothing : Type 0 where
@@ -334,3 +335,5 @@ pub record Claims : Type 0 where
   pub names-differ : NamesDiffer
   pub reads-its-file : ReadsItsFile
   pub manual-example : ManualExample
+  -- document 02, request 10
+  pub old-boxes : OldBoxes

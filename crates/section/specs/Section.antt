@@ -25,7 +25,7 @@ pub record Section : Type 0 where
   pub limit : ℕ
 
 -- "Four sections in this order: allow, deny, byuid, portacl."
--- "allow 16,384 bytes, deny 16,384, byuid 8,192, portacl 1,024"
+-- "allow 16,384 bytes, deny 16,384, byuid 8,192, portacl 1,024"; request 10: "Raise portacl from 1,024 bytes to 4,096."
 abbrev pub allow : Section
 allow = record { order = 1; limit = 16384 }
 
@@ -36,7 +36,7 @@ abbrev pub byuid : Section
 byuid = record { order = 3; limit = 8192 }
 
 abbrev pub portacl : Section
-portacl = record { order = 4; limit = 1024 }
+portacl = record { order = 4; limit = 4096 }
 
 -- "Tables travel in a fifth section .. the whole section at most 12,288 bytes"; over it is 17, not 2
 abbrev pub tables : Section

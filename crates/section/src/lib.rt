@@ -223,7 +223,7 @@ impl Byuid {
 pub struct Portacl;
 
 impl Portacl {
-    pub const LIMIT: usize = 1024;
+    pub const LIMIT: usize = 4096;
 
     pub const ORDER: u8 = 4;
 

@@ -35,7 +35,7 @@ pub record Examples : Type 0 where
   -- "checked as in a sheet": the fifth text handed in, and the limits of the others before it
   pub pack-cut : pack (unendedTexts []) 100 ≡ refused (refusal F.CutShort 5 0)
   pub pack-trailing : pack (unendedTexts (zeros 3)) 0 ≡ refused (placeless F.TrailingBytes)
-  pub pack-limit-before-cut : pack (texts [] [] [] (replicate 1025 0) []) 0 ≡ refused (refusal F.OverLimit 4 0)
+  pub pack-limit-before-cut : pack (texts [] [] [] (replicate 4097 0) []) 0 ≡ refused (refusal F.OverLimit 4 0)
   -- "a small program appends the two zero bytes of an empty count"; lines need not be sound
   pub upgraded-empty : upgrade (zeros 16) 18 ≡ answered (zeros 18)
   pub upgraded-unsound : upgrade (unended []) 19 ≡ answered (unended (zeros 2))

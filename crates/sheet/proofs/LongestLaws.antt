@@ -1,4 +1,4 @@
--- A sheet of 54,288 bytes is accepted: blank lines alone, byuid bytes of any kind, a list of 85 entries, and one table whose name is
+-- A sheet of 57,360 bytes is accepted: blank lines alone, byuid bytes of any kind, a list of 341 entries, and one table whose name is
 -- one byte and whose text is 12,280 spaces. Its checks are computed.
 --   reached == it is accepted, and so long
 -- Assumes nothing.
@@ -30,7 +30,7 @@ longest = record {
   allow = replicate 16384 (code "\n");
   deny = replicate 16384 (code "\n");
   byuid = replicate 8192 (code "\n");
-  portacl = intercalate (bytes ",") (replicate 84 (bytes "uid:0:tcp:0") ++ (bytes "uid:10:tcp:65535" ∷ []));
+  portacl = intercalate (bytes ",") (replicate 340 (bytes "uid:0:tcp:0") ++ (bytes "uid:10:tcp:65535" ∷ []));
   tables = 0 ∷ 1 ∷ 1 ∷ code "a" ∷ counted (replicate 12280 (code " "));
 }
 
@@ -47,9 +47,9 @@ pub longest-bytes : all (λ b. ltb b 256) (sheetOf longest) ≡ true
 unfolding sheetOf toDigits intercalate all
 longest-bytes = refl
 
-pub longest-length : length (sheetOf longest) ≡ 54288
+pub longest-length : length (sheetOf longest) ≡ 57360
 unfolding sheetOf toDigits intercalate
 longest-length = refl
 
 pub reached : unpack (sheetOf longest) ≡ answered (partsOf longest)
-reached = unpack-pack longest 54288 (sheetOf longest) (answered-pack longest 54288 longest-sound (omega (arith, longest-length))) .0
+reached = unpack-pack longest 57360 (sheetOf longest) (answered-pack longest 57360 longest-sound (omega (arith, longest-length))) .0

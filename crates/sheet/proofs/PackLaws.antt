@@ -87,8 +87,8 @@ module _ (a d b p t : List ℕ) (x : Checked) (is-x : x ≡ checkedOf (textsFaul
     sound : textsFault (texts a d b p t) ≡ none
     sound = checked-sound (textsFault (texts a d b p t)) (sym is-x ∙ e)
 
-    -- "the longest sheet 54,288"
-    pub sheet-fits : 16 + length a + length d + length b + length p + length t ≤ 54288
+    -- "the longest sheet is 57,360 bytes"
+    pub sheet-fits : 16 + length a + length d + length b + length p + length t ≤ 57360
     sheet-fits = let w = textsFault-none (texts a d b p t) sound in omega (arith, w .allow, w .deny, w .byuid, w .portacl, w .tables)
 
     pub pack-no-room : (out : List ℕ) → length out < 16 + length a + length d + length b + length p + length t → (r : Refusal) → r ≡ placeless F.NoRoom

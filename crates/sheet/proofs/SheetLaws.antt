@@ -1,7 +1,7 @@
 -- What holds of every accepted sheet: the laws that the demands on the gate rest on.
 --   cut-short   == an accepted sheet cut short anywhere is refused by 1, at the section that is cut
---   at-most     == it has at most 54,288 bytes
---   whole       == so what is accepted of the first 54,289 bytes of some is all of them
+--   at-most     == it has at most 57,360 bytes
+--   whole       == so what is accepted of the first 57,361 bytes of some is all of them
 --   unpack-pack == the sheet of packed texts is accepted, and its texts are those
 --   pack-unpack == the texts of an accepted sheet, given room, are packed to that sheet
 -- Assumes nothing.
@@ -122,8 +122,8 @@ cut-short sheet n p e less = by (ltb n (partEnd (p .portacl))) refl
 
 -- ## The longest sheet
 
--- "the longest sheet 54,288"
-pub at-most : (sheet : List ℕ) (p : Parts) → unpack sheet ≡ answered p → length sheet ≤ 54288
+-- "the longest sheet is 57,360 bytes"
+pub at-most : (sheet : List ℕ) (p : Parts) → unpack sheet ≡ answered p → length sheet ≤ 57360
 at-most sheet p e =
     let accepted = unpack-answered sheet p e in
     let f = accepted .0 in
@@ -142,14 +142,14 @@ at-most sheet p e =
       tables-length f,
     )
 
-pub whole : (sheet : List ℕ) (p : Parts) → unpack (take 54289 sheet) ≡ answered p → take 54289 sheet ≡ sheet
-whole sheet p e = by (ltb 54289 (length sheet)) refl
+pub whole : (sheet : List ℕ) (p : Parts) → unpack (take 57361 sheet) ≡ answered p → take 57361 sheet ≡ sheet
+whole sheet p e = by (ltb 57361 (length sheet)) refl
   where
-    by : (b : Bool) → ltb 54289 (length sheet) ≡ b → take 54289 sheet ≡ sheet
+    by : (b : Bool) → ltb 57361 (length sheet) ≡ b → take 57361 sheet ≡ sheet
     by true f =
-        let long : 54289 < length sheet = ltb-true 54289 (length sheet) f in
-        absurd (omega (arith, at-most (take 54289 sheet) p e, length-take-le 54289 sheet (omega arith)))
-    by false f = take-all 54289 sheet (ltb-false 54289 (length sheet) f)
+        let long : 57361 < length sheet = ltb-true 57361 (length sheet) f in
+        absurd (omega (arith, at-most (take 57361 sheet) p e, length-take-le 57361 sheet (omega arith)))
+    by false f = take-all 57361 sheet (ltb-false 57361 (length sheet) f)
 
 -- ## Packing and unpacking
 

@@ -41,7 +41,7 @@ fn upgrade_in(out: &mut [u8], name: &[u8], sheet: &[u8]) {
 }
 
 fn upgrade(name: &[u8], sheet: &[u8]) {
-    let mut out = [0u8; 42002];
+    let mut out = [0u8; 45074];
     upgrade_in(&mut out, name, sheet);
 }
 
@@ -51,11 +51,11 @@ fn at_end(fd: i32) -> bool {
     libc::read(fd, &mut next) == 0
 }
 
-// Four sections have at most 42,000 bytes: a longer file is refused by its first 42,001, as it would be whole.
+// Four sections have at most 45,072 bytes: a longer file is refused by its first 45,073, as it would be whole.
 fn upgrade_file(fd: i32, name: &[u8]) {
-    let mut sheet = [0u8; 42001];
+    let mut sheet = [0u8; 45073];
     let n = io::read_full(fd, &mut sheet);
-    if n < 42001 {
+    if n < 45073 {
         if !at_end(fd) {
             os::fail(name);
             return;
