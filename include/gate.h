@@ -17,7 +17,7 @@
  * Refusals. Every answer begins with number, section and line. Number 0 is an answer; any other number is a refusal, and then all
  * members but these three are 0, and the kind of an address is GATE_NO_ADDRESS: nothing of it can be taken for an answer. Where several
  * refusals hold, the one given is the first in the order of the papers: those of the sheet, of the texts or of the command, 15 to 17 behind
- * 12, then 13, then 14.
+ * 12 and 22 behind these, then 13, then 14.
  *
  * Requests. The same seventeen arguments describe a request to gate_verdict, gate_tables_verdict, gate_sheet_verdict, gate_command,
  * gate_sheet_command and gate_expand:
@@ -38,7 +38,7 @@
 extern "C" {
 #endif
 
-#define GATE_VERSION "3.2.0"
+#define GATE_VERSION "3.3.0"
 
 /* Numbers: of an answer, or of a refusal. */
 enum gate_number {
@@ -61,7 +61,8 @@ enum gate_number {
     GATE_TOO_DEEP = 16,        /* a rule leads more than four tables deep */
     GATE_BAD_TABLE = 17,       /* any other fault of the tables, their limits included */
     GATE_DOTTED_ADDRESS = 18,  /* an IPv6 address that inet_ntop may write with dots; by gate_authbind */
-    GATE_LATE_ANSWER = 19      /* an answer after the one that settles the matter, or after the last test; by gate_authbind */
+    GATE_LATE_ANSWER = 19,     /* an answer after the one that settles the matter, or after the last test; by gate_authbind */
+    GATE_RETIRED_FORM = 22     /* a byuid line of the form addr4/len:pmin,pmax that used to grant; 20 and 21 stand for nothing */
 };
 
 /* Sections. A sheet has the five in this order: four texts, each behind its count of bytes in four bytes, and the tables, whose own counts
@@ -106,7 +107,7 @@ enum gate_section {
 /* The stack that any call needs, in bytes, with a margin; the caller's own frames come on top. On x86-64 the most is some 101,700, by the
  * frames of the check for 16, which finds how deep each table leads by five frames of 16,480 bytes, one in the other. A line of 2,047 bytes
  * that is `a:a EXCEPT a EXCEPT a ..` takes some 77,600: 272 bytes for each of its 227 EXCEPTs. Only the walks through client and daemon lists
- * and those through tables call themselves; the calls for a byuid or portacl text, an upgrade, an expansion or an address stay under 5,000.
+ * and those through tables call themselves; the calls for a byuid or portacl text, an upgrade, a conversion, an expansion or an address stay under 5,000.
  * It was found in two ways: tests/stack.py adds up the frames of the archive's functions along the deepest path of calls, for any input, and
  * tests/stack.c paints the stack of a thread whose whole stack is this, and makes every call on the worst inputs known; some 93,500 by these.
  * The margin also covers the first call of memcpy through a dynamic linker (some 3,000). */
@@ -276,8 +277,9 @@ struct gate_command_answer gate_sheet_command(uint8_t *out, size_t out_len, cons
 
 /* May uid bind this port (0 to 65535) at this address, by authbind(1)'s byuid file: GATE_GRANTED, GATE_NO_LINE, or GATE_NOT_RULED,
  * which is what root and ports outside 1 to 1023 get by either file. mark says which file the text comes from (enum gate_mark); a port of
- * the other file's span gets GATE_NO_LINE. An unknown address is refused by 13, and so is a mark of neither kind. The address stays as it is
- * given: ::ffff:10.1.2.3 is IPv6 here. */
+ * the other file's span gets GATE_NO_LINE. An unknown address is refused by 13, and so is a mark of neither kind; before that, a text with a
+ * line of the form addr4/len:pmin,pmax that used to grant by 22, at the first such line: gate_convert rewrites them. The address stays as it
+ * is given: ::ffff:10.1.2.3 is IPv6 here. */
 struct gate_answer gate_byuid(const uint8_t *text, size_t text_len, uint32_t mark, uint32_t port, uint32_t kind, uint64_t high,
                               uint64_t low, uint32_t uid);
 
@@ -320,6 +322,10 @@ struct gate_written gate_pack(uint8_t *out, size_t out_len, const uint8_t *allow
  * tables. Only the frame of the four sections is looked at, and refused by 1, 2 or 3, a sheet that has tables by 3; their lines may be at
  * fault, and gate_check says so afterwards. sheet_len + 2 bytes are room enough. */
 struct gate_written gate_upgrade(uint8_t *out, size_t out_len, const uint8_t *sheet, size_t sheet_len);
+
+/* Writes a byuid text, from the plain or the marked file, with every line addr4/len:pmin,pmax that used to grant as addr4/len,pmin-pmax,
+ * which grants the same; all other bytes stay. Refused by 2 where the text is over its limit, then by 14. text_len bytes are room enough. */
+struct gate_written gate_convert(uint8_t *out, size_t out_len, const uint8_t *text, size_t text_len);
 
 /* Writes a rule's command with its %a, %A, %n, %N, %h, %H, %u, %c, %d, %s, %p and %% replaced for a request: the command as a verdict
  * hands it back, or any other. It is joined and trimmed first. GATE_EXPANSION_ROOM bytes are always room enough. */
@@ -597,6 +603,7 @@ static inline const char *gate_number_text(uint32_t number) {
     case GATE_BAD_TABLE: return "a table at fault, or the tables over their limits";
     case GATE_DOTTED_ADDRESS: return "an IPv6 address that may be written with dots";
     case GATE_LATE_ANSWER: return "an answer after the matter was settled";
+    case GATE_RETIRED_FORM: return "a line of the retired form that used to grant";
     default: return "no such number";
     }
 }

@@ -5,6 +5,7 @@
 #include "message.h"
 #include "question.h"
 #include "reading.h"
+#include "retired.h"
 
 enum { QUIET, TABLES, MARKED };
 
@@ -47,6 +48,8 @@ static bool read_marked(struct question *question, const char *where, const char
         complain(where, "%s: refused: %s [%d]", shown(path), gate_number_text(GATE_OVER_LIMIT), GATE_OVER_LIMIT);
         return false;
     }
+    if (complain_of_retired(where, path, &text))
+        return false;
     question->marked_path = path;
     question->marked = text;
     return true;

@@ -77,6 +77,10 @@ static const struct {
             "a bind", "::ffff:10.20.1.2, port 80", "Ask for the IPv4 address itself: 10.20.1.2."},
     [19] = {"In authbind's order an answer was given after the one that settled the matter, or after the last test before byuid.", "a call of the library",
             "gate_authbind with the answers allowed, absent", "Stop at the first answer that is not absent, and read the byuid file after the last test."},
+    [22] = {"A line of byuid is of the form ADDRESS/LENGTH:PORT,PORT, by which nothing is granted any more. Only a line that used to grant is "
+            "refused: one with bits set beyond its length, or with its first port over the last, is ignored as before. The line is the first such one.",
+            "byuid", "10.0.0.0/8:80,90",
+            "Write 10.0.0.0/8,80-90, which grants the same. gate convert OLD NEW does it for all such lines of a file, and leaves every other byte."},
 };
 
 /* Whether the gate gives this number. */

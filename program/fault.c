@@ -5,6 +5,7 @@
 #include "hint.h"
 #include "mark.h"
 #include "message.h"
+#include "retired.h"
 
 /* A request of nobody is refused behind all checks of the texts, so nothing is searched. */
 static const struct gate_request nobody;
@@ -210,7 +211,8 @@ static size_t show_texts_faults(const struct station *station) {
 size_t show_own_faults(const struct station *station) {
     size_t faults = show_texts_faults(station);
     faults += show_naming_faults(station, GATE_TABLE_NAME);
-    return faults + show_naming_faults(station, GATE_TOO_DEEP);
+    faults += show_naming_faults(station, GATE_TOO_DEEP);
+    return faults + show_retired_lines(station);
 }
 
 size_t show_tables_faults(const struct station *station) {
@@ -223,7 +225,8 @@ static size_t show_named_faults(const struct station *station) {
     size_t faults = show_naming_faults(station, GATE_TABLE_NAME);
     faults += show_misnamed_tables(station);
     faults += show_naming_faults(station, GATE_TOO_DEEP);
-    return faults + show_bad_tables(station);
+    faults += show_bad_tables(station);
+    return faults + show_retired_lines(station);
 }
 
 size_t show_refusal(const struct station *station) {

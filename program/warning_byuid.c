@@ -4,6 +4,7 @@
 #include "excerpt.h"
 #include "message.h"
 #include "reading.h"
+#include "retired.h"
 #include "warning.h"
 
 /* A line as it is, or repaired. */
@@ -30,7 +31,7 @@ static bool read_piece(const struct attempt *a, struct piece piece, uint32_t *po
     return read_decimal(a->text + piece.from, piece.to - piece.from, 65535, port);
 }
 
-/* The ports of a line: behind its comma, or round it in addr4/len:pmin,pmax. */
+/* The ports of a line: behind its comma, or round it in the retired form addr4/len:pmin,pmax. */
 static struct piece first_port(const struct attempt *a) {
     struct piece head = until(a, 0, ","), net = until(a, 0, "/,"), length = until(a, net.to, ":,");
     if (net.to < head.to && length.to < head.to)
@@ -136,6 +137,12 @@ static void exchange_ports(struct attempt *a) {
         exchange(a, one, other);
 }
 
+/* A line that the retired form used to accept, into its new form. */
+static void renew_form(struct attempt *a) {
+    struct attempt before = *a;
+    gate_convert((uint8_t *)a->text, a->len, (const uint8_t *)before.text, before.len);
+}
+
 static const struct {
     void (*repair)(struct attempt *);
     const char *reason;
@@ -145,6 +152,7 @@ static const struct {
     {clear_bits, "its address has bits set beyond its length"},
     {exchange_addresses, "its first address is over its last"},
     {exchange_ports, "its first port is over its last"},
+    {renew_form, "it is of the retired form"},
 };
 
 /* Why a line of this form, or of none, grants nothing. */
@@ -194,11 +202,11 @@ static void show_byuid_warning(const struct station *station, const struct line 
         fprintf(stderr, "      = perhaps: %s\n", shown_bytes((const uint8_t *)a.text, a.len));
 }
 
-/* Nothing but blanks, or a comment: no one takes that for a grant. */
+/* Nothing but blanks, or a comment: no one takes that for a grant. A line of the retired form is a fault, and shown as one. */
 static bool is_idle(const struct attempt *a) {
     struct attempt rest = *a;
     drop_bytes(&rest, " \t\r");
-    return rest.len == 0 || rest.text[0] == '#';
+    return rest.len == 0 || rest.text[0] == '#' || is_retired((const uint8_t *)a->text, a->len);
 }
 
 size_t show_byuid_warnings(const struct station *station) {

@@ -196,6 +196,30 @@ static void upgrades(void) {
     expect("its lines need not be sound", wrote(gate_upgrade(OUT(sizeof m.out), TEXT(old_sheet)), "\0\0\0\1x\0\0\0\0\0\0\0\0\0\0\0\1,\0\0", 20));
 }
 
+/* A text with two lines that are not of the retired form: the second has a bit set beyond its length. */
+#define CONVERTED "# x\n10.0.0.0/8,80-90\n10.0.0.1/8:80,90"
+
+static void conversions(void) {
+    begin();
+    SET(byuid, "# x\n10.0.0.0/8:80,90\n10.0.0.1/8:80,90"), lend();
+    expect("a conversion in exact room", wrote(gate_convert(OUT(m.byuid.len), TEXT(byuid)), CONVERTED, sizeof CONVERTED - 1));
+    begin();
+    SET(byuid, "# x\n10.0.0.0/8:80,90\n10.0.0.1/8:80,90"), lend();
+    expect("a conversion in less room", unwritten(gate_convert(OUT(m.byuid.len - 1), TEXT(byuid)), GATE_NO_ROOM, 0, 0));
+    expect("22 for a line of the retired form", refused(gate_byuid(TEXT(byuid), GATE_PLAIN_FILE, 80, GATE_IPV4, 0, 0x0aff0001, 432), GATE_RETIRED_FORM, GATE_BYUID, 2));
+    expect("22 before 13", refused(gate_byuid(TEXT(byuid), 2, 65536, GATE_ADDRESS_UNKNOWN, 0, 0, 0), GATE_RETIRED_FORM, GATE_BYUID, 2));
+    expect("packing refuses it too", unwritten(gate_pack(OUT(sizeof m.out), TEXT(allow), TEXT(deny), TEXT(byuid), TEXT(portacl), TEXT(tables)), GATE_RETIRED_FORM, GATE_BYUID, 2));
+    SET(byuid, CONVERTED), lend();
+    expect("what was converted grants", word(gate_byuid(TEXT(byuid), GATE_PLAIN_FILE, 80, GATE_IPV4, 0, 0x0aff0001, 432), GATE_GRANTED));
+    expect("and stays", wrote(gate_convert(OUT(sizeof m.out), TEXT(byuid)), CONVERTED, sizeof CONVERTED - 1));
+    static uint8_t over[GATE_BYUID_LIMIT + 1];
+    begin(), lend();
+    expect("2 over the limit, before 14", unwritten(gate_convert(OUT(0), over, sizeof over), GATE_OVER_LIMIT, GATE_BYUID, 0));
+    SET(sheet, "\0\0\0\0\0\0\0\0\0\0\0\x10" "10.0.0.0/8:80,90\0\0\0\0\0\0"), lend();
+    expect("22 of a sheet", gate_check(TEXT(sheet)).number == GATE_RETIRED_FORM && gate_unpack(TEXT(sheet)).line == 1);
+    expect("and of a verdict by it", refused(gate_sheet_verdict(TEXT(sheet), REQUEST(3)), GATE_RETIRED_FORM, GATE_BYUID, 1));
+}
+
 #define VERDICT(user) gate_verdict(TEXT(allow), TEXT(deny), REQUEST(user))
 #define COMMAND(room, user) gate_command(OUT(room), TEXT(allow), TEXT(deny), REQUEST(user), 7)
 #define SHEET_COMMAND(room, user) gate_sheet_command(OUT(room), TEXT(sheet), REQUEST(user), 7)
@@ -414,7 +438,7 @@ static struct answers {
     struct gate_command_answer command, sheet_command;
     struct gate_checked check;
     struct gate_parts parts;
-    struct gate_written packed, upgraded, expanded, written;
+    struct gate_written packed, upgraded, converted, expanded, written;
     struct gate_next next;
     uint64_t address[3];
 } here, null;
@@ -452,6 +476,7 @@ static void call_all(struct answers *a, uint32_t state) {
     a->parts = gate_unpack(GIVEN(SHEET));
     a->packed = gate_pack(GIVEN_OUT, GIVEN(ALLOW), GIVEN(DENY), GIVEN(BYUID), GIVEN(PORTACL), GIVEN(TABLES));
     a->upgraded = gate_upgrade(GIVEN_OUT, GIVEN(OLD_SHEET));
+    a->converted = gate_convert(GIVEN_OUT, GIVEN(BYUID));
     a->expanded = gate_expand(GIVEN_OUT, GIVEN(GIVEN_COMMAND), GIVEN_REQUEST(state), 7);
     a->written = gate_write_address(GIVEN_OUT, read.kind, read.high, read.low);
     a->next = gate_authbind(GIVEN_OUT, 80, read.kind, read.high, read.low, 432, GIVEN(ANSWERS));
@@ -489,6 +514,7 @@ static void null_answers(void) {
     expect("no texts to pack", without(BYUID, 1)->packed.count == m.sheet.len - 13 && without(PORTACL, 1)->packed.count == m.sheet.len - 27);
     expect("no fifth text", without(TABLES, 1)->packed.number == GATE_CUT_SHORT && null.packed.section == GATE_TABLES &&
            null.tables_verdict.number == GATE_CUT_SHORT && null.verdict.number == GATE_ANSWERED);
+    expect("no text to convert", without(BYUID, 1)->converted.number == GATE_ANSWERED && null.converted.count == 0);
     expect("no sheet to upgrade", without(OLD_SHEET, 1)->upgraded.number == GATE_CUT_SHORT && null.upgraded.section == GATE_ALLOW);
     expect("no sheet", without(SHEET, 1)->check.number == GATE_CUT_SHORT && null.check.section == GATE_ALLOW && null.sheet_verdict.number == GATE_CUT_SHORT &&
            null.sheet_command.number == GATE_CUT_SHORT);
@@ -501,7 +527,7 @@ static void null_answers(void) {
     expect("no user", without(USER_NAME, 0)->verdict.number == GATE_ANSWERED && without(USER_NAME, 2)->verdict.number == GATE_BAD_REQUEST &&
            null.command.number == GATE_BAD_REQUEST && null.sheet_command.number == GATE_BAD_REQUEST);
     expect("no groups", without(LENT_GROUPS, 1)->portacl.word == GATE_DENIED && null.byuid.word == GATE_GRANTED);
-    expect("no room", without(LENT_OUT, 1)->packed.number == GATE_NO_ROOM && null.upgraded.number == GATE_NO_ROOM && null.expanded.number == GATE_NO_ROOM && null.written.number == GATE_NO_ROOM);
+    expect("no room", without(LENT_OUT, 1)->packed.number == GATE_NO_ROOM && null.upgraded.number == GATE_NO_ROOM && null.converted.number == GATE_NO_ROOM && null.expanded.number == GATE_NO_ROOM && null.written.number == GATE_NO_ROOM);
     expect("no room for a rule's command", without(LENT_OUT, 2)->command.number == GATE_NO_ROOM && null.sheet_command.number == GATE_NO_ROOM &&
            null.verdict.word == GATE_GRANTED);
     expect("no room is enough for none", without(LENT_OUT, 1)->command.word == GATE_DENIED && null.sheet_command.word == GATE_DENIED);
@@ -581,6 +607,7 @@ int main(void) {
     mapped();
     tables();
     upgrades();
+    conversions();
     commands();
     sheet_commands();
     byuid();

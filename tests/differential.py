@@ -45,7 +45,7 @@ def load(path):
             ("byuid", text + [U32] + bind, Answer), ("sheet_byuid", text + bind, Answer),
             ("portacl", portacl, Answer), ("sheet_portacl", portacl, Answer),
             ("authbind", out + bind + text, Next),
-            ("check", text, Check), ("unpack", text, Parts), ("pack", out + text * 5, Written), ("upgrade", out + text, Written),
+            ("check", text, Check), ("unpack", text, Parts), ("pack", out + text * 5, Written), ("upgrade", out + text, Written), ("convert", out + text, Written),
             ("expand", out + text + request + [U32], Written),
             ("read_address", text, Address), ("write_address", out + [U32, U64, U64], Written)):
         function = getattr(lib, "gate_" + name)
@@ -465,7 +465,8 @@ def near_prefix(rng, width):
     return net, address, min(max(at + rng.choice([-1, 0, 1, 1]), 0), width)
 
 
-def byuid_text(rng):
+def byuid_text(rng, old=0.5):
+    """old: how often lines of the retired form are likely"""
     def address():
         return rng.choice([b"10.0.0.0", b"10.0.0.0", b"10.0.0.1", b"0.0.0.0", b"0.0.0.0", b"::", b"::", b"255.255.255.255", b"::", b"::1", b"3ffe:505:2:1::9", b"3ffe:505:2:1::",
                            b"010.0.0.1", b"10.0", b"::ffff:10.0.0.1", b"::ffff:0:0", ref.address_text(("4", rng.getrandbits(32))), ref.address_text(("6", rng.getrandbits(128)))])
@@ -481,10 +482,17 @@ def byuid_text(rng):
         elif kind < 6:
             head += b"/" + rng.choice([b"0", b"8", b"16", b"24", b"32", b"33", b"64", b"96", b"128", b"129", b"08", b""])
         if kind == 5:
-            return head + b":" + port() + b"," + port()
+            return old_line()
         return head + b"," + port() + (b"-" + port() if rng.random() < 0.5 else b"")
 
-    text = b"\n".join(rng.choice([line(), line(), line(), b"# x", b"", line() + b"\r", b" " + line()]) for _ in range(rng.randrange(7)))
+    def old_line():
+        """addr4/len:pmin,pmax, and what is nearly that: bits set, min over max, ports out of range, other marks"""
+        head = rng.choice([b"10.0.0.0/8", b"10.0.0.0/8", b"10.0.0.0/30", b"0.0.0.0/0", b"10.0.0.1/32", b"10.0.0.1/8", b"10.0.0.0/08", b"10.0.0.0/33", b"10.0.0/8", b"10.0.0.0",
+                           b"::/0", b"::ffff:10.0.0.0/8", b"10.0.0.0-10.0.0.1", b"%s/%d" % (address(), rng.randrange(33))])
+        return head + rng.choice([b":"] * 6 + [b",", b"::", b" :", b"/"]) + port() + rng.choice([b","] * 6 + [b"-", b",,", b":"]) + port()
+
+    shapes = [line] * 12 + [lambda: b"# x", lambda: b"", lambda: line() + b"\r", lambda: b" " + line()] + [old_line] * (2 if rng.random() < old else 0)
+    text = b"\n".join(rng.choice(shapes)() for _ in range(rng.randrange(7)))
     if rng.random() < 0.01:
         text += b"x" * rng.choice([8192 - len(text), 8193 - len(text)])
     return text
@@ -505,13 +513,18 @@ def portacl_text(rng):
 def texts_of(rng):
     """five texts for a sheet: mostly sound"""
     sound = rng.random() < 0.85
+    ports = byuid_text(rng)
+    while sound and ref.byuid_fault(ports):
+        ports = byuid_text(rng, 0)
+    if rng.random() < 0.1:
+        ports = byuid_text(rng, 1) + rng.choice([b"", b"\n10.0.0.0/8:80,90", b"\n0.0.0.0/0:1,1\n"])
     acl = portacl_text(rng)
     while sound and ref.portacl_fault(acl):
         acl = portacl_text(rng)
     if rng.random() < 0.5:
-        return [hosts_text(rng, sound), hosts_text(rng, sound), byuid_text(rng), acl, ref.NO_TABLES]
+        return [hosts_text(rng, sound), hosts_text(rng, sound), ports, acl, ref.NO_TABLES]
     five, names = tables_of(rng)
-    return [naming_text(rng, sound, names), naming_text(rng, sound, names), byuid_text(rng), acl, five]
+    return [naming_text(rng, sound, names), naming_text(rng, sound, names), ports, acl, five]
 
 
 def sheet_of(rng, texts):
@@ -599,17 +612,17 @@ def address_text(rng):
 
 FILES = {"4", "5", "6", "7", "8", "9", "10", "11"}
 TABLES = {"15", "16", "17"}
-SHEET = {"1", "2", "3", "12"} | FILES | TABLES
+SHEET = {"1", "2", "3", "12", "22"} | FILES | TABLES
 VERDICTS = {"granted", "denied", "ask", "13"}
 BYUID = {"granted", "no line", "not ruled", "13"}
 PORTACL = {"granted", "denied", "exempt", "not ruled", "13"}
 KINDS = {
     "command": VERDICTS | FILES | {"2", "14", "15"}, "sheet_command": VERDICTS | SHEET | {"14"},
-    "verdict": VERDICTS | FILES | {"2", "15"}, "tables_verdict": VERDICTS | FILES | TABLES | {"1", "2", "3"}, "byuid": BYUID | {"2"}, "portacl": PORTACL | {"2", "12"},
+    "verdict": VERDICTS | FILES | {"2", "15"}, "tables_verdict": VERDICTS | FILES | TABLES | {"1", "2", "3"}, "byuid": BYUID | {"2", "22"}, "portacl": PORTACL | {"2", "12"},
     "sheet_verdict": VERDICTS | SHEET, "sheet_byuid": BYUID | SHEET, "sheet_portacl": PORTACL | SHEET,
     "authbind": {"test", "read", "granted", "denied", "not ruled", "13", "14", "18", "19"},
     "check": SHEET | {"sheet ok"}, "unpack": SHEET | {"answered"}, "pack": {"answered", "14"} | SHEET,
-    "upgrade": {"answered", "1", "2", "3", "14"},
+    "upgrade": {"answered", "1", "2", "3", "14"}, "convert": {"answered", "2", "14"},
     "expand": {"answered", "5", "6", "11", "13", "14"},
     "read_address": {"4", "6", "13"}, "write_address": {"answered", "13", "14"},
 }
@@ -749,6 +762,17 @@ def main():
         room = room_for(rng, result if ref.refused(result) else result[1])
         compare("authbind", authbind(rng, room, lib.gate_authbind, *case), ref.authbind(*case, room), case, room)
 
+    def convert_case():
+        """a text converted, and asked as the text was before the old form was retired"""
+        text = byuid_text(rng, 1)
+        room = room_for(rng, ref.convert(text, 1 << 32))
+        expected = ref.convert(text, room)
+        compare("convert", written(rng, room, lib.gate_convert, *sized(text)), expected, text, room)
+        if not ref.refused(expected):
+            case = rng.choice(["plain", "marked"]), *byuid_request()
+            compare("byuid", byuid(rng, lib.gate_byuid, expected, *case), ref.byuid_before(text, *case), text, case)
+            compare("convert", written(rng, len(text), lib.gate_convert, *sized(expected)), expected, expected)
+
     def portacl_request():
         settings = dict(enabled=rng.choice([0, 1, 1, 1, 2]), port_high=rng.choice([0, 79, 80, 1023, 1023, 65535, 2 ** 32 - 1]),
                         suser_exempt=rng.choice([0, 1, 7]), autoport_exempt=rng.choice([0, 1, 7]))
@@ -807,6 +831,7 @@ def main():
         prefix_cases()
         mapped_cases()
         port_cases()
+        convert_case()
         authbind_case()
         sheet_cases()
         expand_case()

@@ -34,7 +34,7 @@ TEXTS = [(TOP / "sample" / name).read_bytes() for name in NAMES]
 SHEET_LIMIT = 57360
 SHEET = ref.pack(TEXTS + [ref.NO_TABLES], SHEET_LIMIT)
 OLD_SHEET = SHEET[:-2]
-COMMANDS = ("check", "match", "byuid", "portacl", "authbind", "pack", "unpack", "fleet", "upgrade", "explain", "test")
+COMMANDS = ("check", "match", "byuid", "portacl", "authbind", "pack", "unpack", "fleet", "upgrade", "convert", "explain", "test")
 PAGE = os.sysconf("SC_PAGE_SIZE")
 runs, failures, statuses, skipped = 0, [], set(), []
 
@@ -129,10 +129,10 @@ def test_misread():
     for case in ([], ["432"], ["www-data", "10.20.1.2,80"], ["432", "10.20.1.2:80"], ["432", "10.20.1.2,65536"], ["432", "10.20.1.2,080"], ["432", "unknown,80"],
                  ["432", "[::1],80"], ["-1", "::1,80"], ["432", "::1,80", "x"], ["432", "::1,80", "--root"], ["432", "::1,80", "--marked", "x"]):
         expect(f"authbind {case} is an error", gate("authbind", *case), 2, b"", "gate: ")
-    for case in (["20"], ["x"], ["-1"], ["010"], [""], ["1", "2"], ["4294967306"]):
+    for case in (["20"], ["21"], ["23"], ["x"], ["-1"], ["010"], [""], ["1", "2"], ["4294967306"]):
         expect(f"explain {case} is an error", gate("explain", *case), 2, b"", "gate: ")
     for case in ([], ["chek"], [""], ["-q"], ["--Version"], ["--version", "x"], ["check"], ["check", SAMPLE, SAMPLE], ["pack", SAMPLE], ["unpack", "x"],
-                 ["test", SAMPLE], ["fleet", SAMPLE], ["upgrade", "x"], ["fleet", FLEET, "--tables", FLEET + "/tables"], ["check", "--warning", SAMPLE], ["check", "-q", "-q", SAMPLE], ["check", "--quiet=1", SAMPLE]):
+                 ["test", SAMPLE], ["fleet", SAMPLE], ["upgrade", "x"], ["convert", "x"], ["fleet", FLEET, "--tables", FLEET + "/tables"], ["check", "--warning", SAMPLE], ["check", "-q", "-q", SAMPLE], ["check", "--quiet=1", SAMPLE]):
         expect(f"gate {case} is an error", gate(*case), 2, b"", "gate: ")
 
 
@@ -276,11 +276,11 @@ WARNINGS = {
         (b"10.0.0.0/8,80\r", "carriage return"), (b" 10.0.0.0/8,80", "blank"), (b"10.0.0.0/8, 80", "perhaps: 10.0.0.0/8,80"), (b"10.0.0.0/8,http", "no number"),
         (b"3FFE:0505::/32,http", "no number"),
         (b"10.0.0.1/8,80", "perhaps: 10.0.0.0/8,80"), (b"3ffe::1/16,80", "perhaps: 3ffe::/16,80"), (b"10.0.0.9-10.0.0.1,80", "perhaps: 10.0.0.1-10.0.0.9,80"),
-        (b"10.0.0.0/8,90-80", "perhaps: 10.0.0.0/8,80-90"), (b"10.0.0.0/8:90,80", "perhaps: 10.0.0.0/8:80,90"), (b"10.0.0.0/8,1024", "not ruled"),
+        (b"10.0.0.0/8,90-80", "perhaps: 10.0.0.0/8,80-90"), (b"10.0.0.0/8:90,80", "perhaps: 10.0.0.0/8,80-90"), (b"10.0.0.1/8:80,90", "perhaps: 10.0.0.0/8,80-90"), (b"10.0.0.0/8: 80,90", "blank"), (b"10.0.0.0/8,1024", "not ruled"),
         (b"10.0.0.0/8,0", "not ruled"), (b"10.0.0.0/8", "no comma"), (b"10.0.0.0/33,80", "not of the form"), (b"10.0.0,80", "not of the form"),
         (b"10.0.0.0/8,080", "fewest digits"), (b"x" * 300, "no comma"), (b"10.0.0.0/8,80", None), (b"10.0.0.0/8,0-80", None), (b"10.0.0.0/8,511-2000", None),
-        (b"10.0.0.0/8,512", "granted by the marked file only"), (b"10.0.0.0/8,1023-2000", "granted by the marked file only"), (b"10.0.0.0/8:512,600", "marked"),
-        (b"::/0,80", None), (b"10.0.0.1-10.0.0.9,80-90", None), (b"10.0.0.0/8:80,90", None), (b"# x", None), (b"", None), (b"  \r", None),
+        (b"10.0.0.0/8,512", "granted by the marked file only"), (b"10.0.0.0/8,1023-2000", "granted by the marked file only"),
+        (b"::/0,80", None), (b"10.0.0.1-10.0.0.9,80-90", None), (b"# x", None), (b"", None), (b"  \r", None),
         (b"3FFE:0505::/32,80", None), (b"::ffff:10.0.0.0/128,80", None)],
 }
 
@@ -348,6 +348,8 @@ def test_marked(folder):
             ("quiet", ["432", "10.20.1.2,600", "-q", "--marked", marked], 0, b"")):
         expect("byuid: " + what, gate("byuid", both, *arguments), status, out, b"")
     expect("a marked file over its limit", gate("byuid", both, "432", "10.20.1.2,80", "--marked", long), 2, b"", "long: refused: longer than its section may be [2]")
+    pathlib.Path(long).write_bytes(b"x\n10.0.0.0/8:600,700\n")
+    expect("a marked file of the retired form", gate("byuid", both, "432", "10.20.1.2,80", "--marked", long), 2, b"", "long:2: refused: a line of the retired form")
     expect("a marked file that is not there", gate("byuid", both, "432", "10.20.1.2,80", "--marked", folder + "/none"), 2, b"", "No such file")
     requests = folder + "/requests"
     pathlib.Path(requests).write_text(f"byuid 432 10.20.1.2,600 --marked {marked} => granted marked:2\nbyuid 432 10.20.1.2,511 --marked {marked} => granted byuid:1\n"
@@ -387,6 +389,8 @@ def test_authbind(folder):
         expect(what, done, status, out, err)
     (root / "etc/authbind/byuid/432").write_bytes(b"#" * 8193)
     expect("a byuid file over its limit", ask("::1", 80), 2, b"", "432: refused: longer than its section may be [2]")
+    (root / "etc/authbind/byuid/432").write_bytes(b"::/0,80\n10.0.0.0/8:80,90\n")
+    expect("a byuid file of the retired form", ask("::1", 80), 2, b"", "432:2: refused: a line of the retired form that used to grant [22]; gate convert OLD NEW rewrites such lines")
     (root / "etc/authbind/byuid/432").unlink()
     (root / "etc/authbind/byuid/432").mkdir()
     expect("a byuid file that can't be read", ask("::1", 80), 2, b"", "Is a directory")
@@ -395,12 +399,12 @@ def test_authbind(folder):
 
 def test_explain(folder):
     expect("explain lists all", gate("explain"), 0, "\n14  ", b"")
-    expect("explain lists the last", gate("explain"), 0, "\n19  ", b"")
-    for number in range(20):
+    expect("explain lists the last", gate("explain"), 0, "\n22  ", b"")
+    for number in [*range(20), 22]:
         done = gate("explain", str(number))
         expect(f"explain {number}", done, 0, "What to do", b"")
-        example = re.search(rb"Example, in (hosts.allow|portacl|a table):\n    (.*)\n", done.stdout)
-        if not example or number in (4, 6):
+        example = re.search(rb"Example, in (hosts.allow|portacl|byuid|a table):\n    (.*)\n", done.stdout)
+        if not example or number in (2, 4, 6):
             continue
         text = re.sub(rb" \(.*\)", b"", example[2]).replace(b"\\r", b"\r")
         if example[1] == b"a table":
@@ -785,6 +789,43 @@ def test_upgrade(folder):
     expect("upgrading to a folder", gate("upgrade", old, folder), 2, b"", "is a folder")
 
 
+RETIRED = b"# x\n10.0.0.0/8:80,90\n10.0.0.1/8:80,90\n::/0,80\r\n192.0.2.7/32:443,443"
+RENEWED = b"# x\n10.0.0.0/8,80-90\n10.0.0.1/8:80,90\n::/0,80\r\n192.0.2.7/32,443-443"
+
+
+def test_convert(folder):
+    """byuid texts with lines of the retired form"""
+    old, new = pathlib.Path(folder) / "432", pathlib.Path(folder) / "new"
+    old.write_bytes(RETIRED)
+    where = station(folder + "/retired", byuid=RETIRED)
+    shown = (b"%s/byuid:2: a line of the retired form that used to grant [22]\n    2 | 10.0.0.0/8:80,90\n      | ^~~~~~~~~~~~~~~~\n"
+             b"      = write 10.0.0.0/8,80-90, which grants the same; gate convert does it for all such lines of the file\n" % os.fsencode(where))
+    expect("lines of the retired form", gate("check", where), 1, ": 2 faults", shown.decode())
+    expect("the last without a newline", gate("check", where), 1, None, "byuid:5: a line of the retired form that used to grant [22]\n")
+    expect("of a sheet", gate("check", "-", stdin=ref.sheet_of([b"", b"", RETIRED, b"", bytes(2)])), 1, ": 2 faults", "gate convert does it for the text that gate unpack writes")
+    expect("each is a fault, and no warning", gate("check", "-W", where), 1, ": 2 faults, 2 warnings", "byuid:3: warning: grants nothing: its address has bits set beyond its length")
+    expect("no decision by it", gate("byuid", where, "432", "10.20.1.2,80"), 2, b"", "refused: 2 faults")
+    expect("nor a verdict", gate("match", where, "sshd", "10.20.1.2"), 2, b"", "[22]")
+    expect("nor a sheet", gate("pack", where, new), 2, b"", "[22]")
+    expect("converting", gate("convert", old, new), 0, b"%s: %d bytes, 2 lines rewritten\n" % (os.fsencode(new), len(RENEWED)), b"")
+    if new.read_bytes() != RENEWED or old.read_bytes() != RETIRED:
+        fail("a converted text")
+    expect("converting from and to standard streams", gate("convert", "-", "-", stdin=RETIRED), 0, RENEWED, b"")
+    expect("converting again", gate("convert", new, new), 0, b"%s: %d bytes, 0 lines rewritten\n" % (os.fsencode(new), len(RENEWED)), b"")
+    expect("converting in place", gate("convert", "-q", old, old), 0, b"", b"")
+    if old.read_bytes() != RENEWED or new.read_bytes() != RENEWED:
+        fail("a text converted in place")
+    expect("what was converted is sound", gate("check", station(folder + "/retired", byuid=RENEWED)), 0, "sound", b"")
+    expect("an empty text", gate("convert", "-", "-", stdin=b""), 0, b"", b"")
+    new.write_bytes(b"what was there")
+    expect("a text over its limit", gate("convert", "-", new, stdin=b"\n" * 8193), 2, b"", "standard input: refused: longer than its section may be: the most is 8192 bytes [2]")
+    expect("a text of two megabytes", gate("convert", "-", new, stdin=bytes(1 << 21)), 2, b"", "[2]")
+    if new.read_bytes() != b"what was there" or left_over(folder):
+        fail("a refused conversion changes nothing")
+    expect("converting nothing", gate("convert", folder + "/none", new), 2, b"", "none: No such file")
+    expect("converting to a folder", gate("convert", old, folder), 2, b"", "is a folder")
+
+
 def faulty(library, call, turn, **what):
     return {**os.environ, "LD_PRELOAD": library, "FAULT_CALL": call, "FAULT_TURN": str(turn), **{"FAULT_" + k.upper(): str(int(v)) for k, v in what.items()}}
 
@@ -978,7 +1019,8 @@ def all_faults(texts):
     tables = ref.Tables(pairs)
     found = hosts_faults(1, texts[0]) + hosts_faults(2, texts[1]) + [(12, 4, i) for i, e in enumerate(ref.entries_of(texts[3]), 1) if e is None]
     found += naming_faults(15, texts, tables) + table_faults(15, pairs, tables, texts[4])
-    return found + naming_faults(16, texts, tables) + table_faults(17, pairs, tables, texts[4])
+    found += naming_faults(16, texts, tables) + table_faults(17, pairs, tables, texts[4])
+    return found + [(22, 3, i) for i, line in enumerate(texts[2].split(b"\n"), 1) if ref.retired(line)]
 
 
 def shown_faults(err):
@@ -986,7 +1028,7 @@ def shown_faults(err):
     for line in err.split(b"\n"):
         table = re.search(rb": table (\d+): [^\n]*\[(\d+)\]$", line)
         limit = re.search(rb": \d+ (?:tables|bytes with their names and counts), and the most is \d+ \[17\]$", line)
-        own = re.search(rb"\b(hosts\.allow|hosts\.deny|portacl)\)?(?::(\d+))?: (?:entry (\d+): )?[^\n]*\[(\d+)\]$", line)
+        own = re.search(rb"\b(hosts\.allow|hosts\.deny|byuid|portacl)\)?(?::(\d+))?: (?:entry (\d+): )?[^\n]*\[(\d+)\]$", line)
         if table:
             found.append((int(table[2]), 5, int(table[1])))
         elif limit:
@@ -1122,7 +1164,7 @@ def run_all():
     os.chmod(SCRATCH, 0o755)
     test_misread()
     test_read()
-    for test in (test_answers, test_checks, test_marked, test_authbind, test_explain, test_requests, test_reading, test_pack, test_unpack, test_tables, test_fleet,
+    for test in (test_answers, test_checks, test_marked, test_authbind, test_explain, test_requests, test_reading, test_pack, test_unpack, test_tables, test_fleet, test_convert,
                  test_upgrade, test_faults, test_full_disk):
         with tempfile.TemporaryDirectory(dir=SCRATCH) as folder:
             test(folder)

@@ -566,6 +566,42 @@ def search(allow, deny, r, tables):
 
 # Ports
 
+def net(text, kind, read, width):
+    """(kind, low, high) of addr/len without a set bit beyond len, or None"""
+    address, slash, length = text.partition(b"/")
+    n, m = read(address), decimal(length, width)
+    if not slash or n is None or m is None or n & ((1 << (width - m)) - 1):
+        return None
+    return kind, n, n | ((1 << (width - m)) - 1)
+
+
+# The old form of byuid lines, retired (document 02, request 11)
+
+@again
+def retired(line):
+    """of "a line that this form used to accept", addr4/len:pmin,pmax: as byuid_line; else None"""
+    form = re.fullmatch(rb"([0-9./]*):([0-9]*),([0-9]*)", line)
+    if not form:
+        return None
+    span, low, high = net(form[1], "4", read4, 32), decimal(form[2], 65535), decimal(form[3], 65535)
+    if span is None or low is None or high is None or low > high:
+        return None
+    return span + (low, high)
+
+
+def byuid_fault(text):
+    """22 with section 3 and the first such line"""
+    for number, line in enumerate(text.split(b"\n"), 1):
+        if retired(line):
+            return (22, 3, number)
+    return None
+
+
+def convert(text, room):
+    """a refusal, or the text with just those lines as addr4/len,pmin-pmax"""
+    return over(3, text) or within(room, b"\n".join(line.replace(b",", b"-").replace(b":", b",") if retired(line) else line for line in text.split(b"\n")))
+
+
 @again
 def byuid_line(line):
     """(kind, low, high, port low, port high) or None"""
@@ -576,13 +612,6 @@ def byuid_line(line):
             return None
         return values[0], values[-1]
 
-    def net(text, kind, read, width):
-        address, slash, length = text.partition(b"/")
-        n, m = read(address), decimal(length, width)
-        if not slash or n is None or m is None or n & ((1 << (width - m)) - 1):
-            return None
-        return kind, n, n | ((1 << (width - m)) - 1)
-
     for kind, read, width in (("4", read4, 32), ("6", read6, 128)):
         head, comma, tail = line.partition(b",")
         if comma and ports(tail):
@@ -591,11 +620,6 @@ def byuid_line(line):
                 return (kind, ends[0], ends[-1]) + ports(tail)
             if net(head, kind, read, width):
                 return net(head, kind, read, width) + ports(tail)
-    head, colon, tail = line.partition(b":")
-    low, comma, high = tail.partition(b",")
-    span = net(head, "4", read4, 32)
-    if colon and comma and span and decimal(low, 65535) is not None and decimal(high, 65535) is not None:
-        return span + (int(low), int(high))
     return None
 
 
@@ -604,8 +628,15 @@ SPANS = {"plain": range(1, 512), "marked": range(512, 1024)}
 
 def byuid(text, mark, port, address, uid):
     """mark: the file that the text comes from, "plain" or "marked" """
-    if over(3, text):
-        return over(3, text)
+    return over(3, text) or byuid_fault(text) or by_lines(text, byuid_line, mark, port, address, uid)
+
+
+def byuid_before(text, mark, port, address, uid):
+    """what the decision was before request 11: both forms grant, and no line is refused"""
+    return over(3, text) or by_lines(text, lambda line: byuid_line(line) or retired(line), mark, port, address, uid)
+
+
+def by_lines(text, read, mark, port, address, uid):
     if address is None or BAD in (address, mark, port):
         return (13, 0, 0)
     if not 1 <= port <= 1023 or uid == 0:
@@ -613,7 +644,7 @@ def byuid(text, mark, port, address, uid):
     if port not in SPANS[mark]:
         return "no line"
     for line in text.split(b"\n"):
-        form = byuid_line(line)
+        form = read(line)
         if form and form[0] == address[0] and form[1] <= address[1] <= form[2] and form[3] <= port <= form[4]:
             return "granted"
     return "no line"
@@ -772,7 +803,7 @@ def texts_fault(texts):
     for section, text in enumerate(texts[:4], 1):
         fault = fault or over(section, text)
     return (fault or frame_five(texts[4]) or hosts_fault(1, texts[0]) or hosts_fault(2, texts[1]) or portacl_fault(texts[3])
-            or naming_fault(texts[0], texts[1], texts[4]))
+            or naming_fault(texts[0], texts[1], texts[4]) or byuid_fault(texts[2]))
 
 
 def counted_sections(sheet):

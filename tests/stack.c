@@ -17,7 +17,7 @@
 enum { PAGE = 4096, PAINT = 0xa5, BEYOND = 3 };
 
 /* In the order of `exports`; NOTHING is no call at all, and its bytes are not counted. */
-enum export { VERDICT, TABLES_VERDICT, SHEET_VERDICT, COMMAND, SHEET_COMMAND, BYUID, SHEET_BYUID, PORTACL, SHEET_PORTACL, CHECK, UNPACK, PACK, UPGRADE,
+enum export { VERDICT, TABLES_VERDICT, SHEET_VERDICT, COMMAND, SHEET_COMMAND, BYUID, SHEET_BYUID, PORTACL, SHEET_PORTACL, CHECK, UNPACK, PACK, UPGRADE, CONVERT,
               EXPAND, READ_ADDRESS, WRITE_ADDRESS, AUTHBIND, NOTHING };
 
 /* For tables over all limits too. */
@@ -118,6 +118,7 @@ static uint32_t pack(void) {
         .number;
 }
 static uint32_t upgrade(void) { return gate_upgrade(out, sizeof out, sheet, sheet_len - tables.len).number; }
+static uint32_t convert(void) { return gate_convert(out, sizeof out, byuid.bytes, byuid.len).number; }
 static uint32_t expand(void) { return gate_expand_for(out, sizeof out, command.bytes, command.len, &request, 4294967295u).number; }
 static uint32_t read_address(void) { return gate_read_address(address.bytes, address.len).number; }
 static uint32_t write_address(void) { return gate_host_write(out, sizeof out, &at).number; }
@@ -132,7 +133,7 @@ static const struct {
     uint32_t (*call)(void);
 } exports[] = {{"gate_verdict", verdict}, {"gate_tables_verdict", tables_verdict}, {"gate_sheet_verdict", sheet_verdict}, {"gate_command", with_command}, {"gate_sheet_command", sheet_command},
                {"gate_byuid", by_uid}, {"gate_sheet_byuid", sheet_byuid}, {"gate_portacl", port_acl}, {"gate_sheet_portacl", sheet_portacl},
-               {"gate_check", check}, {"gate_unpack", unpack}, {"gate_pack", pack}, {"gate_upgrade", upgrade}, {"gate_expand", expand}, {"gate_read_address", read_address},
+               {"gate_check", check}, {"gate_unpack", unpack}, {"gate_pack", pack}, {"gate_upgrade", upgrade}, {"gate_convert", convert}, {"gate_expand", expand}, {"gate_read_address", read_address},
                {"gate_write_address", write_address}, {"gate_authbind", authbind}, {"nothing", nothing}};
 
 /* In the thread. */
@@ -271,7 +272,9 @@ static void ports(void) {
     hosts_files("full sheet", "b:b\n", 0);
     port_texts("full ports", "::1-ffff:ffff:ffff:ffff:ffff:ffff:255.255.255.255,1-65535\n", "gid:4294967295:udp:65535,");
     port_texts("full ports, short lines", "::,0\n", "uid:0:tcp:0,");
-    port_texts("full ports, IPv4", "255.255.255.255/32:1023,1023\n", "uid:1:udp:1,");
+    port_texts("full ports, IPv4", "255.255.255.255/32,1023-1023\n", "uid:1:udp:1,");
+    port_texts("full ports, ignored", "255.255.255.254/31:1023,1022\n", "uid:1:udp:1,");
+    port_texts("full ports, retired", "255.255.255.255/32:1023,1023\n", "uid:1:udp:1,");
     port_texts("full ports, ranges", "0.0.0.0-255.255.255.255,0-65535\n", "uid:1:udp:1,x,");
     port_texts("full ports, one line", "1", "1");
     port_texts("no ports", "", "");

@@ -165,6 +165,7 @@ CALLS = {
     b"unpack": ("t", unpack),
     b"pack": ("ntttttt", pack),
     b"upgrade": ("ntt", upgrade),
+    b"convert": ("nt", lambda room, text: shown(ref.convert(text, min(room, BLOCK)))),
     b"expand": ("ttttttnnt", expand),
     b"authbind": ("nntnt", authbind),
     b"read_address": ("t", read_address),

@@ -1,4 +1,7 @@
+pub mod SplitLaws
+pub mod FormLaws
 pub mod NumberLaws
 pub mod LineLaws
 pub mod TextLaws
+pub mod ConvertLaws
 pub mod Examples

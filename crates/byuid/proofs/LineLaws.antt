@@ -1,14 +1,16 @@
 -- Laws of a line's forms: what is found at its first mark, and what each answer follows from.
 -- Assumes nothing.
 use Prim.Native.Nat.{ℕ, _+_, _-_, _*_, _^_, _<_, _≤_}
-use mathlib.Core.Bool.{Bool, false, _&&_}
-use mathlib.Core.List.{List, []}
+use mathlib.Core.Bool.{Bool, true, false, _&&_}
+use mathlib.Core.List.{List, [], _∷_}
 use mathlib.Core.Option.{Option, none, some}
 use mathlib.Core.Path.{_≡_, refl, sym, ap, _∙_}
 use native.Mathlib.Omega.{arith}
+use lib.Dec.{leb}
 use lib.ListN.{length, take, drop}
-use Rattle.text.specs.Basics.{_>>=_, _orElse_, holds}
+use Rattle.text.specs.Basics.{_>>=_, _orElse_, holds, isSome, any}
 use Rattle.text.specs.Text.{bytes, splitOnce}
+use Rattle.text.specs.Number.{readDecimal}
 use Rattle.text.specs.Scan.{indexOf, asNumber}
 use Rattle.text.specs.declared.NumberRead.{NumberRead}
 use Rattle.text.specs.declared.NumberRead.the-variants as N
@@ -20,11 +22,13 @@ use Rattle.address.specs.declared.Addr.{Addr}
 use Rattle.address.specs.declared.Addr.the-variants as A
 use Rattle.address.specs.declared.read.V6Read.{V6Read}
 use Rattle.address.specs.declared.read.V6Read.the-variants as W
-use Rattle.byuid.specs.Byuid.{Range, readRange, readNet, readPort, readCommaForm, readColonForm, lineGrants}
-use Rattle.byuid.specs.Code.{readerOf, inside, insideBoth, membership, isMember, bothOf, betweenOf, endsOf, netFrom, portsOf}
+use Rattle.byuid.specs.Byuid.{Range, readRange, readNet, readPort, readCommaForm, readColonForm, within, lineGrants, isRetired}
+use Rattle.byuid.specs.Code.{readerOf, inside, insideBoth, membership, bothOf, betweenOf, endsOf, netFrom, portsOf, inOrder, heldOf, lookOf}
 use Rattle.byuid.specs.declared.line.Kind.the-variants as K
+use Rattle.byuid.specs.declared.line.Looked.the-variants as L
 use Rattle.byuid.specs.declared.line.Membership.{Membership}
 use Rattle.byuid.specs.declared.line.Membership.the-variants as H
+use Rattle.byuid.proofs.FormLaws.{retired-no-comma-v4, retired-no-comma-v6}
 use Rattle.byuid.proofs.NumberLaws.{asV6-none, asV6-some, range, alone-held}
 
 -- what the code lends of a text around a mark at i
@@ -144,79 +148,170 @@ module _ (w : ℕ) (f : List ℕ → Option ℕ) (l : List ℕ) (i : ℕ) (is-i 
       e ∙ rw (is-x, is-y, one-word p, take-rest l (i + 1), splitOnce-mark 44 l i is-i h)
       (both-held a p (readRange f (take i l) orElse readNet w f (take i l)) (readRange readPort (drop (i + 1) l)))
 
-module _ (s : List ℕ) (i : ℕ) (is-i : i ≡ indexOf 44 s) (p : ℕ) where
-  pub ports-no-mark : length s ≤ i → H.Nothing ≡ membership (inside p) (portsOf s)
-  unfolding portsOf membership
+-- ## The retired form
+
+-- two numbers around the first comma, in order
+module _ (s : List ℕ) (i : ℕ) (is-i : i ≡ indexOf 44 s) where
+  pub ports-no-mark : length s ≤ i → false ≡ holds inOrder (portsOf s)
+  unfolding portsOf
   ports-no-mark h = rw (splitOnce-no-mark 44 s i is-i h)
 
-  pub ports-mark : i < length s → (r : Membership) → r ≡ membership (inside (0 * 2 ^ 64 + p)) (endsOf (readerOf K.Port) (take i s) (rest s i)) → r
-      ≡ membership (inside p) (portsOf s)
-  unfolding portsOf readerOf
-  ports-mark h r e = e ∙ rw (one-word p, take-rest s (i + 1), splitOnce-mark 44 s i is-i h)
+  module _ (h : i < length s) (x : NumberRead) (is-x : x ≡ asNumber (readDecimal 65535 (take i s))) where
+    pub ports-no-min : x ≡ N.Nothing → false ≡ holds inOrder (portsOf s)
+    unfolding portsOf endsOf
+    ports-no-min e = rw (splitOnce-mark 44 s i is-i h, asNumber-none (readPort (take i s)) (sym is-x ∙ e))
 
--- a range and the ports after it, as the definition reads them
-ports-after : (o : Option Range) (s : List ℕ) → (o >>= λ x. portsOf s >>= λ y. ranges x y)
-    ≡ (o >>= λ x. splitOnce (bytes ",") s >>= λ q. readPort (q .0) >>= λ low. readPort (q .1) >>= λ high. ranges x (low, high))
-unfolding portsOf endsOf
-ports-after none s = refl
-ports-after (some x) s = by (splitOnce (bytes ",") s)
+    module _ (low : ℕ) (e : x ≡ N.Value low) (y : NumberRead) (is-y : y ≡ asNumber (readDecimal 65535 (rest s i))) where
+      after-mark : y ≡ asNumber (readPort (drop (i + 1) s))
+      after-mark = is-y ∙ rw (take-rest s (i + 1))
+
+      pub ports-no-max : y ≡ N.Nothing → false ≡ holds inOrder (portsOf s)
+      unfolding portsOf endsOf
+      ports-no-max f =
+          rw (
+            splitOnce-mark 44 s i is-i h,
+            asNumber-some (readPort (take i s)) low (sym is-x ∙ e),
+            asNumber-none (readPort (drop (i + 1) s)) (sym after-mark ∙ f),
+          )
+
+      pub ports-two : (high : ℕ) → y ≡ N.Value high → leb low high ≡ holds inOrder (portsOf s)
+      unfolding portsOf endsOf inOrder
+      ports-two high f =
+          rw (
+            splitOnce-mark 44 s i is-i h,
+            asNumber-some (readPort (take i s)) low (sym is-x ∙ e),
+            asNumber-some (readPort (drop (i + 1) s)) high (sym after-mark ∙ f),
+          )
+
+-- a net and the ports after it, in order
+in-order : (o : Option Range) (s : List ℕ)
+    → holds (λ g. leb (g .1 .0) (g .1 .1))
+    (o >>= λ a. splitOnce (bytes ",") s >>= λ q. readPort (q .0) >>= λ low. readPort (q .1) >>= λ high. ranges a (low, high))
+    ≡ (isSome o && holds inOrder (portsOf s))
+unfolding portsOf endsOf inOrder
+in-order none s = refl
+in-order (some a) s = by (splitOnce (bytes ",") s)
   where
-    ends : (o p : Option ℕ) → ((o >>= λ low. p >>= λ high. range low high) >>= λ y. ranges x y) ≡ (o >>= λ low. p >>= λ high. ranges x (low, high))
+    ends : (o p : Option ℕ) → holds (λ (g : Range × Range). leb (g .1 .0) (g .1 .1)) (o >>= λ low. p >>= λ high. ranges a (low, high))
+        ≡ holds (λ (g : Range). leb (g .0) (g .1)) (o >>= λ low. p >>= λ high. range low high)
     ends none p = refl
     ends (some low) none = refl
     ends (some low) (some high) = refl
 
-    by : (m : Option (List ℕ × List ℕ)) → ((m >>= λ q. endsOf readPort (q .0) (q .1)) >>= λ y. ranges x y)
-        ≡ (m >>= λ q. readPort (q .0) >>= λ low. readPort (q .1) >>= λ high. ranges x (low, high))
+    by : (m : Option (List ℕ × List ℕ))
+        → holds (λ (g : Range × Range). leb (g .1 .0) (g .1 .1)) (m >>= λ q. readPort (q .0) >>= λ low. readPort (q .1) >>= λ high. ranges a (low, high))
+        ≡ holds (λ (g : Range). leb (g .0) (g .1)) (m >>= λ q. readPort (q .0) >>= λ low. readPort (q .1) >>= λ high. range low high)
     by none = refl
     by (some q) = ends (readPort (q .0)) (readPort (q .1))
 
-module _ (l : List ℕ) (i : ℕ) (is-i : i ≡ indexOf 58 l) (a p : ℕ) where
-  pub colon-no-mark : length l ≤ i → H.Nothing ≡ membership (insideBoth a p) (readColonForm l)
-  unfolding readColonForm membership
-  colon-no-mark h = rw (splitOnce-no-mark 58 l i is-i h)
+module _ (l : List ℕ) (i : ℕ) (is-i : i ≡ indexOf 58 l) where
+  pub retired-no-mark : length l ≤ i → false ≡ isRetired l
+  unfolding isRetired readColonForm
+  retired-no-mark h = rw (splitOnce-no-mark 58 l i is-i h)
 
-  pub colon-mark : i < length l → (x y r : Membership) → x ≡ membership (inside a) (readNet 32 readV4 (take i l))
-      → y ≡ membership (inside p) (portsOf (rest l i)) → r ≡ bothOf x y → r ≡ membership (insideBoth a p) (readColonForm l)
-  unfolding readColonForm
-  colon-mark h x y r is-x is-y e =
-      e ∙ rw (is-x, is-y, take-rest l (i + 1), splitOnce-mark 58 l i is-i h)
-      (both-held a p (readNet 32 readV4 (take i l)) (portsOf (drop (i + 1) l))
-      ∙ ap (membership (insideBoth a p)) (ports-after (readNet 32 readV4 (take i l)) (drop (i + 1) l)))
+  module _ (h : i < length l) (x : Membership) (is-x : x ≡ membership (inside 0) (readNet 32 readV4 (take i l))) where
+    by-parts : isRetired l ≡ (isSome (readNet 32 readV4 (take i l)) && holds inOrder (portsOf (drop (i + 1) l)))
+    unfolding isRetired readColonForm
+    by-parts = rw (splitOnce-mark 58 l i is-i h) (in-order (readNet 32 readV4 (take i l)) (drop (i + 1) l))
+
+    pub retired-no-net : x ≡ H.Nothing → false ≡ isRetired l
+    unfolding membership
+    retired-no-net e = sym (by-parts ∙ by (readNet 32 readV4 (take i l)) (sym is-x ∙ e))
+      where
+        by : (o : Option Range) → membership (inside 0) o ≡ H.Nothing → (isSome o && holds inOrder (portsOf (drop (i + 1) l))) ≡ false
+        by none k = refl
+        by (some g) k = let z : _≡_ {A = ℕ} 0 1 = cc in absurd (omega arith)
+
+    pub retired-ports : (b : Bool) → x ≡ H.Is b → (y : Bool) → y ≡ holds inOrder (portsOf (rest l i)) → y ≡ isRetired l
+    unfolding membership
+    retired-ports b e y is-y = is-y ∙ rw (take-rest l (i + 1)) (sym (by-parts ∙ by (readNet 32 readV4 (take i l)) (sym is-x ∙ e)))
+      where
+        by : (o : Option Range) → membership (inside 0) o ≡ H.Is b
+            → (isSome o && holds inOrder (portsOf (drop (i + 1) l))) ≡ holds inOrder (portsOf (drop (i + 1) l))
+        by none k = let z : _≡_ {A = ℕ} 0 1 = cc in absurd (omega arith)
+        by (some g) k = refl
 
 -- ## Lines
 
--- at an IPv4 address
-module _ (l : List ℕ) (a p : ℕ) (h : Membership) (is-h : h ≡ membership (insideBoth a p) (readCommaForm 32 readV4 l)) where
-  pub v4-colon : h ≡ H.Nothing → (r : Membership) → r ≡ membership (insideBoth a p) (readColonForm l) → r
-      ≡ membership (insideBoth a p) (readCommaForm 32 readV4 l orElse readColonForm l)
-  v4-colon = or-nothing (insideBoth a p) (readCommaForm 32 readV4 l) (readColonForm l) h is-h
-
-  pub v4-comma : (b : Bool) → h ≡ H.Is b → h ≡ membership (insideBoth a p) (readCommaForm 32 readV4 l orElse readColonForm l)
-  v4-comma = or-is (insideBoth a p) (readCommaForm 32 readV4 l) (readColonForm l) h is-h
-
-isMember-membership : {A : Type 0} (p : A → Bool) (o : Option A) → isMember (membership p o) ≡ holds p o
-unfolding membership
-isMember-membership p none = refl
-isMember-membership p (some x) = refl
-
 module _ (addr : Addr) (p : ℕ) (l : List ℕ) where
-  pub grants-unknown : addr ≡ A.Unknown → false ≡ lineGrants addr p l
-  unfolding lineGrants
-  grants-unknown e = rw e
+  pub held-unknown : addr ≡ A.Unknown → H.Nothing ≡ heldOf addr p l
+  unfolding heldOf
+  held-unknown e = rw e
 
-  module _ (h : Membership) (r : Bool) (is-r : r ≡ isMember h) where
-    pub grants-v4 : (n : ℕ) → addr ≡ A.V4 n → h ≡ membership (insideBoth n p) (readCommaForm 32 readV4 l orElse readColonForm l) → r ≡ lineGrants addr p l
-    unfolding lineGrants insideBoth inside
-    grants-v4 n e f = is-r ∙ ap isMember f ∙ isMember-membership (insideBoth n p) (readCommaForm 32 readV4 l orElse readColonForm l) ∙ rw e
+  module _ (r : Membership) where
+    pub held-v4 : (n : ℕ) → addr ≡ A.V4 n → r ≡ membership (insideBoth n p) (readCommaForm 32 readV4 l) → r ≡ heldOf addr p l
+    unfolding heldOf
+    held-v4 n e f = f ∙ rw e
 
-    pub grants-v6 : (a b : ℕ) → addr ≡ A.V6 a b → h ≡ membership (insideBoth (a * 2 ^ 64 + b) p) (readCommaForm 128 readV6 l) → r ≡ lineGrants addr p l
-    unfolding lineGrants insideBoth inside
-    grants-v6 a b e f = is-r ∙ ap isMember f ∙ isMember-membership (insideBoth (a * 2 ^ 64 + b) p) (readCommaForm 128 readV6 l) ∙ rw e
+    pub held-v6 : (a b : ℕ) → addr ≡ A.V6 a b → r ≡ membership (insideBoth (a * 2 ^ 64 + b) p) (readCommaForm 128 readV6 l) → r ≡ heldOf addr p l
+    unfolding heldOf
+    held-v6 a b e f = f ∙ rw e
+
+-- what a form that was read says of the request
+within-is : (p n : ℕ) (o : Option (Range × Range)) (b : Bool) → membership (insideBoth n p) o ≡ H.Is b → b ≡ within p o n
+unfolding membership insideBoth inside
+within-is p n none b e = let z : _≡_ {A = ℕ} 0 1 = cc in absurd (omega arith)
+within-is p n (some g) b e = cc
+
+within-nothing : (p n : ℕ) (o : Option (Range × Range)) → membership (insideBoth n p) o ≡ H.Nothing → false ≡ within p o n
+unfolding membership
+within-nothing p n none e = refl
+within-nothing p n (some g) e = let z : _≡_ {A = ℕ} 0 1 = cc in absurd (omega arith)
+
+is-not-none : (p n : ℕ) (o : Option (Range × Range)) (b : Bool) → membership (insideBoth n p) o ≡ H.Is b → o ≡ none → ⊥
+unfolding membership
+is-not-none p n none b e q = let z : _≡_ {A = ℕ} 0 1 = cc in omega arith
+is-not-none p n (some g) b e q = let z : _≡_ {A = ℕ} 0 1 = cc in omega arith
+
+not-retired : (l : List ℕ) → (isRetired l ≡ true → ⊥) → isRetired l ≡ false
+not-retired l n = by (isRetired l) n
+  where
+    by : (b : Bool) → (b ≡ true → ⊥) → b ≡ false
+    by true n = absurd (n refl)
+    by false n = refl
+
+module _ (a : Addr) (p : ℕ) (l : List ℕ) (h : Membership) (is-h : h ≡ heldOf a p l) where
+  -- a line of a form that grants is not of the retired one
+  pub look-is : (b : Bool) → h ≡ H.Is b → L.Grants b ≡ lookOf a p l
+  unfolding heldOf lookOf lineGrants
+  look-is b e = by a (sym is-h ∙ e)
+    where
+      by : (a : Addr) → heldOf a p l ≡ H.Is b → L.Grants b ≡ lookOf a p l
+      by A.Unknown k = let z : _≡_ {A = ℕ} 0 1 = cc in absurd (omega arith)
+      by (A.V4 n) k =
+          rw (not-retired l (λ t. is-not-none p n (readCommaForm 32 readV4 l) b k (retired-no-comma-v4 l t)))
+          (ap L.Grants (within-is p n (readCommaForm 32 readV4 l) b k))
+      by (A.V6 x y) k =
+          rw (not-retired l (λ t. is-not-none p (x * 2 ^ 64 + y) (readCommaForm 128 readV6 l) b k (retired-no-comma-v6 l t)))
+          (ap L.Grants (within-is p (x * 2 ^ 64 + y) (readCommaForm 128 readV6 l) b k))
+
+  module _ (e : h ≡ H.Nothing) (x : Bool) (is-x : x ≡ isRetired l) where
+    pub look-retired : x ≡ true → L.Retired ≡ lookOf a p l
+    unfolding lookOf
+    look-retired f = rw (← is-x, f)
+
+    pub look-nothing : x ≡ false → L.Grants false ≡ lookOf a p l
+    unfolding lookOf heldOf lineGrants
+    look-nothing f = rw (← is-x, f) (ap L.Grants (by a (sym is-h ∙ e)))
+      where
+        by : (a : Addr) → heldOf a p l ≡ H.Nothing → false ≡ lineGrants a p l
+        by A.Unknown k = refl
+        by (A.V4 n) k = within-nothing p n (readCommaForm 32 readV4 l) k
+        by (A.V6 x y) k = within-nothing p (x * 2 ^ 64 + y) (readCommaForm 128 readV6 l) k
 
 -- a line of no bytes
 pub grants-nil : (addr : Addr) (p : ℕ) → lineGrants addr p [] ≡ false
-unfolding lineGrants readCommaForm readColonForm splitOnce
+unfolding lineGrants readCommaForm splitOnce
 grants-nil A.Unknown p = refl
 grants-nil (A.V4 n) p = refl
 grants-nil (A.V6 a b) p = refl
+
+pub retired-nil : isRetired [] ≡ false
+unfolding isRetired readColonForm splitOnce
+retired-nil = refl
+
+-- no line grants where no address is asked for
+pub grants-unknown : (p : ℕ) (ls : List (List ℕ)) → any (lineGrants A.Unknown p) ls ≡ false
+unfolding any lineGrants
+grants-unknown p [] = refl
+grants-unknown p (l ∷ ls) = grants-unknown p ls

@@ -7,28 +7,48 @@
 --   betweenOf l h n      == whether n is between two numbers that were read
 --   endsOf f x y         == the range from what x writes to what y writes
 --   netFrom w n t        == the net of n, of w bits, whose length t writes
---   portsOf t            == the ports `pmin,pmax`
+--   portsOf t            == the ports `pmin,pmax`; inOrder g == a range whose min is not over its max
+--   heldOf a p l         == whether the line l, of a form that grants, holds the port p at the address a
+--   lookOf a p l         == what the line l says of the port p at the address a
+--   walk a p n g ls      == what the walk over the lines ls, the first of number n, finds, where g says whether a line before grants
+--   searchedFor m p a uid == the address that the lines of a file are held against
+--   decisionBy, answerBy == the decision, and the answer, where it is known whether a line grants
+--   checkedOf o          == o as the code answers it
 -- Assumes nothing: these are definitions.
 use Prim.Native.Nat.{ℕ, _+_, _-_, _*_, _/_, _%_, _^_}
-use mathlib.Core.Bool.{Bool, false, _&&_}
-use mathlib.Core.List.{List}
+use mathlib.Core.Bool.{Bool, false, not, _&&_, _||_}
+use mathlib.Core.List.{List, [], _∷_}
 use mathlib.Core.Option.{Option, none, some}
-use lib.Dec.{eqb}
-use Rattle.text.specs.Basics.{_>>=_, given}
+use lib.Dec.{eqb, leb}
+use Rattle.text.specs.Basics.{if_then_else_, _>>=_, given}
 use Rattle.text.specs.Text.{bytes, splitOnce, inRange}
 use Rattle.text.specs.Number.{readDecimal}
 use Rattle.text.specs.declared.NumberRead.{NumberRead}
 use Rattle.text.specs.declared.NumberRead.the-variants as N
-use Rattle.address.specs.Address.{readV4, readV6}
+use Rattle.section.specs.declared.Fault.the-variants as F
+use Rattle.section.specs.declared.Refusal.{Refusal}
+use Rattle.section.specs.Refusal.{placeless}
+use Rattle.address.specs.declared.Addr.{Addr}
+use Rattle.address.specs.declared.Addr.the-variants as A
+use Rattle.address.specs.Address.{addrCase, readV4, readV6}
 use Rattle.address.specs.declared.read.V6Read.{V6Read}
 use Rattle.address.specs.declared.read.V6Read.the-variants as W
-use Rattle.byuid.specs.Byuid.{Range, readPort}
+use Rattle.byuid.specs.Byuid.{Range, readPort, readCommaForm, lineGrants, isRetired, isRuled, inSpan}
+use Rattle.byuid.specs.declared.Checked.{Checked}
+use Rattle.byuid.specs.declared.Checked.the-variants as C
 use Rattle.byuid.specs.declared.Decision.{Decision}
 use Rattle.byuid.specs.declared.Decision.the-variants.{NotRuled, Granted, NoLine}
 use Rattle.byuid.specs.declared.line.Kind.{Kind}
 use Rattle.byuid.specs.declared.line.Kind.the-variants as K
+use Rattle.byuid.specs.declared.line.Looked.{Looked}
+use Rattle.byuid.specs.declared.line.Looked.the-variants as L
 use Rattle.byuid.specs.declared.line.Membership.{Membership}
 use Rattle.byuid.specs.declared.line.Membership.the-variants as H
+use Rattle.byuid.specs.declared.Mark.{Mark}
+use Rattle.byuid.specs.declared.Ruling.{Ruling}
+use Rattle.byuid.specs.declared.Ruling.the-variants as R
+use Rattle.byuid.specs.declared.Walked.{Walked}
+use Rattle.byuid.specs.declared.Walked.the-variants.{Retired, Sound}
 
 -- the paper's words; no promise cites them
 abbrev pub decisionWord : Decision → List ℕ
@@ -60,10 +80,6 @@ module _ {A : Type 0} where
   membership p none = H.Nothing
   membership p (some x) = H.Is (p x)
 
-abbrev pub isMember : Membership → Bool
-isMember H.Nothing = false
-isMember (H.Is b) = b
-
 abbrev pub bothOf : Membership → Membership → Membership
 bothOf H.Nothing h = H.Nothing
 bothOf (H.Is x) H.Nothing = H.Nothing
@@ -89,3 +105,35 @@ unfoldable pub portsOf : List ℕ → Option Range
 portsOf t = do
   q ← splitOnce (bytes ",") t
   endsOf readPort (q .0) (q .1)
+
+unfoldable pub inOrder : Range → Bool
+inOrder g = leb (g .0) (g .1)
+
+-- ## Lines
+
+unfoldable pub heldOf : Addr → ℕ → List ℕ → Membership
+heldOf a p l =
+    addrCase a H.Nothing (λ n. membership (insideBoth n p) (readCommaForm 32 readV4 l)) (λ n. membership (insideBoth n p) (readCommaForm 128 readV6 l))
+
+unfoldable pub lookOf : Addr → ℕ → List ℕ → Looked
+lookOf a p l = if isRetired l then L.Retired else L.Grants (lineGrants a p l)
+
+unfoldable pub walk : Addr → ℕ → ℕ → Bool → List (List ℕ) → Walked
+walk a p n g [] = Sound g
+walk a p n g (l ∷ ls) = if isRetired l then Retired n else walk a p (n + 1) (g || lineGrants a p l) ls
+
+abbrev pub checkedOf : Option Refusal → Checked
+checkedOf none = C.Sound
+checkedOf (some r) = C.Refused r
+
+-- ## The decision
+
+unfoldable pub searchedFor : Mark → ℕ → Addr → ℕ → Addr
+searchedFor m p a uid = if isRuled p uid && inSpan m p then a else A.Unknown
+
+unfoldable pub decisionBy : ℕ → ℕ → Bool → Decision
+decisionBy p uid granted = if not (isRuled p uid) then NotRuled else if granted then Granted else NoLine
+
+abbrev pub answerBy : ℕ → Addr → ℕ → Bool → Ruling
+answerBy p a uid granted =
+    addrCase a (R.Refused (placeless F.BadRequest)) (λ n. R.Answered (decisionBy p uid granted)) (λ n. R.Answered (decisionBy p uid granted))

@@ -1,13 +1,17 @@
-// The decision by an authbind byuid file.
+// The decision by an authbind byuid file. The text is walked once: each line is held against the bind, and looked at for the retired form.
 //   decide(text, mark, port, addr, uid) == the call: every check, then the decision
+//   check(text) == the refusal of the first line of the retired form
+//   convert     == a text with such lines in their new form
 use address::Addr;
 use section::Fault;
 use section::Refusal;
+ghost use mathlib.Core.Bool.{false};
 ghost use mathlib.Core.Option.{some};
 ghost use mathlib.Core.Path.{_≡_};
-ghost use Rattle.text.specs.Basics.{any};
 ghost use Rattle.text.specs.Text.{split};
-ghost use Rattle.byuid.specs.Byuid.{lineGrants, isRuled, inSpan, byuidDecision, bind, fileBind, decideByuid, byuidRuling};
+ghost use Rattle.byuid.specs.Byuid.{isRuled, inSpan, byuidFault, bind, fileBind, decideByuid, byuidRuling};
+ghost use Rattle.byuid.specs.Code.{checkedOf, walk, searchedFor, decisionBy, answerBy};
+use line::Looked;
 
 // The words of the decision.
 pub enum Decision {
@@ -28,22 +32,53 @@ pub enum Ruling {
     Answered(Decision),
 }
 
+// What check answers: the refusal of a retired line, or that there is none.
+pub enum Checked {
+    Sound,
+    Refused(Refusal),
+}
+
+// What the walk over the lines finds: the number of the first retired one, or whether one grants.
+enum Walked {
+    Retired(usize),
+    Sound(bool),
+}
+
+pub mod convert;
 mod line;
 
-// Whether some line of s grants the port at the address. A last line without a newline counts.
-fn any_grants(s: &[u8], addr: Addr, port: u16) -> bool
-    ensures { λ r. ⌜ r ≡ any (lineGrants addr port) (split "\n" (now (s .entry))) ⌝ }
+// Every line is looked at. A last line without a newline counts.
+fn walk_lines(text: &[u8], addr: Addr, port: u16) -> Walked
+    ensures { λ r. ⌜ r ≡ walk addr port 1 false (split "\n" (now (text .entry))) ⌝ }
 {
+    let mut granted = false;
+    let mut number = 1;
     let mut at = 0;
-    while at < s.len() {
-        let n = text::index_of(&s[at..], b'\n');
-        let e = at + n;
-        if line::grants(&s[at..e], addr, port) {
-            return true;
+    while at < text.len() {
+        let end = at + text::index_of(&text[at..], b'\n');
+        match line::look(&text[at..end], addr, port) {
+            Looked::Retired => return Walked::Retired(number),
+            Looked::Grants(b) => {
+                granted = granted | b;
+            }
         }
-        at = e + 1;
+        number += 1;
+        at = end + 1;
     }
-    false
+    Walked::Sound(granted)
+}
+
+// The refusal of the first line of the retired form.
+pub fn check(text: &[u8]) -> Checked
+    ensures { λ r. ⌜ r ≡ checkedOf (byuidFault (now (text .entry))) ⌝ }
+{
+    match walk_lines(text, Addr::Unknown, 0) {
+        Walked::Retired(number) => Checked::Refused(section::Byuid::refusal(
+            Fault::RetiredForm,
+            number,
+        )),
+        Walked::Sound(_) => Checked::Sound,
+    }
 }
 
 // Whether the lines rule the bind of a port by a caller.
@@ -63,20 +98,39 @@ fn in_span(mark: Mark, port: u16) -> bool
     }
 }
 
-// The decision, the checks passed.
-fn decide_by_lines(text: &[u8], mark: Mark, port: u16, addr: Addr, uid: u32) -> Decision
-    ensures { λ r. ⌜ r ≡ byuidDecision (now (text .entry)) mark port addr uid ⌝ }
+// The address that the lines are held against: none where the file may not grant the bind.
+fn searched_for(mark: Mark, port: u16, addr: Addr, uid: u32) -> Addr
+    ensures { λ r. ⌜ r ≡ searchedFor mark port addr uid ⌝ }
+{
+    if is_ruled(port, uid) & in_span(mark, port) {
+        addr
+    } else {
+        Addr::Unknown
+    }
+}
+
+// The decision, where granted says whether a line grants.
+fn decision_by(port: u16, uid: u32, granted: bool) -> Decision
+    ensures { λ r. ⌜ r ≡ decisionBy port uid granted ⌝ }
 {
     if !is_ruled(port, uid) {
         return Decision::NotRuled;
     }
-    if !in_span(mark, port) {
-        return Decision::NoLine;
-    }
-    if any_grants(text, addr, port) {
+    if granted {
         Decision::Granted
     } else {
         Decision::NoLine
+    }
+}
+
+// The same for an address of any kind; an unknown one is refused.
+fn answer_by(port: u16, addr: Addr, uid: u32, granted: bool) -> Ruling
+    ensures { λ r. ⌜ r ≡ answerBy port addr uid granted ⌝ }
+{
+    match addr {
+        Addr::Unknown => Ruling::Refused(section::placeless(Fault::BadRequest)),
+        Addr::V4(_) => Ruling::Answered(decision_by(port, uid, granted)),
+        Addr::V6(_, _) => Ruling::Answered(decision_by(port, uid, granted)),
     }
 }
 
@@ -87,9 +141,12 @@ pub fn decide(text: &[u8], mark: Mark, port: u16, addr: Addr, uid: u32) -> Rulin
     if section::Byuid::over(text.len()) {
         return Ruling::Refused(section::Byuid::refusal(Fault::OverLimit, 0));
     }
-    match addr {
-        Addr::Unknown => Ruling::Refused(section::placeless(Fault::BadRequest)),
-        Addr::V4(_) => Ruling::Answered(decide_by_lines(text, mark, port, addr, uid)),
-        Addr::V6(_, _) => Ruling::Answered(decide_by_lines(text, mark, port, addr, uid)),
+    let held_against = searched_for(mark, port, addr, uid);
+    match walk_lines(text, held_against, port) {
+        Walked::Retired(number) => Ruling::Refused(section::Byuid::refusal(
+            Fault::RetiredForm,
+            number,
+        )),
+        Walked::Sound(granted) => answer_by(port, addr, uid, granted),
     }
 }

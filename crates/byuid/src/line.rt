@@ -1,5 +1,6 @@
 // One line of a byuid file. An end of a range, of any kind, is held as its two words, the high one first; nets of IPv4 are words of 32 bits.
-//   grants(l, addr, port) == the line l grants the port at the address
+//   look(l, addr, port) == the line l is of the retired form, or else whether it grants the port at the address
+//   is_retired(l)       == the line l is one that the form addr4/len:pmin,pmax used to accept
 use address::Addr;
 use address::prefix::clear_beyond_v4;
 use address::prefix::clear_beyond_v6;
@@ -12,11 +13,12 @@ use text::NumberRead;
 ghost use mathlib.Core.Path.{_≡_};
 ghost use Prim.Native.Nat.{_+_, _*_, _^_};
 ghost use lib.Dec.{leb};
-ghost use Rattle.text.specs.Basics.{_orElse_};
+ghost use Rattle.text.specs.Basics.{_orElse_, holds};
 ghost use Rattle.address.specs.Address.{readV4, readV6};
 ghost use Rattle.address.specs.Code.{asV6};
-ghost use Rattle.byuid.specs.Byuid.{readRange, readNet, readCommaForm, readColonForm, lineGrants};
-ghost use Rattle.byuid.specs.Code.{readerOf, wideOf, inside, insideBoth, membership, isMember, bothOf, betweenOf, endsOf, netFrom, portsOf};
+ghost use Rattle.byuid.specs.Byuid.{readRange, readNet, readCommaForm, isRetired};
+ghost use Rattle.byuid.specs.Code.{readerOf, wideOf, inside, insideBoth, membership, bothOf, betweenOf, endsOf, netFrom, portsOf, inOrder};
+ghost use Rattle.byuid.specs.Code.{lookOf, heldOf};
 
 // What a number of a line stands for.
 enum Kind {
@@ -29,6 +31,12 @@ enum Kind {
 enum Membership {
     Nothing,
     Is(bool),
+}
+
+// What a line says of a request: it is of the retired form, or whether it grants.
+pub(crate) enum Looked {
+    Retired,
+    Grants(bool),
 }
 
 // A number of at most 32 bits as two words.
@@ -227,60 +235,62 @@ fn comma_form_v6(l: &[u8], high: u64, low: u64, port: u16) -> Membership
     }
 }
 
-// Whether the ports pmin,pmax in s hold one.
-fn ports_hold(s: &[u8], port: u16) -> Membership
-    ensures { λ r. ⌜ r ≡ membership (inside port) (portsOf (now (s .entry))) ⌝ }
+// Whether s writes ports pmin,pmax, the min not over the max.
+fn ports_rise(s: &[u8]) -> bool
+    ensures { λ r. ⌜ r ≡ holds inOrder (portsOf (now (s .entry))) ⌝ }
 {
     let i = text::index_of(s, b',');
     if i < s.len() {
-        ends_hold(&s[..i], &s[i + 1..], Kind::Port, 0, port as u64)
+        match text::read_decimal(&s[..i], 65535) {
+            NumberRead::Nothing => false,
+            NumberRead::Value(min) => match text::read_decimal(&s[i + 1..], 65535) {
+                NumberRead::Nothing => false,
+                NumberRead::Value(max) => min <= max,
+            },
+        }
     } else {
-        Membership::Nothing
+        false
     }
 }
 
-// Whether a line addr4/len:pmin,pmax holds the request.
-fn colon_form(l: &[u8], addr: u32, port: u16) -> Membership
-    ensures { λ r. ⌜ r ≡ membership (insideBoth addr port) (readColonForm (now (l .entry))) ⌝ }
+// Whether the line l is one that the form addr4/len:pmin,pmax used to accept.
+pub(crate) fn is_retired(l: &[u8]) -> bool
+    ensures { λ r. ⌜ r ≡ isRetired (now (l .entry)) ⌝ }
 {
     let i = text::index_of(l, b':');
     if i < l.len() {
-        let a = net_holds_v4(&l[..i], addr);
-        let p = ports_hold(&l[i + 1..], port);
-        both(a, p)
+        match net_holds_v4(&l[..i], 0) {
+            Membership::Nothing => false,
+            Membership::Is(_) => ports_rise(&l[i + 1..]),
+        }
     } else {
-        Membership::Nothing
+        false
     }
 }
 
-// Whether a line holds the request, at an IPv4 address.
-fn held_v4(l: &[u8], addr: u32, port: u16) -> Membership
-    ensures { λ r. ⌜ r ≡ membership (insideBoth addr port) (readCommaForm 32 readV4 (now (l .entry)) orElse readColonForm (now (l .entry))) ⌝ }
-{
-    let h = comma_form_v4(l, addr, port);
-    match h {
-        Membership::Nothing => colon_form(l, addr, port),
-        Membership::Is(_) => h,
-    }
-}
-
-// Whether the request is held.
-fn is_member(h: Membership) -> bool
-    ensures { λ r. ⌜ r ≡ isMember h ⌝ }
-{
-    match h {
-        Membership::Nothing => false,
-        Membership::Is(b) => b,
-    }
-}
-
-// Whether the line l grants the port at the address.
-pub(crate) fn grants(l: &[u8], addr: Addr, port: u16) -> bool
-    ensures { λ r. ⌜ r ≡ lineGrants addr port (now (l .entry)) ⌝ }
+// Whether a line of a form that grants holds the request.
+fn held(l: &[u8], addr: Addr, port: u16) -> Membership
+    ensures { λ r. ⌜ r ≡ heldOf addr port (now (l .entry)) ⌝ }
 {
     match addr {
-        Addr::Unknown => false,
-        Addr::V4(n) => is_member(held_v4(l, n, port)),
-        Addr::V6(a, b) => is_member(comma_form_v6(l, a, b, port)),
+        Addr::Unknown => Membership::Nothing,
+        Addr::V4(n) => comma_form_v4(l, n, port),
+        Addr::V6(a, b) => comma_form_v6(l, a, b, port),
+    }
+}
+
+// What the line l says of the port at the address. A line of a form that grants is not of the retired one.
+pub(crate) fn look(l: &[u8], addr: Addr, port: u16) -> Looked
+    ensures { λ r. ⌜ r ≡ lookOf addr port (now (l .entry)) ⌝ }
+{
+    match held(l, addr, port) {
+        Membership::Is(b) => Looked::Grants(b),
+        Membership::Nothing => {
+            if is_retired(l) {
+                Looked::Retired
+            } else {
+                Looked::Grants(false)
+            }
+        }
     }
 }

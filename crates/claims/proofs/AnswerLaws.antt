@@ -56,6 +56,7 @@ fault-nonzero F.TooDeep e = omega arith
 fault-nonzero F.BadTable e = omega arith
 fault-nonzero F.DottedAddress e = omega arith
 fault-nonzero F.LateAnswer e = omega arith
+fault-nonzero F.RetiredForm e = omega arith
 
 check-answered : (o : Outcome Parts) → checkAnswer o ≡ accepted → (p : Parts) × (o ≡ answered p)
 unfolding checkAnswer
@@ -80,7 +81,7 @@ front-answered out o t e = rw e (take-at t (drop (length t) out) (length t) refl
 
 -- ## Every decision
 
-fault-range : (f : Fault) → (1 ≤ faultNumber f) × (faultNumber f ≤ 19)
+fault-range : (f : Fault) → (1 ≤ faultNumber f) × (faultNumber f ≤ 22)
 fault-range F.CutShort = (omega arith, omega arith)
 fault-range F.OverLimit = (omega arith, omega arith)
 fault-range F.TrailingBytes = (omega arith, omega arith)
@@ -100,6 +101,7 @@ fault-range F.TooDeep = (omega arith, omega arith)
 fault-range F.BadTable = (omega arith, omega arith)
 fault-range F.DottedAddress = (omega arith, omega arith)
 fault-range F.LateAnswer = (omega arith, omega arith)
+fault-range F.RetiredForm = (omega arith, omega arith)
 
 refusal-decision : (r : Refusal) → Decision (refusalAnswer r)
 refusal-decision r = by-refusal r (fault-range (r .fault) .0) (fault-range (r .fault) .1)
@@ -145,32 +147,32 @@ every-decision = record {
 
 -- ## Every number
 
-fault-most : (f : Fault) → faultNumber f ≤ 19
+fault-most : (f : Fault) → faultNumber f ≤ 22
 fault-most f = fault-range f .1
 
-written-most : (o : Outcome (List ℕ)) → writtenAnswer o .number ≤ 19
+written-most : (o : Outcome (List ℕ)) → writtenAnswer o .number ≤ 22
 unfolding writtenAnswer
 written-most (refused r) = fault-most (r .fault)
 written-most (answered t) = omega arith
 
-check-most : (o : Outcome Parts) → checkAnswer o .number ≤ 19
+check-most : (o : Outcome Parts) → checkAnswer o .number ≤ 22
 unfolding checkAnswer
 check-most (refused r) = fault-most (r .fault)
 check-most (answered p) = omega arith
 
-parts-most : (o : Outcome Parts) → partsAnswer o .number ≤ 19
+parts-most : (o : Outcome Parts) → partsAnswer o .number ≤ 22
 unfolding partsAnswer
 parts-most (refused r) = fault-most (r .fault)
 parts-most (answered p) = omega arith
 
-address-most : (o : Outcome Addr) → addressAnswer o .number ≤ 19
+address-most : (o : Outcome Addr) → addressAnswer o .number ≤ 22
 unfolding addressAnswer
 address-most (refused r) = fault-most (r .fault)
 address-most (answered A.Unknown) = omega arith
 address-most (answered (A.V4 n)) = omega arith
 address-most (answered (A.V6 h l)) = omega arith
 
-next-most : (o : Outcome Step) → nextAnswer o .number ≤ 19
+next-most : (o : Outcome Step) → nextAnswer o .number ≤ 22
 unfolding nextAnswer
 next-most (refused r) = fault-most (r .fault)
 next-most (answered s) = omega arith

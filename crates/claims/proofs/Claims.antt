@@ -11,6 +11,7 @@ use Rattle.claims.proofs.FileClaims.{grants-own-span, other-span-no-lin
 use Rattle.claims.proofs.MappedClaims.{no-mapped, held-as-v4}
 use Rattle.claims.proofs.OrderClaims.{absent-goes-on, answer-settles, names-differ, reads-its-file, manual-example}
 use Rattle.claims.proofs.LimitClaims.{old-boxes}
+use Rattle.claims.proofs.RetiredClaims.{retired-refused, converted, refusal-numbers}
 
 pub claims : Claims
 claims = record {
@@ -43,4 +44,7 @@ claims = record {
   reads-its-file = reads-its-file;
   manual-example = manual-example;
   old-boxes = old-boxes;
+  retired-refused = retired-refused;
+  converted = converted;
+  refusal-numbers = refusal-numbers;
 }

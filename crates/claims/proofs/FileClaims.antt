@@ -9,7 +9,7 @@ use mathlib.Core.Path.{_≡_, refl, ap, _∙_}
 use borrow.Author.Tests.{lt-ltb, le-ltb, le-leb, lt-leb, leb-true, ne-eqb}
 use lib.Dec.{leb}
 use lib.ListN.{length}
-use Rattle.text.specs.Basics.{if_then_else_, _>>=_, given, any}
+use Rattle.text.specs.Basics.{if_then_else_, _>>=_, _orElse_, given, any}
 use Rattle.text.specs.Text.{split}
 use Rattle.text.proofs.BasicLaws.{and-true}
 use Rattle.section.specs.declared.Fault.the-variants as F
@@ -24,7 +24,7 @@ use Rattle.byuid.specs.declared.Decision.{Decision}
 use Rattle.byuid.specs.declared.Decision.the-variants.{NotRuled, Granted, NoLine}
 use Rattle.byuid.specs.declared.Mark.{Mark}
 use Rattle.byuid.specs.declared.Mark.the-variants.{Plain, Marked}
-use Rattle.byuid.specs.Byuid.{lineGrants, isRuled, inSpan, byuidDecision, Bind, bind, fileBind, fromFile, addressKnown, decideByuid}
+use Rattle.byuid.specs.Byuid.{lineGrants, isRuled, inSpan, byuidDecision, Bind, bind, fileBind, fromFile, addressKnown, byuidFault, decideByuid}
 use Rattle.sheet.specs.declared.Parts.{Parts}
 use Rattle.sheet.specs.Sheet.{unpack}
 use Rattle.station.specs.Station.{decideByuidSheet}
@@ -60,7 +60,7 @@ module _ (t : List ℕ) (m : Mark) (port kind high low uid : ℕ) where
 
   own-span : is-granted (decideByuid t (fromFile m (byuidBind port kind high low uid))) ≡ 1 → inSpan m port ≡ true
   unfolding decideByuid byuidBind
-  own-span e = by (overLimit S.byuid t) (addressOf kind high low) (isPort port) e
+  own-span e = by (overLimit S.byuid t orElse byuidFault t) (addressOf kind high low) (isPort port) e
     where
       by : (r : Option Refusal) (a : Option Addr) (b : Bool)
           → is-granted (r before fitting addressKnown (fromFile m (a >>= λ x. given b (bind port x uid)))
@@ -106,11 +106,11 @@ grants-own-span = record {
 
 -- ## The other span
 
-module _ (t : List ℕ) (m : Mark) (port uid : ℕ) (short : length t ≤ 8192) (ruled : isRuled port uid ≡ true) (other : inSpan m port ≡ false)
+module _ (t : List ℕ) (m : Mark) (port uid : ℕ) (short : length t ≤ 8192) (sound : byuidFault t ≡ none) (ruled : isRuled port uid ≡ true) (other : inSpan m port ≡ false)
     (small : isPort port ≡ true) where
   other-decided : (a : Addr) → addressKnown (fileBind m (bind port a uid)) ≡ true → decideByuid t (some (fileBind m (bind port a uid))) ≡ answered NoLine
   unfolding decideByuid byuidDecision
-  other-decided a k = rw (le-ltb 8192 (length t) short, k, ruled, other)
+  other-decided a k = rw (le-ltb 8192 (length t) short, sound, k, ruled, other)
 
   other-known : {kind high low : ℕ} → Known kind high low → decideByuid t (fromFile m (byuidBind port kind high low uid)) ≡ answered NoLine
   unfolding byuidBind addressOf
@@ -120,15 +120,15 @@ module _ (t : List ℕ) (m : Mark) (port uid : ℕ) (short : length t ≤ 8192) 
 pub other-span-no-line : OtherSpanNoLine
 unfolding byuidFileBind markOf byuidAnswer
 other-span-no-line = record {
-  plain-no-line = λ text port kind high low uid short known caller span.
+  plain-no-line = λ text port kind high low uid short sound known caller span.
       ap byuidAnswer
-      (other-known text Plain port uid short
+      (other-known text Plain port uid short sound
       (rw (le-leb 1 port (omega (arith, span .0)), le-leb port 1023 (span .1), ne-eqb uid 0 (λ e. omega arith)))
       (rw (le-leb 1 port (omega (arith, span .0)), lt-leb port 511 (omega (arith, span .0))))
       (lt-ltb port (2 ^ 16) (omega (arith, span .1))) known);
-  marked-no-line = λ text port kind high low uid short known caller span.
+  marked-no-line = λ text port kind high low uid short sound known caller span.
       ap byuidAnswer
-      (other-known text Marked port uid short
+      (other-known text Marked port uid short sound
       (rw (le-leb 1 port (span .0), le-leb port 1023 (omega (arith, span .1)), ne-eqb uid 0 (λ e. omega arith)))
       (rw (lt-leb 512 port (omega (arith, span .1))))
       (lt-ltb port (2 ^ 16) (omega (arith, span .1))) known);
@@ -138,5 +138,5 @@ other-span-no-line = record {
 
 pub neither-file : NeitherFile
 unfolding decideByuid byuidFileBind markOf byuidAnswer
-neither-file text mark port kind high low uid short over =
-    rw (ne-eqb mark 0 (λ e. omega arith), ne-eqb mark 1 (λ e. omega arith), le-ltb 8192 (length text) short)
+neither-file text mark port kind high low uid short sound over =
+    rw (ne-eqb mark 0 (λ e. omega arith), ne-eqb mark 1 (λ e. omega arith), le-ltb 8192 (length text) short, sound)

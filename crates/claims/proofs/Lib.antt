@@ -8,4 +8,5 @@ pub mod FileClaims
 pub mod MappedClaims
 pub mod OrderClaims
 pub mod LimitClaims
+pub mod RetiredClaims
 pub mod Claims

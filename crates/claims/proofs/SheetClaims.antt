@@ -21,6 +21,7 @@ use Rattle.rules.specs.declared.File.{File}
 use Rattle.rules.specs.declared.File.the-variants.{Neither, Allow, Deny}
 use Rattle.rules.specs.Check.{hostsFault, tablesFault}
 use Rattle.rules.specs.Search.{answer, decideOver, decideTables}
+use Rattle.byuid.specs.Byuid.{byuidFault}
 use Rattle.portacl.specs.Portacl.{portaclFault}
 use Rattle.sheet.specs.declared.Parts.{Parts}
 use Rattle.sheet.specs.Sheet.{Texts, textsAt, textsFault, unpack, sheetOf, pack, fourFrame, upgrade}
@@ -101,7 +102,7 @@ sound-texts : (ts : Texts) (o : Option Request) → textsFault ts ≡ none
 unfolding textsFault decideTables
 sound-texts ts o e = by (overLimit S.allow (ts .allow)) (overLimit S.deny (ts .deny)) (overLimit S.byuid (ts .byuid)) (overLimit S.portacl (ts .portacl))
     (tablesFrame (ts .tables)) (hostsFault S.allow (ts .allow)) (hostsFault S.deny (ts .deny)) (portaclFault (ts .portacl))
-    (tablesFault (ts .allow) (ts .deny) (ts .tables)) e
+    (tablesFault (ts .allow) (ts .deny) (ts .tables)) (byuidFault (ts .byuid)) e
   where
     x : Outcome Answer
     x = decideOver (tablesOf (ts .tables)) (ts .allow) (ts .deny) o
@@ -109,18 +110,18 @@ sound-texts ts o e = by (overLimit S.allow (ts .allow)) (overLimit S.deny (ts .d
     none-some : (g : Refusal) → some g ≡ none → ⊥
     none-some g k = let z : _≡_ {A = ℕ} 0 1 = cc in omega arith
 
-    by : (a b c d f g h i j : Option Refusal) → (a orElse b orElse c orElse d orElse f orElse g orElse h orElse i orElse j) ≡ none
+    by : (a b c d f g h i j l : Option Refusal) → (a orElse b orElse c orElse d orElse f orElse g orElse h orElse i orElse j orElse l) ≡ none
         → ((a orElse b orElse f orElse g orElse h orElse j) before x) ≡ x
-    by (some r) b c d f g h i j k = absurd (none-some r k)
-    by none (some r) c d f g h i j k = absurd (none-some r k)
-    by none none (some r) d f g h i j k = absurd (none-some r k)
-    by none none none (some r) f g h i j k = absurd (none-some r k)
-    by none none none none (some r) g h i j k = absurd (none-some r k)
-    by none none none none none (some r) h i j k = absurd (none-some r k)
-    by none none none none none none (some r) i j k = absurd (none-some r k)
-    by none none none none none none none (some r) j k = absurd (none-some r k)
-    by none none none none none none none none (some r) k = absurd (none-some r k)
-    by none none none none none none none none none k = refl
+    by (some r) b c d f g h i j l k = absurd (none-some r k)
+    by none (some r) c d f g h i j l k = absurd (none-some r k)
+    by none none (some r) d f g h i j l k = absurd (none-some r k)
+    by none none none (some r) f g h i j l k = absurd (none-some r k)
+    by none none none none (some r) g h i j l k = absurd (none-some r k)
+    by none none none none none (some r) h i j l k = absurd (none-some r k)
+    by none none none none none none (some r) i j l k = absurd (none-some r k)
+    by none none none none none none none (some r) j l k = absurd (none-some r k)
+    by none none none none none none none none (some r) l k = absurd (none-some r k)
+    by none none none none none none none none none l k = refl
 
 sheet-verdict : (sheet : List ℕ) (n : RequestNumbers) → Accepted sheet
     → gateSheetVerdict sheet n

@@ -4,6 +4,7 @@
 use Prim.Native.Nat.{ℕ, _+_, _*_, _≤_, _<_, _^_}
 use mathlib.Core.Bool.{true, false}
 use mathlib.Core.List.{List, [], _∷_, _++_}
+use mathlib.Core.Option.{none}
 use mathlib.Core.Path.{_≡_}
 use lib.ListN.{length, take}
 use lib.Dec.{ltb, eqb}
@@ -18,6 +19,7 @@ use Rattle.address.specs.Bits.{sameBits}
 use Rattle.address.specs.Mapped.{isMapped}
 use Rattle.elements.specs.Request.{Request, held}
 use Rattle.expansion.specs.Expand.{usesUser}
+use Rattle.byuid.specs.Byuid.{byuidFault}
 use Rattle.portacl.specs.declared.Settings.{Settings}
 use Rattle.sheet.specs.Sheet.{Texts, texts}
 use Rattle.codes.specs.declared.GateAnswer.{GateAnswer}
@@ -36,6 +38,7 @@ use Rattle.claims.specs.MaskExamples.{MaskExamples}
 use Rattle.claims.specs.MappedExamples.{MappedExamples}
 use Rattle.claims.specs.TableExamples.{TableExamples}
 use Rattle.claims.specs.OldBoxes.{OldBoxes}
+use Rattle.claims.specs.Retired.{RetiredRefused, Converted, RefusalNumbers}
 use Rattle.claims.specs.AuthbindOrder.{AbsentGoesOn, AnswerSettles, NamesDiffer, ReadsItsFile, ManualExample}
 
 -- numbers that fit a byte
@@ -97,7 +100,7 @@ pub record RefusalWritesNothing : Type 0 where
 -- a decision is a word, or a refusal by one of the papers' numbers "and gives no verdict"
 pub data Decision : GateAnswer → Type 0 where
   by-word : (a : GateAnswer) → a .number ≡ 0 → a .section ≡ 0 → 1 ≤ a .word → a .word ≤ 6 → Decision a
-  by-refusal : (r : Refusal) → 1 ≤ refusalAnswer r .number → refusalAnswer r .number ≤ 19 → Decision (refusalAnswer r)
+  by-refusal : (r : Refusal) → 1 ≤ refusalAnswer r .number → refusalAnswer r .number ≤ 22 → Decision (refusalAnswer r)
 
 pub record EveryDecision : Type 0 where
   pub verdict-decided : (allow deny : List ℕ) (n : RequestNumbers) → Decision (gateVerdict allow deny n)
@@ -111,14 +114,14 @@ pub record EveryDecision : Type 0 where
 
 -- the other calls give none but these numbers, and 0, either
 pub record EveryNumber : Type 0 where
-  pub check-number : (sheet : List ℕ) → gateCheck sheet .number ≤ 19
-  pub unpack-number : (sheet : List ℕ) → gateUnpack sheet .number ≤ 19
-  pub read-number : (text : List ℕ) → gateReadAddress text .number ≤ 19
-  pub pack-number : (ts : Texts) (out : List ℕ) → gatePack ts out .answer .number ≤ 19
-  pub upgrade-number : (sheet out : List ℕ) → gateUpgrade sheet out .answer .number ≤ 19
-  pub expand-number : (command : List ℕ) (n : RequestNumbers) (process : ℕ) (out : List ℕ) → gateExpand command n process out .answer .number ≤ 19
-  pub write-number : (kind high low : ℕ) (out : List ℕ) → gateWriteAddress kind high low out .answer .number ≤ 19
-  pub authbind-number : (port kind high low uid : ℕ) (answers out : List ℕ) → gateAuthbind port kind high low uid answers out .answer .number ≤ 19
+  pub check-number : (sheet : List ℕ) → gateCheck sheet .number ≤ 22
+  pub unpack-number : (sheet : List ℕ) → gateUnpack sheet .number ≤ 22
+  pub read-number : (text : List ℕ) → gateReadAddress text .number ≤ 22
+  pub pack-number : (ts : Texts) (out : List ℕ) → gatePack ts out .answer .number ≤ 22
+  pub upgrade-number : (sheet out : List ℕ) → gateUpgrade sheet out .answer .number ≤ 22
+  pub expand-number : (command : List ℕ) (n : RequestNumbers) (process : ℕ) (out : List ℕ) → gateExpand command n process out .answer .number ≤ 22
+  pub write-number : (kind high low : ℕ) (out : List ℕ) → gateWriteAddress kind high low out .answer .number ≤ 22
+  pub authbind-number : (port kind high low uid : ℕ) (answers out : List ℕ) → gateAuthbind port kind high low uid answers out .answer .number ≤ 22
 
 -- ## Demand 2
 
@@ -268,16 +271,17 @@ pub record GrantsOwnSpan : Type 0 where
   pub marked-grants : (text : List ℕ) (port kind high low uid : ℕ) → gateByuid text marked port kind high low uid .word ≡ granted .number → Upper port
   pub sheet-grants : (sheet : List ℕ) (port kind high low uid : ℕ) → gateSheetByuid sheet port kind high low uid .word ≡ granted .number → Lower port
 
--- "a request for the other span gets "no line"", whatever the lines are: where the text is within its limit and the bind is ruled
+-- "a request for the other span gets "no line"", whatever the lines grant: where the text is within its limit, no line of it is of the
+-- retired form and the bind is ruled
 pub record OtherSpanNoLine : Type 0 where
-  pub plain-no-line : (text : List ℕ) (port kind high low uid : ℕ) → length text ≤ 8192 → Known kind high low → 1 ≤ uid → Upper port
+  pub plain-no-line : (text : List ℕ) (port kind high low uid : ℕ) → length text ≤ 8192 → byuidFault text ≡ none → Known kind high low → 1 ≤ uid → Upper port
       → gateByuid text plain port kind high low uid ≡ wordAnswer (noLine .number)
-  pub marked-no-line : (text : List ℕ) (port kind high low uid : ℕ) → length text ≤ 8192 → Known kind high low → 1 ≤ uid → Lower port
+  pub marked-no-line : (text : List ℕ) (port kind high low uid : ℕ) → length text ≤ 8192 → byuidFault text ≡ none → Known kind high low → 1 ≤ uid → Lower port
       → gateByuid text marked port kind high low uid ≡ wordAnswer (noLine .number)
 
 -- 13: "a request field outside its size or its kinds": a file that is neither
 abbrev pub NeitherFile : Type 0
-NeitherFile = (text : List ℕ) (mark port kind high low uid : ℕ) → length text ≤ 8192 → 2 ≤ mark
+NeitherFile = (text : List ℕ) (mark port kind high low uid : ℕ) → length text ≤ 8192 → byuidFault text ≡ none → 2 ≤ mark
     → gateByuid text mark port kind high low uid ≡ refusalAnswer (placeless F.BadRequest)
 
 -- request 7: "so no record it then works on holds such an IPv6 address"
@@ -337,3 +341,7 @@ pub record Claims : Type 0 where
   pub manual-example : ManualExample
   -- document 02, request 10
   pub old-boxes : OldBoxes
+  -- document 02, request 11
+  pub retired-refused : RetiredRefused
+  pub converted : Converted
+  pub refusal-numbers : RefusalNumbers

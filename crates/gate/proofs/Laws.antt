@@ -37,7 +37,7 @@ use Rattle.byuid.specs.declared.Mark.{Mark}
 use Rattle.byuid.specs.declared.Mark.the-variants.{Plain}
 use Rattle.byuid.specs.declared.Ruling.{Ruling as ByuidRuling}
 use Rattle.byuid.specs.Byuid as Byuid
-use Rattle.byuid.specs.Byuid.{byuidDecision, decideByuid}
+use Rattle.byuid.specs.Byuid.{byuidFault, byuidDecision, decideByuid}
 use Rattle.authbind.specs.declared.Next.{Next}
 use Rattle.authbind.specs.Authbind.{Step, asking, nextStep, nameWritten, nextOf}
 use Rattle.portacl.specs.declared.Decision.{Decision as PortaclDecision}
@@ -209,7 +209,7 @@ module _ (mark port kind high low uid : ℕ) (m : Mark) (is-m : m ≡ markBy mar
   file-bind-read : decideByuid text (some (Byuid.fileBind m (Byuid.bind p b uid))) ≡ decideByuid text (byuidFileBind mark port kind high low uid)
   unfolding decideByuid
   file-bind-read =
-      ap (λ (x : Outcome ByuidDecision). overLimit S.byuid text before x)
+      ap (λ (x : Outcome ByuidDecision). (overLimit S.byuid text orElse byuidFault text) before x)
       (byuid-file-read port kind high low uid p is-p (decidedBy text) mark m is-m b is-b)
 
   pub byuid-by : o ≡ Byuid.byuidRuling (decideByuid text (some (Byuid.fileBind m (Byuid.bind p b uid)))) → a ≡ byuidNumbers o
@@ -221,7 +221,7 @@ module _ (port kind high low uid p : ℕ) (b : Addr) (is-p : p ≡ portBy port) 
       → decideByuid text (Byuid.fromFile Plain (some (Byuid.bind p b uid))) ≡ decideByuid text (Byuid.fromFile Plain (byuidBind port kind high low uid))
   unfolding decideByuid
   bind-read text =
-      ap (λ (x : Outcome ByuidDecision). overLimit S.byuid text before x)
+      ap (λ (x : Outcome ByuidDecision). (overLimit S.byuid text orElse byuidFault text) before x)
       (byuid-read port kind high low uid p is-p (decidedBy text) Plain b is-b)
 
   sheet-bind-read : (sheet : List ℕ) → decideByuidSheet sheet (some (Byuid.bind p b uid)) ≡ decideByuidSheet sheet (byuidBind port kind high low uid)

@@ -10,6 +10,7 @@ use Rattle.address.specs.Address.{readAddress}
 use Rattle.rules.specs.Search.{decide, decideTables, commandBytes}
 use Rattle.expansion.specs.Expand.{expand}
 use Rattle.byuid.specs.Byuid.{decideByuid}
+use Rattle.byuid.specs.Convert.{convert}
 use Rattle.authbind.specs.Authbind.{Step, nextStep, nameWritten}
 use Rattle.portacl.specs.declared.Settings.{Settings}
 use Rattle.portacl.specs.Portacl.{decidePortacl}
@@ -77,6 +78,10 @@ gatePack ts out = wrote out (Sheet.pack ts (length out))
 -- document 02, request 1: "a small program appends the two zero bytes of an empty count"
 abbrev pub gateUpgrade : List ℕ → List ℕ → Wrote
 gateUpgrade sheet out = wrote out (Sheet.upgrade sheet (length out))
+
+-- document 02, request 11: "a converter for byuid texts"
+abbrev pub gateConvert : List ℕ → List ℕ → Wrote
+gateConvert text out = wrote out (convert text (length out))
 
 abbrev pub gateExpand : List ℕ → RequestNumbers → ℕ → List ℕ → Wrote
 gateExpand command n process out = wrote out (expand command (request n) process (length out))

@@ -3,6 +3,7 @@
 //   gate_sheet_verdict, gate_sheet_byuid, gate_sheet_portacl == the decisions by a sheet
 //   gate_check, gate_unpack, gate_pack     == sheets checked, unpacked and packed
 //   gate_upgrade                           == a sheet of four sections with an empty count of tables
+//   gate_convert                           == a byuid text with its lines of the retired form in their new one
 //   gate_expand                            == a command expanded
 //   gate_command, gate_sheet_command       == a verdict, and its command expanded
 //   gate_read_address, gate_write_address  == addresses as text
@@ -24,7 +25,7 @@ ghost use Rattle.sheet.specs.Sheet.{texts};
 ghost use Rattle.codes.specs.Requests.{hostNumbers, requestNumbers, settingsOf};
 ghost use Rattle.gate.specs.Calls.{gateVerdict, gateTablesVerdict, gateSheetVerdict, gateByuid, gateSheetByuid, gatePortacl, gateSheetPortacl};
 ghost use Rattle.gate.specs.Calls.{gateCheck, gateUnpack, gateReadAddress, gatePack, gateUpgrade, gateExpand, gateCommand, gateSheetCommand, gateWriteAddress};
-ghost use Rattle.gate.specs.Calls.{gateAuthbind};
+ghost use Rattle.gate.specs.Calls.{gateAuthbind, gateConvert};
 
 // The verdict by two texts.
 #[no_mangle]
@@ -313,6 +314,15 @@ pub extern "C" fn gate_upgrade(out: &mut [u8], sheet: &[u8]) -> GateWritten
     ensures holds { λ _. ⌜ now (out .exit) ≡ gateUpgrade (now (sheet .entry)) (now (out .entry)) .out ⌝ }
 {
     codes::answer::written_numbers(sheet::upgrade::upgrade(out, sheet))
+}
+
+// Converts a byuid text into the front of out; a refusal leaves out as it was.
+#[no_mangle]
+pub extern "C" fn gate_convert(out: &mut [u8], text: &[u8]) -> GateWritten
+    ensures answer { λ r. ⌜ r ≡ gateConvert (now (text .entry)) (now (out .entry)) .answer ⌝ }
+    ensures holds { λ _. ⌜ now (out .exit) ≡ gateConvert (now (text .entry)) (now (out .entry)) .out ⌝ }
+{
+    codes::answer::written_numbers(byuid::convert::convert(out, text))
 }
 
 // Expands a command for a request at the front of out; a refusal leaves out as it was.

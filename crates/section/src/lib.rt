@@ -33,6 +33,7 @@ pub enum Fault {
     BadTable,
     DottedAddress,
     LateAnswer,
+    RetiredForm,
 }
 
 // A refusal carries number, section and line.
@@ -100,6 +101,7 @@ pub fn fault_number(f: Fault) -> u8
         Fault::BadTable => 17,
         Fault::DottedAddress => 18,
         Fault::LateAnswer => 19,
+        Fault::RetiredForm => 22,
     }
 }
 

@@ -234,7 +234,7 @@ module _ (ts : Texts) (e : textsFault ts ≡ none) where
   pub textsFault-none : WithinLimits ts
   unfolding textsFault
   textsFault-none =
-      let n = orElse-none _ _ e in
+      let n = orElse-none _ _ (orElse-none _ _ e .0) in
       let h = orElse-none _ _ (orElse-none _ _ (orElse-none _ _ (orElse-none _ _ (n .0) .0) .0) .0) in
       let p = orElse-none _ _ (h .0) in
       let b = orElse-none _ _ (p .0) in
@@ -250,7 +250,7 @@ module _ (ts : Texts) (e : textsFault ts ≡ none) where
   pub tablesFrame-none : tablesFrame (ts .tables) ≡ none
   tablesFrame-none =
       let limits = limitsFault (ts .allow) (ts .deny) (ts .byuid) (ts .portacl) in
-      let contents = contentsFault (ts .allow) (ts .deny) (ts .portacl) (ts .tables) in
+      let contents = contentsFault (ts .allow) (ts .deny) (ts .byuid) (ts .portacl) (ts .tables) in
       let parts = textsFault-parts (ts .allow) (ts .deny) (ts .byuid) (ts .portacl) (ts .tables) in
       orElse-none (tablesFrame (ts .tables)) contents (orElse-none limits (tablesFrame (ts .tables) orElse contents) (sym parts ∙ e) .1) .0
 

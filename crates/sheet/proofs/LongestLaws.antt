@@ -1,4 +1,4 @@
--- A sheet of 57,360 bytes is accepted: blank lines alone, byuid bytes of any kind, a list of 341 entries, and one table whose name is
+-- A sheet of 57,360 bytes is accepted: blank lines alone in three texts, a list of 341 entries, and one table whose name is
 -- one byte and whose text is 12,280 spaces. Its checks are computed.
 --   reached == it is accepted, and so long
 -- Assumes nothing.
@@ -20,6 +20,7 @@ use Rattle.patterns.specs.Pattern.{isNameByte}
 use Rattle.tables.specs.Table.{afterCount, readTable, readEach, readTables, isTableName, tableNamed, patterns, tablesFrame, firstTable, isMisnamed}
 use Rattle.tables.specs.Table.{tableNameFault, isUnsound, badTableFault}
 use Rattle.rules.specs.Check.{lineFaultBy, hostsFault, lineNames, namingFault, tablesFault}
+use Rattle.byuid.specs.Byuid.{readColonForm, isRetired, retiredFault, byuidFault}
 use Rattle.portacl.specs.Portacl.{readEntry, entries, entryFault, portaclFault}
 use Rattle.sheet.specs.Sheet.{Texts, textsFault, unpack, counted, sheetOf}
 use Rattle.sheet.proofs.FrameLaws.{partsOf, answered-pack}
@@ -40,6 +41,7 @@ unfolding
     portaclFault entryFault entries readEntry readDecimal numeral fromDigits split splitOnce equal intercalate
     tablesFrame readTables readEach readTable afterCount toDigits
     tablesFault namingFault lineNames tableNameFault badTableFault firstTable isMisnamed isUnsound isTableName isNameByte tableNamed patterns nonEmpty
+    byuidFault retiredFault isRetired readColonForm
     first any all
 longest-sound = refl
 

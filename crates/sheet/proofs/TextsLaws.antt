@@ -27,6 +27,10 @@ use Rattle.rules.specs.declared.hosts_file.Pass.the-variants as P
 use Rattle.rules.specs.Check.{hostsFault, missingFault, depthFault, tablesFault}
 use Rattle.rules.specs.Code.{linesFault}
 use Rattle.rules.specs.FileCode.{passOf}
+use Rattle.byuid.specs.declared.Checked.{Checked as ByuidChecked}
+use Rattle.byuid.specs.declared.Checked.the-variants as B
+use Rattle.byuid.specs.Byuid.{byuidFault}
+use Rattle.byuid.specs.Code.{checkedOf as byuidCheckedOf}
 use Rattle.portacl.specs.declared.Checked.{Checked as PortaclChecked}
 use Rattle.portacl.specs.declared.Checked.the-variants as Q
 use Rattle.portacl.specs.Code.{checkedOf as portaclCheckedOf}
@@ -103,6 +107,21 @@ module _ (o : Option Refusal) (c : PortaclChecked) (is-c : c ≡ portaclCheckedO
       by none k = refl
       by (some h) k = let z : _≡_ {A = ℕ} 0 1 = cc in absurd (omega arith)
 
+module _ (o : Option Refusal) (c : ByuidChecked) (is-c : c ≡ byuidCheckedOf o) where
+  pub byuid-refused : (g : Refusal) → c ≡ B.Refused g → C.Refused g ≡ checkedOf o
+  byuid-refused g e = by o (sym is-c ∙ e)
+    where
+      by : (o : Option Refusal) → byuidCheckedOf o ≡ B.Refused g → C.Refused g ≡ checkedOf o
+      by none k = let z : _≡_ {A = ℕ} 0 1 = cc in absurd (omega arith)
+      by (some h) k = cc
+
+  pub byuid-sound : c ≡ B.Sound → C.Sound ≡ checkedOf o
+  byuid-sound e = by o (sym is-c ∙ e)
+    where
+      by : (o : Option Refusal) → byuidCheckedOf o ≡ B.Sound → C.Sound ≡ checkedOf o
+      by none k = refl
+      by (some h) k = let z : _≡_ {A = ℕ} 0 1 = cc in absurd (omega arith)
+
 module _ (p : Pass) where
   pub by-faulty : (g : Refusal) → p ≡ P.Faulty g → C.Refused g ≡ checkedBy p
   by-faulty g e = rw e
@@ -128,39 +147,47 @@ module _ (a d : List ℕ) (q : Pass) (is-q : q ≡ passOf (linesFault a d) none)
   pub lines-sound : x ≡ C.Sound → linesFault a d ≡ none
   lines-sound e = checked-sound (linesFault a d) (sym lines-checked ∙ e)
 
-  module _ (p t : List ℕ) where
-    pub contents-lines : (g : Refusal) → x ≡ C.Refused g → C.Refused g ≡ checkedOf (contentsFault a d p t)
+  module _ (b p t : List ℕ) where
+    pub contents-lines : (g : Refusal) → x ≡ C.Refused g → C.Refused g ≡ checkedOf (contentsFault a d b p t)
     unfolding contentsFault
     contents-lines g e = rw (checked-refused (linesFault a d) g (sym lines-checked ∙ e))
 
     module _ (e : x ≡ C.Sound) (y : Checked) (is-y : y ≡ checkedOf (portaclFault p)) where
-      pub contents-portacl : (g : Refusal) → y ≡ C.Refused g → C.Refused g ≡ checkedOf (contentsFault a d p t)
+      pub contents-portacl : (g : Refusal) → y ≡ C.Refused g → C.Refused g ≡ checkedOf (contentsFault a d b p t)
       unfolding contentsFault
       contents-portacl g f = rw (lines-sound e, checked-refused (portaclFault p) g (sym is-y ∙ f))
 
-      pub contents-naming : y ≡ C.Sound → (r : Pass) → r ≡ passOf (tablesFault a d t) none → (z : Checked) → z ≡ checkedBy r
-          → z ≡ checkedOf (contentsFault a d p t)
-      unfolding contentsFault
-      contents-naming f r is-r z is-z =
-          rw (lines-sound e, checked-sound (portaclFault p) (sym is-y ∙ f)) (pass-checked (tablesFault a d t) r is-r z is-z)
+      module _ (f : y ≡ C.Sound) (r : Pass) (is-r : r ≡ passOf (tablesFault a d t) none) (z : Checked) (is-z : z ≡ checkedBy r) where
+        naming-checked : z ≡ checkedOf (tablesFault a d t)
+        naming-checked = pass-checked (tablesFault a d t) r is-r z is-z
+
+        pub contents-naming : (g : Refusal) → z ≡ C.Refused g → C.Refused g ≡ checkedOf (contentsFault a d b p t)
+        unfolding contentsFault
+        contents-naming g h =
+            rw (lines-sound e, checked-sound (portaclFault p) (sym is-y ∙ f), checked-refused (tablesFault a d t) g (sym naming-checked ∙ h))
+
+        pub contents-byuid : z ≡ C.Sound → (v : Checked) → v ≡ checkedOf (byuidFault b) → v ≡ checkedOf (contentsFault a d b p t)
+        unfolding contentsFault
+        contents-byuid h v is-v =
+            rw (lines-sound e, checked-sound (portaclFault p) (sym is-y ∙ f), checked-sound (tablesFault a d t) (sym naming-checked ∙ h)) is-v
 
 -- ## All
 
-orElse-parts : (a b c d e f g h i : Option Refusal) → (a orElse b orElse c orElse d orElse e orElse f orElse g orElse h orElse i)
-    ≡ (a orElse b orElse c orElse d) orElse (e orElse (f orElse g orElse h orElse i))
-orElse-parts (some x) b c d e f g h i = refl
-orElse-parts none (some x) c d e f g h i = refl
-orElse-parts none none (some x) d e f g h i = refl
-orElse-parts none none none (some x) e f g h i = refl
-orElse-parts none none none none (some x) f g h i = refl
-orElse-parts none none none none none f g h i = refl
+orElse-parts : (a b c d e f g h i j : Option Refusal) → (a orElse b orElse c orElse d orElse e orElse f orElse g orElse h orElse i orElse j)
+    ≡ (a orElse b orElse c orElse d) orElse (e orElse (f orElse g orElse h orElse i orElse j))
+orElse-parts (some x) b c d e f g h i j = refl
+orElse-parts none (some x) c d e f g h i j = refl
+orElse-parts none none (some x) d e f g h i j = refl
+orElse-parts none none none (some x) e f g h i j = refl
+orElse-parts none none none none (some x) f g h i j = refl
+orElse-parts none none none none none f g h i j = refl
 
 pub textsFault-parts : (a d b p t : List ℕ)
-    → textsFault (texts a d b p t) ≡ limitsFault a d b p orElse (tablesFrame t orElse contentsFault a d p t)
+    → textsFault (texts a d b p t) ≡ limitsFault a d b p orElse (tablesFrame t orElse contentsFault a d b p t)
 unfolding textsFault limitsFault contentsFault linesFault
 textsFault-parts a d b p t =
     orElse-parts (overLimit S.allow a) (overLimit S.deny d) (overLimit S.byuid b) (overLimit S.portacl p) (tablesFrame t) (hostsFault S.allow a)
-    (hostsFault S.deny d) (portaclFault p) (tablesFault a d t)
+    (hostsFault S.deny d) (portaclFault p) (tablesFault a d t) (byuidFault b)
 
 module _ (a d b p t : List ℕ) (x : Checked) (is-x : x ≡ checkedOf (limitsFault a d b p)) where
   pub texts-limits : (g : Refusal) → x ≡ C.Refused g → C.Refused g ≡ checkedOf (textsFault (texts a d b p t))
@@ -171,7 +198,7 @@ module _ (a d b p t : List ℕ) (x : Checked) (is-x : x ≡ checkedOf (limitsFau
     texts-frame g f =
         rw (textsFault-parts a d b p t, checked-sound (limitsFault a d b p) (sym is-x ∙ e), checked-refused (tablesFrame t) g (sym is-y ∙ f))
 
-    pub texts-contents : y ≡ C.Sound → (z : Checked) → z ≡ checkedOf (contentsFault a d p t) → z ≡ checkedOf (textsFault (texts a d b p t))
+    pub texts-contents : y ≡ C.Sound → (z : Checked) → z ≡ checkedOf (contentsFault a d b p t) → z ≡ checkedOf (textsFault (texts a d b p t))
     texts-contents f z is-z =
         rw (textsFault-parts a d b p t, checked-sound (limitsFault a d b p) (sym is-x ∙ e), checked-sound (tablesFrame t) (sym is-y ∙ f)) is-z
 

@@ -24,6 +24,7 @@ use Rattle.section.specs.Section.{bytesAt, Section, part}
 use Rattle.tables.specs.Table.{readEach, readTables, tablesFrame}
 use Rattle.rules.specs.Check.{hostsFault, tablesFault}
 use Rattle.rules.specs.Code.{linesFault}
+use Rattle.byuid.specs.Byuid.{byuidFault}
 use Rattle.portacl.specs.Portacl.{portaclFault}
 use Rattle.sheet.specs.declared.Parts.{Parts}
 use Rattle.sheet.specs.declared.frame.Framed.{Framed as FramedRead}
@@ -118,10 +119,10 @@ pub record Upgraded (sheet : List ℕ) (p : Parts) : Type 0 where
   pub was : frame sheet ≡ answered p
   pub framed : frame (sheet ++ 0 ∷ 0 ∷ []) ≡ answered (withTables p (part (length sheet) 2))
   pub found : textsAt (sheet ++ 0 ∷ 0 ∷ []) (withTables p (part (length sheet) 2)) ≡ fourTexts sheet p
-  -- accepted where its lines and entries are sound and no rule names a table
+  -- accepted where its lines and entries are sound, no rule names a table and no line is of the retired form
   pub accepted : hostsFault S.allow (bytesAt sheet (p .allow)) ≡ none → hostsFault S.deny (bytesAt sheet (p .deny)) ≡ none
       → portaclFault (bytesAt sheet (p .portacl)) ≡ none → tablesFault (bytesAt sheet (p .allow)) (bytesAt sheet (p .deny)) (0 ∷ 0 ∷ []) ≡ none
-      → unpack (sheet ++ 0 ∷ 0 ∷ []) ≡ answered (withTables p (part (length sheet) 2))
+      → byuidFault (bytesAt sheet (p .byuid)) ≡ none → unpack (sheet ++ 0 ∷ 0 ∷ []) ≡ answered (withTables p (part (length sheet) 2))
 
 module _ (sheet : List ℕ) where
   four-parts : fourFrame sheet ≡ none → (p : Parts) × (frame sheet ≡ answered p) × (p .tables .len ≤ 0)
@@ -166,9 +167,9 @@ module _ (sheet : List ℕ) where
 
   texts-sound : (p : Parts) → Framed sheet p → hostsFault S.allow (bytesAt sheet (p .allow)) ≡ none → hostsFault S.deny (bytesAt sheet (p .deny)) ≡ none
       → portaclFault (bytesAt sheet (p .portacl)) ≡ none → tablesFault (bytesAt sheet (p .allow)) (bytesAt sheet (p .deny)) (0 ∷ 0 ∷ []) ≡ none
-      → textsFault (fourTexts sheet p) ≡ none
+      → byuidFault (bytesAt sheet (p .byuid)) ≡ none → textsFault (fourTexts sheet p) ≡ none
   unfolding contentsFault linesFault
-  texts-sound p f allow deny portacl naming =
+  texts-sound p f allow deny portacl naming byuid =
       rw (
         textsFault-parts (bytesAt sheet (p .allow)) (bytesAt sheet (p .deny)) (bytesAt sheet (p .byuid)) (bytesAt sheet (p .portacl)) (0 ∷ 0 ∷ []),
         limits-framed f,
@@ -177,6 +178,7 @@ module _ (sheet : List ℕ) where
         deny,
         portacl,
         naming,
+        byuid,
       )
 
   pub upgraded : fourFrame sheet ≡ none → (p : Parts) × Upgraded sheet p
@@ -189,7 +191,7 @@ module _ (sheet : List ℕ) where
           was = h .1;
           framed = answered-frame (framed-more (h .0) f (h .2));
           found = found;
-          accepted = λ allow deny portacl naming.
-              answered-unpack (framed-more (h .0) f (h .2)) (ap textsFault found ∙ texts-sound (h .0) f allow deny portacl naming);
+          accepted = λ allow deny portacl naming byuid.
+              answered-unpack (framed-more (h .0) f (h .2)) (ap textsFault found ∙ texts-sound (h .0) f allow deny portacl naming byuid);
         },
       )

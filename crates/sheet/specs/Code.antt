@@ -2,7 +2,7 @@
 -- and 02.
 --   checkedOf o, sectionReadOf o, framedOf o == o as the code answers it
 --   checkedBy p      == a pass that looks for nothing, as a check
---   limitsFault allow deny byuid portacl, contentsFault allow deny portacl tables == textsFault before, and after, the frame of the tables
+--   limitsFault allow deny byuid portacl, contentsFault allow deny byuid portacl tables == textsFault before, and after, the frame of the tables
 --   sectionOf c      == the section of a cursor
 --   fromDeny sheet a, fromByuid sheet a d, fromPortacl sheet a d b == what is left of frame, once the parts before are read
 -- Assumes nothing: these are definitions.
@@ -20,6 +20,7 @@ use Rattle.rules.specs.declared.hosts_file.Pass.{Pass}
 use Rattle.rules.specs.declared.hosts_file.Pass.the-variants as P
 use Rattle.rules.specs.Check.{tablesFault}
 use Rattle.rules.specs.Code.{linesFault}
+use Rattle.byuid.specs.Byuid.{byuidFault}
 use Rattle.portacl.specs.Portacl.{portaclFault}
 use Rattle.sheet.specs.declared.Parts.{Parts}
 use Rattle.sheet.specs.declared.texts.Checked.{Checked}
@@ -45,8 +46,9 @@ unfoldable pub limitsFault : List ℕ → List ℕ → List ℕ → List ℕ →
 limitsFault allow deny byuid portacl =
     overLimit S.allow allow orElse overLimit S.deny deny orElse overLimit S.byuid byuid orElse overLimit S.portacl portacl
 
-unfoldable pub contentsFault : List ℕ → List ℕ → List ℕ → List ℕ → Option Refusal
-contentsFault allow deny portacl tables = linesFault allow deny orElse portaclFault portacl orElse tablesFault allow deny tables
+unfoldable pub contentsFault : List ℕ → List ℕ → List ℕ → List ℕ → List ℕ → Option Refusal
+contentsFault allow deny byuid portacl tables =
+    linesFault allow deny orElse portaclFault portacl orElse tablesFault allow deny tables orElse byuidFault byuid
 
 -- ## The frame
 

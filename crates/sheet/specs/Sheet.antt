@@ -1,4 +1,4 @@
--- Document 01, "The station sheet" and the order of refusals over it; document 02, request 1: the fifth section.
+-- Document 01, "The station sheet" and the order of refusals over it; document 02, requests 1: the fifth section, and 11: the retired form.
 --   frame sheet       == the places of the five texts: of four by their counts, and of the tables, which are all that follows
 --   unpack sheet      == the same for an accepted sheet; every other one is refused
 --   unpackedOf o      == the outcome of unpack as the call answers it
@@ -21,6 +21,7 @@ use Rattle.section.specs.Section as S
 use Rattle.section.specs.Section.{bytesAt, Section, part, overLimit}
 use Rattle.tables.specs.Table.{tablesFrame}
 use Rattle.rules.specs.Check.{hostsFault, tablesFault}
+use Rattle.byuid.specs.Byuid.{byuidFault}
 use Rattle.portacl.specs.Portacl.{portaclFault}
 use Rattle.sheet.specs.declared.Parts.{Parts}
 use Rattle.sheet.specs.declared.unpack.Unpacked.{Unpacked}
@@ -47,9 +48,10 @@ textsAt sheet p = record {
   tables = bytesAt sheet (p .tables);
 }
 
--- "per section in turn, .. limit (2) ..; then 3; then allow, deny and portacl"; "Byuid lines are never refused." Of the tables, which
--- are "checked as in a sheet, so bytes after its last table are 3 there too": "a cut in section five is 1, before 3"; 15, 16, 17, the
--- last for "its limits included": "these three follow 12 in that order"
+-- "per section in turn, .. limit (2) ..; then 3; then allow, deny and portacl". Of the tables, which are "checked as in a sheet, so bytes
+-- after its last table are 3 there too": "a cut in section five is 1, before 3"; 15, 16, 17, the last for "its limits included": "these
+-- three follow 12 in that order". Request 11: "A sheet with a line that this form used to accept is now refused": "22 .., after 17 and
+-- before 13". This replaces document 01's "Byuid lines are never refused."
 unfoldable pub textsFault : Texts → Option Refusal
 textsFault ts =
     overLimit S.allow (ts .allow) orElse overLimit S.deny (ts .deny)
@@ -57,6 +59,7 @@ textsFault ts =
     orElse tablesFrame (ts .tables)
     orElse hostsFault S.allow (ts .allow) orElse hostsFault S.deny (ts .deny) orElse portaclFault (ts .portacl)
     orElse tablesFault (ts .allow) (ts .deny) (ts .tables)
+    orElse byuidFault (ts .byuid)
 
 -- ## The frame
 

@@ -3,6 +3,7 @@
 ghost use mathlib.Core.Option.{none};
 ghost use mathlib.Core.Path.{_≡_};
 ghost use Rattle.tables.specs.Table.{tablesFrame};
+ghost use Rattle.byuid.specs.Byuid.{byuidFault};
 ghost use Rattle.portacl.specs.Portacl.{portaclFault};
 ghost use Rattle.sheet.specs.Sheet.{texts, textsFault};
 ghost use Rattle.sheet.specs.Code.{checkedOf, checkedBy, limitsFault, contentsFault};
@@ -75,16 +76,30 @@ fn check_portacl(text: &[u8]) -> Checked
     }
 }
 
-// The check of the lines and entries of the texts, then of the tables and of what names them; byuid lines are never refused.
-fn check_contents(allow: &[u8], deny: &[u8], portacl: &[u8], tables: &[u8]) -> Checked
+// The check of the lines of a byuid text.
+fn check_byuid(text: &[u8]) -> Checked
+    ensures { λ r. ⌜ r ≡ checkedOf (byuidFault (now (text .entry))) ⌝ }
+{
+    match byuid::check(text) {
+        byuid::Checked::Refused(refusal) => Checked::Refused(refusal),
+        byuid::Checked::Sound => Checked::Sound,
+    }
+}
+
+// The check of the lines and entries of the rules and of portacl, then of the tables and of what names them, then of the lines of byuid.
+fn check_contents(allow: &[u8], deny: &[u8], byuid: &[u8], portacl: &[u8], tables: &[u8]) -> Checked
     requires { ⌜ tablesFrame (now tables) ≡ none ⌝ }
-    ensures { λ r. ⌜ r ≡ checkedOf (contentsFault (now (allow .entry)) (now (deny .entry)) (now (portacl .entry)) (now (tables .entry))) ⌝ }
+    ensures { λ r. ⌜ r
+        ≡ checkedOf (contentsFault (now (allow .entry)) (now (deny .entry)) (now (byuid .entry)) (now (portacl .entry)) (now (tables .entry))) ⌝ }
 {
     match checked_by(naming::check_lines(allow, deny)) {
         Checked::Refused(refusal) => Checked::Refused(refusal),
         Checked::Sound => match check_portacl(portacl) {
             Checked::Refused(refusal) => Checked::Refused(refusal),
-            Checked::Sound => checked_by(naming::check_naming(allow, deny, tables)),
+            Checked::Sound => match checked_by(naming::check_naming(allow, deny, tables)) {
+                Checked::Refused(refusal) => Checked::Refused(refusal),
+                Checked::Sound => check_byuid(byuid),
+            },
         },
     }
 }
@@ -104,7 +119,7 @@ pub fn check_texts(
         Checked::Refused(refusal) => Checked::Refused(refusal),
         Checked::Sound => match check_frame(tables) {
             Checked::Refused(refusal) => Checked::Refused(refusal),
-            Checked::Sound => check_contents(allow, deny, portacl, tables),
+            Checked::Sound => check_contents(allow, deny, byuid, portacl, tables),
         },
     }
 }

@@ -42,10 +42,13 @@ use Rattle.rules.specs.Code.{linesFault, findingOf}
 use Rattle.rules.specs.Code.{contentsFault as textsContents}
 use Rattle.rules.proofs.NamingLaws.{orElse-none}
 use Rattle.rules.proofs.PlaceLaws.{fileLength, search-within}
+use Rattle.byuid.specs.declared.Checked.{Checked as ByuidChecked}
+use Rattle.byuid.specs.declared.Checked.the-variants as ByC
 use Rattle.byuid.specs.declared.Ruling.{Ruling as ByuidRuling}
 use Rattle.byuid.specs.declared.Ruling.the-variants as ByR
 use Rattle.byuid.specs.declared.Mark.the-variants.{Plain}
-use Rattle.byuid.specs.Byuid.{Bind as ByuidBind, fromFile, decideByuid, byuidRuling}
+use Rattle.byuid.specs.Byuid.{Bind as ByuidBind, fromFile, byuidFault, decideByuid, byuidRuling}
+use Rattle.byuid.specs.Code.{checkedOf as byuidCheckedOf}
 use Rattle.portacl.specs.declared.Checked.{Checked as PortaclChecked}
 use Rattle.portacl.specs.declared.Checked.the-variants as PoC
 use Rattle.portacl.specs.declared.Ruling.{Ruling as PortaclRuling}
@@ -106,42 +109,68 @@ module _ (o : Option Refusal) (c : PortaclChecked) (is-c : c ≡ portaclCheckedO
       by none k = refl
       by (some h) k = let z : _≡_ {A = ℕ} 0 1 = cc in absurd (omega arith)
 
-finds-doubt : (x y : Option Refusal) (g : Refusal) (b : Answer) → Finding.Doubtful ≡ findingOf (x orElse some g orElse y) b
-finds-doubt none y g b = refl
-finds-doubt (some f) y g b = refl
+module _ (o : Option Refusal) (c : ByuidChecked) (is-c : c ≡ byuidCheckedOf o) where
+  bad-line : (g : Refusal) → c ≡ ByC.Refused g → o ≡ some g
+  bad-line g e = by o (sym is-c ∙ e)
+    where
+      by : (o : Option Refusal) → byuidCheckedOf o ≡ ByC.Refused g → o ≡ some g
+      by none k = let z : _≡_ {A = ℕ} 0 1 = cc in absurd (omega arith)
+      by (some h) k = cc
 
-module _ (a d po t : List ℕ) (b : Answer) (c : PortaclChecked) (is-c : c ≡ portaclCheckedOf (portaclFault po)) where
-  pub find-entry : (g : Refusal) → c ≡ PoC.Refused g → Finding.Doubtful ≡ findingOf (contentsFault a d po t) b
+  grants : c ≡ ByC.Sound → o ≡ none
+  grants e = by o (sym is-c ∙ e)
+    where
+      by : (o : Option Refusal) → byuidCheckedOf o ≡ ByC.Sound → o ≡ none
+      by none k = refl
+      by (some h) k = let z : _≡_ {A = ℕ} 0 1 = cc in absurd (omega arith)
+
+finds-doubt : (x y z : Option Refusal) (g : Refusal) (b : Answer) → Finding.Doubtful ≡ findingOf (x orElse some g orElse y orElse z) b
+finds-doubt none y z g b = refl
+finds-doubt (some f) y z g b = refl
+
+finds-last : (x : Option Refusal) (g : Refusal) (b : Answer) → Finding.Doubtful ≡ findingOf (x orElse some g) b
+finds-last none g b = refl
+finds-last (some f) g b = refl
+
+module _ (a d bu po t : List ℕ) (b : Answer) (c : PortaclChecked) (is-c : c ≡ portaclCheckedOf (portaclFault po)) where
+  pub find-entry : (g : Refusal) → c ≡ PoC.Refused g → Finding.Doubtful ≡ findingOf (contentsFault a d bu po t) b
   unfolding contentsFault
-  find-entry g e = rw (bad-entry (portaclFault po) c is-c g e) (finds-doubt (linesFault a d) (tablesFault a d t) g b)
+  find-entry g e = rw (bad-entry (portaclFault po) c is-c g e) (finds-doubt (linesFault a d) (tablesFault a d t) (byuidFault bu) g b)
 
-  pub find-entries : c ≡ PoC.Sound → (f : Finding) → f ≡ findingOf (textsContents a d t) b → f ≡ findingOf (contentsFault a d po t) b
-  unfolding contentsFault textsContents
-  find-entries e f is-f = is-f ∙ sym (rw (entries (portaclFault po) c is-c e) (ap (λ (o : Option Refusal). findingOf (o orElse tablesFault a d t) b)
-      (orElse-none (linesFault a d))))
+  module _ (e : c ≡ PoC.Sound) (k : ByuidChecked) (is-k : k ≡ byuidCheckedOf (byuidFault bu)) where
+    pub find-retired : (g : Refusal) → k ≡ ByC.Refused g → Finding.Doubtful ≡ findingOf (contentsFault a d bu po t) b
+    unfolding contentsFault
+    find-retired g h =
+        rw (bad-line (byuidFault bu) k is-k g h) (finds-last (linesFault a d orElse portaclFault po orElse tablesFault a d t) g b)
+
+    pub find-entries : k ≡ ByC.Sound → (f : Finding) → f ≡ findingOf (textsContents a d t) b → f ≡ findingOf (contentsFault a d bu po t) b
+    unfolding contentsFault textsContents
+    find-entries h f is-f = is-f ∙ sym (rw (entries (portaclFault po) c is-c e, grants (byuidFault bu) k is-k h)
+        (ap (λ (o : Option Refusal). findingOf (o orElse tablesFault a d t orElse none) b) (orElse-none (linesFault a d))
+        ∙ ap (λ (o : Option Refusal). findingOf o b) (orElse-none (linesFault a d orElse tablesFault a d t))))
 
 pub find-whole : (t : List ℕ) (x : Framing) → x ≡ frameOf (readTables t) → x ≡ Framing.Sound → tablesIn t ≡ tablesOf t
 find-whole t x is-x e = tables-in-of t (sym is-x ∙ e)
 
-module _ (a d po t : List ℕ) (b : Answer) (x : Framing) (is-x : x ≡ frameOf (readTables t)) where
-  pub find-cut : x ≡ Framing.Cut → Finding.Doubtful ≡ findingOf (framedFault a d po t) b
+module _ (a d bu po t : List ℕ) (b : Answer) (x : Framing) (is-x : x ≡ frameOf (readTables t)) where
+  pub find-cut : x ≡ Framing.Cut → Finding.Doubtful ≡ findingOf (framedFault a d bu po t) b
   unfolding framedFault
   find-cut e = rw (frame-cut t x is-x e)
 
-  pub find-trailing : x ≡ Framing.Trailing → Finding.Doubtful ≡ findingOf (framedFault a d po t) b
+  pub find-trailing : x ≡ Framing.Trailing → Finding.Doubtful ≡ findingOf (framedFault a d bu po t) b
   unfolding framedFault
   find-trailing e = rw (frame-trailing t x is-x e)
 
-  pub find-sound : x ≡ Framing.Sound → (f : Finding) → f ≡ findingOf (contentsFault a d po t) b → f ≡ findingOf (framedFault a d po t) b
+  pub find-sound : x ≡ Framing.Sound → (f : Finding) → f ≡ findingOf (contentsFault a d bu po t) b → f ≡ findingOf (framedFault a d bu po t) b
   unfolding framedFault
   find-sound e f is-f = is-f ∙ sym (rw (frame-sound t x is-x e))
 
-pub find-parts : (sheet : List ℕ) (p : Parts) (a d po t : List ℕ) → a ≡ bytesAt sheet (p .allow) → d ≡ bytesAt sheet (p .deny)
-    → po ≡ bytesAt sheet (p .portacl) → t ≡ bytesAt sheet (p .tables) → (r : Request) (f : Finding)
-    → f ≡ findingOf (framedFault a d po t) (search (matchOf (tablesOf t)) a d r)
-    → f ≡ findingOf (framedFault (bytesAt sheet (p .allow)) (bytesAt sheet (p .deny)) (bytesAt sheet (p .portacl)) (bytesAt sheet (p .tables)))
+pub find-parts : (sheet : List ℕ) (p : Parts) (a d bu po t : List ℕ) → a ≡ bytesAt sheet (p .allow) → d ≡ bytesAt sheet (p .deny)
+    → bu ≡ bytesAt sheet (p .byuid) → po ≡ bytesAt sheet (p .portacl) → t ≡ bytesAt sheet (p .tables) → (r : Request) (f : Finding)
+    → f ≡ findingOf (framedFault a d bu po t) (search (matchOf (tablesOf t)) a d r)
+    → f ≡ findingOf (framedFault (bytesAt sheet (p .allow)) (bytesAt sheet (p .deny)) (bytesAt sheet (p .byuid)) (bytesAt sheet (p .portacl)) (bytesAt sheet (p .tables)))
     (search (matchOf (tablesOf (bytesAt sheet (p .tables)))) (bytesAt sheet (p .allow)) (bytesAt sheet (p .deny)) r)
-find-parts sheet p a d po t is-a is-d is-po is-t r f is-f = is-f ∙ rw (is-a, is-d, is-po, is-t)
+find-parts sheet p a d bu po t is-a is-d is-bu is-po is-t r f is-f = is-f ∙ rw (is-a, is-d, is-bu, is-po, is-t)
 
 pub placed-in-sheet : (p : Parts) (a : Answer) (n : ℕ) → n ≡ filePlace p (a .file)
     → answer (a .verdict) (a .file) (a .line) (part (n + a .command .place) (a .command .len)) ≡ inSheet p a
@@ -174,20 +203,23 @@ module _ (sheet : List ℕ) (p : Parts) (framed : frame sheet ≡ answered p) wh
   abbrev d : List ℕ
   d = bytesAt sheet (p .deny)
 
+  abbrev bu : List ℕ
+  bu = bytesAt sheet (p .byuid)
+
   abbrev po : List ℕ
   po = bytesAt sheet (p .portacl)
 
   abbrev t : List ℕ
   t = bytesAt sheet (p .tables)
 
-  fault-framed : textsFault (textsAt sheet p) ≡ framedFault a d po t
+  fault-framed : textsFault (textsAt sheet p) ≡ framedFault a d bu po t
   unfolding framedFault limitsFault
   fault-framed =
       let f = frame-answered sheet p framed in
-      textsFault-parts a d (bytesAt sheet (p .byuid)) po t
+      textsFault-parts a d bu po t
       ∙ rw (within-limit (f .allow), within-limit (f .deny), within-limit (f .byuid), within-limit (f .portacl))
 
-  unpack-framed : unpack sheet ≡ refusing (framedFault a d po t) p
+  unpack-framed : unpack sheet ≡ refusing (framedFault a d bu po t) p
   unfolding unpack
   unpack-framed = rw (framed, fault-framed)
 
@@ -195,11 +227,11 @@ module _ (sheet : List ℕ) (p : Parts) (framed : frame sheet ≡ answered p) wh
     abbrev found : Answer
     found = search (matchOf (tablesOf t)) a d (requestAt names h)
 
-    module _ (f : Finding) (is-f : f ≡ findingOf (framedFault a d po t) found) where
+    module _ (f : Finding) (is-f : f ≡ findingOf (framedFault a d bu po t) found) where
       pub parts-doubtful : f ≡ Finding.Doubtful → (x : Ruling) → x ≡ refusedBy (unpack sheet)
           → x ≡ verdictRuling (decideSheet sheet (some (requestAt names q)))
       unfolding decideSheet
-      parts-doubtful e x is-x = is-x ∙ rw unpack-framed (by (framedFault a d po t) (sym is-f ∙ e))
+      parts-doubtful e x is-x = is-x ∙ rw unpack-framed (by (framedFault a d bu po t) (sym is-f ∙ e))
         where
           by : (o : Option Refusal) → findingOf o found ≡ Finding.Doubtful
               → refusedBy (refusing o p)
@@ -209,8 +241,8 @@ module _ (sheet : List ℕ) (p : Parts) (framed : frame sheet ≡ answered p) wh
           by (some g) k = refl
 
       module _ (b : Answer) (e : f ≡ Finding.Answer b) where
-        answer-found : (framedFault a d po t ≡ none) × (found ≡ b)
-        answer-found = by (framedFault a d po t) (sym is-f ∙ e)
+        answer-found : (framedFault a d bu po t ≡ none) × (found ≡ b)
+        answer-found = by (framedFault a d bu po t) (sym is-f ∙ e)
           where
             by : (o : Option Refusal) → findingOf o found ≡ Finding.Answer b → (o ≡ none) × (found ≡ b)
             by none k = (refl, cc)

@@ -1,6 +1,6 @@
 -- What the contracts of inner functions cite. Nothing here needs to be believed for the meaning of the papers.
 --   refusedBy o == the refusal of a sheet that is unpacked as o
---   framedFault allow deny portacl t == the refusal of texts that are within their limits, from the frame of the tables on
+--   framedFault allow deny byuid portacl t == the refusal of texts that are within their limits, from the frame of the tables on
 -- Assumes nothing: these are definitions.
 use Prim.Native.Nat.{ℕ}
 use mathlib.Core.List.{List}
@@ -15,8 +15,8 @@ use Rattle.rules.specs.declared.Ruling.the-variants as R
 use Rattle.sheet.specs.declared.Parts.{Parts}
 use Rattle.sheet.specs.Code.{contentsFault}
 
-unfoldable pub framedFault : List ℕ → List ℕ → List ℕ → List ℕ → Option Refusal
-framedFault allow deny portacl t = tablesFrame t orElse contentsFault allow deny portacl t
+unfoldable pub framedFault : List ℕ → List ℕ → List ℕ → List ℕ → List ℕ → Option Refusal
+framedFault allow deny byuid portacl t = tablesFrame t orElse contentsFault allow deny byuid portacl t
 
 abbrev pub refusedBy : Outcome Parts → Ruling
 refusedBy (refused g) = R.Refused g

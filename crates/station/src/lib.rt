@@ -36,10 +36,11 @@ use sheet::unpack;
 use sheet::unpack::Unpacked;
 use tables::entry::Framing;
 
-// The answer by texts whose tables are soundly framed; a bad entry of portacl is a doubt too.
+// The answer by texts whose tables are soundly framed; a bad entry of portacl and a line of byuid of the retired form are doubts too.
 fn find_framed(
     allow: &[u8],
     deny: &[u8],
+    byuid: &[u8],
     portacl: &[u8],
     tables: &[u8],
     names: &[u8],
@@ -48,12 +49,15 @@ fn find_framed(
     requires { ⌜ tablesIn (now tables) ≡ tablesOf (now tables) ⌝ }
     ensures { λ r.
         ⌜ r
-        ≡ findingOf (contentsFault (now (allow .entry)) (now (deny .entry)) (now (portacl .entry)) (now (tables .entry)))
+        ≡ findingOf (contentsFault (now (allow .entry)) (now (deny .entry)) (now (byuid .entry)) (now (portacl .entry)) (now (tables .entry)))
         (searchBy (matchOf (tablesOf (now (tables .entry)))) (now (allow .entry)) (now (deny .entry)) (requestAt (now (names .entry)) request)) ⌝ }
 {
     match portacl::check(portacl) {
         portacl::Checked::Refused(_) => Finding::Doubtful,
-        portacl::Checked::Sound => find(allow, deny, tables, names, request),
+        portacl::Checked::Sound => match byuid::check(byuid) {
+            byuid::Checked::Refused(_) => Finding::Doubtful,
+            byuid::Checked::Sound => find(allow, deny, tables, names, request),
+        },
     }
 }
 
@@ -61,6 +65,7 @@ fn find_framed(
 fn find_in_texts(
     allow: &[u8],
     deny: &[u8],
+    byuid: &[u8],
     portacl: &[u8],
     tables: &[u8],
     names: &[u8],
@@ -68,13 +73,13 @@ fn find_in_texts(
 ) -> Finding
     ensures { λ r.
         ⌜ r
-        ≡ findingOf (framedFault (now (allow .entry)) (now (deny .entry)) (now (portacl .entry)) (now (tables .entry)))
+        ≡ findingOf (framedFault (now (allow .entry)) (now (deny .entry)) (now (byuid .entry)) (now (portacl .entry)) (now (tables .entry)))
         (searchBy (matchOf (tablesOf (now (tables .entry)))) (now (allow .entry)) (now (deny .entry)) (requestAt (now (names .entry)) request)) ⌝ }
 {
     match tables::entry::frame(tables) {
         Framing::Cut => Finding::Doubtful,
         Framing::Trailing => Finding::Doubtful,
-        Framing::Sound => find_framed(allow, deny, portacl, tables, names, request),
+        Framing::Sound => find_framed(allow, deny, byuid, portacl, tables, names, request),
     }
 }
 
@@ -113,14 +118,15 @@ fn find_in_parts(sheet: &[u8], parts: Parts, names: &[u8], request: Request) -> 
     ensures { λ r.
         ⌜ r
         ≡ findingOf
-        (framedFault (bytesAt (now (sheet .entry)) (parts .allow)) (bytesAt (now (sheet .entry)) (parts .deny)) (bytesAt (now (sheet .entry)) (parts .portacl))
-        (bytesAt (now (sheet .entry)) (parts .tables)))
+        (framedFault (bytesAt (now (sheet .entry)) (parts .allow)) (bytesAt (now (sheet .entry)) (parts .deny)) (bytesAt (now (sheet .entry)) (parts .byuid))
+        (bytesAt (now (sheet .entry)) (parts .portacl)) (bytesAt (now (sheet .entry)) (parts .tables)))
         (searchBy (matchOf (tablesOf (bytesAt (now (sheet .entry)) (parts .tables)))) (bytesAt (now (sheet .entry)) (parts .allow))
         (bytesAt (now (sheet .entry)) (parts .deny)) (requestAt (now (names .entry)) request)) ⌝ }
 {
     find_in_texts(
         part_of(sheet, parts.allow),
         part_of(sheet, parts.deny),
+        part_of(sheet, parts.byuid),
         part_of(sheet, parts.portacl),
         part_of(sheet, parts.tables),
         names,

@@ -329,6 +329,12 @@ fn upgrade(case: &[u8], out: &mut [u8]) {
     );
 }
 
+fn convert(case: &[u8], out: &mut [u8]) {
+    let text = cases::field(case, 2);
+    let w = gate::gate_convert(cases::room(out, cases::number(case, 1)), text);
+    written(w.number, w.section, w.line, w.count, out);
+}
+
 // How long a sheet is, and whether it begins with the bytes that are expected.
 fn packed(number: u32, section: u32, line: u64, sheet: &[u8], expected: &[u8]) {
     if report::refused(number, section, line) {
@@ -434,6 +440,7 @@ fn write(call: usize, case: &[u8], out: &mut [u8]) {
         11 => expand(case, out),
         12 => read_address(case, out),
         13 => write_address(case, out),
+        14 => convert(case, out),
         _ => authbind(case, out),
     }
 }
@@ -471,14 +478,14 @@ fn malformed(line: &[u8]) {
 fn call(case: &[u8]) -> usize {
     cases::call(
         b"verdict:tttttttt. tables_verdict:ttttttttt. sheet_verdict:ttttttt. byuid:ntnnt. sheet_byuid:ntnt. portacl:nnnnnnntn \
-          sheet_portacl:nnnnnnntn check:t. unpack:t. pack:ntttttt. upgrade:ntt. expand:ttttttnnt. read_address:t. write_address:nt. authbind:nntnt.",
+          sheet_portacl:nnnnnnntn check:t. unpack:t. pack:ntttttt. upgrade:ntt. expand:ttttttnnt. read_address:t. write_address:nt. convert:nt. authbind:nntnt.",
         case,
     )
 }
 
 fn run_case(line: &[u8], case: &[u8]) {
     let place = call(case);
-    if 14 < place {
+    if 15 < place {
         malformed(line);
         return;
     }

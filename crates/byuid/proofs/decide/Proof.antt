@@ -1,6 +1,6 @@
--- `byuid::decide` meets its contract: the limit, the kind of address, and the decision. Assumes nothing.
+-- `byuid::decide` meets its contract: the limit, then what the walk found. Assumes nothing.
 use borrow.Author.Needs.{needs}
-use Rattle.byuid.proofs.TextLaws.{over-limit, unknown-address, answered-v4, answered-v6}
+use Rattle.byuid.proofs.TextLaws.{over-limit, decide-retired, decide-answer}
 use Rattle.byuid.proofs.decide.Statement.{statement}
 use Rattle.byuid.proofs.decide.Tie as tie
 
@@ -10,13 +10,12 @@ decide-spec =
     (λ c κs. search needs)
     (λ c κs. search needs)
     (λ c. search (over-limit, needs))
-    (λ c. search needs)
+    (λ c κs. search needs)
     (λ c κs. search needs)
     (λ c. search needs)
     (λ c κs. search needs)
     (λ c. search needs)
     (λ c κs. search needs)
-    (λ c. search (unknown-address, needs))
-    (λ c. search (answered-v4, needs))
-    (λ c. search (answered-v6, needs)) in
+    (λ c. search (decide-retired, needs))
+    (λ c. search (decide-answer, needs)) in
     tie.close facts

@@ -1,6 +1,6 @@
 -- `find_framed` meets its contract. Assumes nothing.
 use borrow.Author.Needs.{needs}
-use Rattle.station.proofs.DecideLaws.{find-entry, find-entries}
+use Rattle.station.proofs.DecideLaws.{find-entry, find-retired, find-entries}
 use Rattle.station.proofs.find_framed.Statement.{statement}
 use Rattle.station.proofs.find_framed.Tie as tie
 
@@ -11,6 +11,10 @@ find-framed-spec =
     (λ c. search needs)
     (λ c. search needs)
     (λ c κs. search needs)
+    (λ c. search needs)
+    (λ c. search needs)
+    (λ c κs. search needs)
     (λ c. search (find-entry, needs))
+    (λ c. search (find-retired, needs))
     (λ c. search (find-entries, needs)) in
     tie.close facts

@@ -12,5 +12,6 @@ find-in-parts-spec =
     (λ c κs. search needs)
     (λ c κs. search needs)
     (λ c κs. search needs)
+    (λ c κs. search needs)
     (λ c. search (find-parts, needs)) in
     tie.close facts
