@@ -38,7 +38,7 @@
 extern "C" {
 #endif
 
-#define GATE_VERSION "3.3.0"
+#define GATE_VERSION "3.4.0"
 
 /* Numbers: of an answer, or of a refusal. */
 enum gate_number {
@@ -102,6 +102,7 @@ enum gate_section {
  * byte left over. */
 #define GATE_ADDRESS_ROOM 39
 #define GATE_AUTHBIND_ROOM 66 /* for a name of gate_authbind: /etc/authbind/byaddr/!, an address, a comma and a port of four digits */
+#define GATE_CARRY_ROOM GATE_PORTACL_LIMIT /* for each text of gate_carry: both together are never longer than the list */
 #define GATE_EXPANSION_ROOM (GATE_LINE_LIMIT / 2 * (GATE_USER_LIMIT + 1 + GATE_NAME_LIMIT) + GATE_LINE_LIMIT % 2)
 
 /* The stack that any call needs, in bytes, with a margin; the caller's own frames come on top. On x86-64 the most is some 101,700, by the
@@ -198,6 +199,13 @@ struct gate_written {
     uint32_t number, section;
     uint64_t line;
     uint64_t count; /* bytes written */
+};
+
+/* What a call that writes into two outputs answers. */
+struct gate_written_two {
+    uint32_t number, section;
+    uint64_t line;
+    uint64_t count, other_count; /* bytes written into the first and into the second */
 };
 
 /* What comes next in authbind's order. */
@@ -301,6 +309,13 @@ struct gate_next gate_authbind(uint8_t *out, size_t out_len, uint32_t port, uint
 struct gate_answer gate_portacl(const uint8_t *text, size_t text_len,
                                 uint32_t enabled, uint32_t port_high, uint32_t suser_exempt, uint32_t autoport_exempt,
                                 uint32_t uid, const uint32_t *groups, size_t groups_len, uint32_t protocol, uint32_t port);
+
+/* Writes the byuid lines that grant uid what a portacl list grants it: a port for which the list has both a tcp and a udp entry of that uid
+ * is granted to every address. Those from 1 to 511 go to plain, the text of the plain file, those from 512 to 1023 to marked; entries of
+ * groups and all other ports are left out. Refused by 2 and 12 for the list, then by 13 for uid 0, which authbind never rules, then by 14
+ * where either text has no room: then neither is written. GATE_CARRY_ROOM bytes are room enough for each. plain and marked do not overlap. */
+struct gate_written_two gate_carry(uint8_t *plain, size_t plain_len, uint8_t *marked, size_t marked_len, const uint8_t *text, size_t text_len,
+                                   uint32_t uid);
 
 struct gate_answer gate_sheet_portacl(const uint8_t *sheet, size_t sheet_len,
                                       uint32_t enabled, uint32_t port_high, uint32_t suser_exempt, uint32_t autoport_exempt,

@@ -208,6 +208,48 @@ bool write_file(const char *path, const uint8_t *bytes, size_t len) {
     return sync_folder_of(path);
 }
 
+/* Two files */
+
+enum { FIRST, SECOND, REPLACED };
+
+/* What is at path gets a temporary name besides; nothing to do where nothing is there. */
+static bool keep_listed(const char *path) {
+    struct stat there;
+    if (stat(path, &there))
+        return errno == ENOENT;
+    int fd = create_listed(path, true);
+    if (fd < 0)
+        return false;
+    close(fd);
+    return !unlink(temporaries[REPLACED]) && !link(path, temporaries[REPLACED]);
+}
+
+/* Signals wait until both files have their names, or the first is as it was. */
+static bool name_two(const char *path, const char *other) {
+    sigset_t before;
+    bool was_there = temporaries_count > REPLACED;
+    hold_signals(&before);
+    bool first = !rename(temporaries[FIRST], path), good = first && !rename(temporaries[SECOND], other);
+    int error = errno;
+    if (first && !good && (was_there ? rename(temporaries[REPLACED], path) : unlink(path)))
+        complain("gate", "%s: is the new file, and could not be put back: %s", shown(path), strerror(errno));
+    remove_temporaries();
+    release_signals(&before);
+    errno = error;
+    return good || (first ? failed(other) : failed(path));
+}
+
+bool write_two(const char *path, const uint8_t *bytes, size_t len, const char *other, const uint8_t *other_bytes, size_t other_len) {
+    watch_signals();
+    if (!write_listed(path, true, bytes, len))
+        return failed(path);
+    if (!write_listed(other, true, other_bytes, other_len))
+        return failed(other);
+    if (!keep_listed(path))
+        return failed(path);
+    return name_two(path, other) && sync_folder_of(path) && sync_folder_of(other);
+}
+
 /* Folders */
 
 /* What takes its place at the end: the temporary file or folder in a slot, and where it goes. */

@@ -13,6 +13,9 @@ bool may_write(const char *path);
  * which takes its place once it is on disk. A signal removes the temporary file. */
 bool write_file(const char *path, const uint8_t *bytes, size_t len);
 
+/* Two files, both or neither: both are on disk before the first takes its place, and where the second can't, the first is as it was. */
+bool write_two(const char *path, const uint8_t *bytes, size_t len, const char *other, const uint8_t *other_bytes, size_t other_len);
+
 /* The same for files of one folder, some of them in a folder within it. A folder that is not there yet appears with all of its files at
  * once; in one that is there, all are on disk before the first takes its place. */
 #define FILES_MOST 68

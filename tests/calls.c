@@ -14,7 +14,7 @@ struct text {
 static struct lent {
     struct text allow, deny, byuid, portacl, tables, sheet, old_sheet, command, address, daemon, client_name, server_name, user_name, answers;
     uint32_t groups[2];
-    uint8_t out[160];
+    uint8_t out[160], marked[80];
 } m, expected, after;
 
 static int failed;
@@ -407,6 +407,39 @@ static void authbind(void) {
     expect("an answer of no kind", next_refused(AUTHBIND(0, 1024), GATE_BAD_REQUEST));
 }
 
+/* Both texts were written, and nothing else was changed. */
+static int carried(struct gate_written_two w, const char *plain, const char *marked) {
+    memcpy(expected.marked, marked, strlen(marked));
+    return w.number == GATE_ANSWERED && w.section == 0 && w.line == 0 && w.count == strlen(plain) && w.other_count == strlen(marked) &&
+           holds(plain, strlen(plain));
+}
+
+static int not_carried(struct gate_written_two w, uint32_t number, uint32_t section, uint64_t line) {
+    return w.number == number && w.section == section && w.line == line && w.count == 0 && w.other_count == 0 && untouched();
+}
+
+#define CARRY(room, other, uid) gate_carry(OUT(room), m.marked, other, TEXT(portacl), uid)
+
+static void carry(void) {
+    begin();
+    SET(portacl, "uid:432:udp:512,uid:432:tcp:512,uid:432:tcp:80,uid:432:tcp:9,uid:432:udp:80,gid:432:udp:9,uid:432:tcp:80"), lend();
+    expect("a list carried over, in exact room", carried(CARRY(21, 23, 432), "0.0.0.0/0,80\n::/0,80\n", "0.0.0.0/0,512\n::/0,512\n"));
+    m = expected, memset(m.out, 0xa5, sizeof m.out), memset(m.marked, 0xa5, sizeof m.marked), lend();
+    expect("one byte less for the plain text", not_carried(CARRY(20, 80, 432), GATE_NO_ROOM, 0, 0));
+    expect("one byte less for the marked text", not_carried(CARRY(160, 22, 432), GATE_NO_ROOM, 0, 0));
+    expect("root, before room", not_carried(CARRY(0, 0, 0), GATE_BAD_REQUEST, 0, 0));
+    expect("another uid has nothing", carried(CARRY(0, 0, 433), "", ""));
+    SET(portacl, "uid:432:tcp:80,x"), lend();
+    expect("a bad entry, before root", not_carried(CARRY(0, 0, 0), GATE_BAD_ENTRY, GATE_PORTACL, 2));
+    m.portacl.len = 0, lend();
+    expect("an empty list", carried(CARRY(0, 0, 432), "", ""));
+    expect("root, of an empty list", not_carried(CARRY(160, 80, 0), GATE_BAD_REQUEST, 0, 0));
+    static uint8_t longer[GATE_PORTACL_LIMIT + 1];
+    memset(longer, ',', sizeof longer);
+    expect("a list over its limit", not_carried(gate_carry(OUT(160), m.marked, 80, longer, sizeof longer, 0), GATE_OVER_LIMIT, GATE_PORTACL, 0));
+    expect("a list of commas at it", not_carried(gate_carry(OUT(160), m.marked, 80, longer, sizeof longer - 1, 0), GATE_BAD_ENTRY, GATE_PORTACL, 1));
+}
+
 /* What a refused text is read as is refused wherever an address is taken. */
 static void no_address(void) {
     begin(), lend();
@@ -427,7 +460,7 @@ static void no_address(void) {
 }
 
 /* What is handed over in each position that takes bytes or groups. */
-enum position { ALLOW, DENY, BYUID, PORTACL, TABLES, SHEET, OLD_SHEET, GIVEN_COMMAND, ADDRESS, DAEMON, CLIENT_NAME, SERVER_NAME, USER_NAME, ANSWERS, LENT_OUT, LENT_GROUPS, POSITIONS };
+enum position { ALLOW, DENY, BYUID, PORTACL, TABLES, SHEET, OLD_SHEET, GIVEN_COMMAND, ADDRESS, DAEMON, CLIENT_NAME, SERVER_NAME, USER_NAME, ANSWERS, LENT_OUT, LENT_MARKED, LENT_GROUPS, POSITIONS };
 static struct {
     const void *start;
     size_t len;
@@ -439,6 +472,7 @@ static struct answers {
     struct gate_checked check;
     struct gate_parts parts;
     struct gate_written packed, upgraded, converted, expanded, written;
+    struct gate_written_two carried;
     struct gate_next next;
     uint64_t address[3];
 } here, null;
@@ -451,6 +485,7 @@ static void give_all(void) {
     for (int i = ALLOW; i <= ANSWERS; i++)
         given[i].start = t[i]->bytes, given[i].len = t[i]->len;
     given[LENT_OUT].start = m.out, given[LENT_OUT].len = sizeof m.out;
+    given[LENT_MARKED].start = m.marked, given[LENT_MARKED].len = sizeof m.marked;
     given[LENT_GROUPS].start = m.groups, given[LENT_GROUPS].len = 2;
 }
 
@@ -480,6 +515,7 @@ static void call_all(struct answers *a, uint32_t state) {
     a->expanded = gate_expand(GIVEN_OUT, GIVEN(GIVEN_COMMAND), GIVEN_REQUEST(state), 7);
     a->written = gate_write_address(GIVEN_OUT, read.kind, read.high, read.low);
     a->next = gate_authbind(GIVEN_OUT, 80, read.kind, read.high, read.low, 432, GIVEN(ANSWERS));
+    a->carried = gate_carry(GIVEN_OUT, (uint8_t *)given[LENT_MARKED].start, given[LENT_MARKED].len, GIVEN(PORTACL), 80);
     a->address[0] = read.number, a->address[1] = read.high, a->address[2] = read.low;
 }
 
@@ -532,6 +568,7 @@ static void null_answers(void) {
            null.verdict.word == GATE_GRANTED);
     expect("no room is enough for none", without(LENT_OUT, 1)->command.word == GATE_DENIED && null.sheet_command.word == GATE_DENIED);
     expect("no answers", without(ANSWERS, 1)->next.word == GATE_TEST && null.next.count == 23 && without(LENT_OUT, 1)->next.number == GATE_NO_ROOM);
+    expect("no list to carry over, and no room", without(PORTACL, 1)->carried.number == GATE_ANSWERED && without(LENT_MARKED, 1)->carried.number == GATE_ANSWERED);
     expect("no command", without(GIVEN_COMMAND, 1)->expanded.number == GATE_ANSWERED && null.expanded.count == 0);
     expect("no address", without(ADDRESS, 1)->address[0] == GATE_BAD_REQUEST && null.written.number == GATE_BAD_REQUEST);
 }
@@ -618,6 +655,7 @@ int main(void) {
     expansion();
     addresses();
     authbind();
+    carry();
     no_address();
     nulls();
     null_answers();

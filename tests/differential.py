@@ -27,6 +27,7 @@ Answer = struct(word=U32, file=U32, place=U64, len=U64)
 Command = struct(word=U32, file=U32, place=U64, len=U64, count=U64)
 Check = struct()
 Written = struct(count=U64)
+WrittenTwo = struct(count=U64, other_count=U64)
 Next = struct(word=U32, count=U64)
 Parts = struct(**{f"{part}_{what}": U64 for part in PARTS for what in ("place", "len")})
 Address = struct(kind=U32, high=U64, low=U64)
@@ -44,7 +45,7 @@ def load(path):
             ("command", out + text * 2 + request + [U32], Command), ("sheet_command", out + text + request + [U32], Command),
             ("byuid", text + [U32] + bind, Answer), ("sheet_byuid", text + bind, Answer),
             ("portacl", portacl, Answer), ("sheet_portacl", portacl, Answer),
-            ("authbind", out + bind + text, Next),
+            ("authbind", out + bind + text, Next), ("carry", out * 2 + text + [U32], WrittenTwo),
             ("check", text, Check), ("unpack", text, Parts), ("pack", out + text * 5, Written), ("upgrade", out + text, Written), ("convert", out + text, Written),
             ("expand", out + text + request + [U32], Written),
             ("read_address", text, Address), ("write_address", out + [U32, U64, U64], Written)):
@@ -183,6 +184,17 @@ def written(rng, room, call, *arguments):
     if out.raw[count:] != before[count:]:
         return ("bytes changed beyond", count)
     return refusal(a) if a.number else out.raw[:count]
+
+
+def written_two(rng, rooms, call, *arguments):
+    """the same of two lent outputs"""
+    before = [rng.randbytes(room + 8) for room in rooms]
+    outs = [ctypes.create_string_buffer(each, len(each)) for each in before]
+    a = call(outs[0], rooms[0], outs[1], rooms[1], *arguments)
+    counts = [0, 0] if a.number else [a.count, a.other_count]
+    if any(out.raw[count:] != each[count:] for out, count, each in zip(outs, counts, before)):
+        return ("bytes changed beyond", counts)
+    return refusal(a) if a.number else [out.raw[:count] for out, count in zip(outs, counts)]
 
 
 def read_address(call, text):
@@ -510,6 +522,18 @@ def portacl_text(rng):
     return text
 
 
+def carried_text(rng):
+    """entries that mostly come in pairs, for few uids and for ports about the ends of both spans"""
+    pairs = [(rng.choice([b"432", b"432", b"80", b"4294967295"]), rng.choice([0, 1, 2, 79, 80, 80, 511, 512, 1022, 1023, 1024, 65535, rng.randrange(1100)]))
+             for _ in range(rng.choice([0, 1, 2, 5, 20, 150]))]
+    entries = [b"%s:%s:%s:%d" % (b"uid" if rng.random() < 0.95 else b"gid", uid, protocol, port)
+               for uid, port in pairs for protocol in (b"tcp", b"udp") if rng.random() < 0.9]
+    rng.shuffle(entries)
+    if rng.random() < 0.1:
+        entries.insert(rng.randrange(len(entries) + 1), rng.choice([b"", b"uid", b"uid:432:tcp:080"]))
+    return b",".join(entries)
+
+
 def texts_of(rng):
     """five texts for a sheet: mostly sound"""
     sound = rng.random() < 0.85
@@ -620,6 +644,7 @@ KINDS = {
     "command": VERDICTS | FILES | {"2", "14", "15"}, "sheet_command": VERDICTS | SHEET | {"14"},
     "verdict": VERDICTS | FILES | {"2", "15"}, "tables_verdict": VERDICTS | FILES | TABLES | {"1", "2", "3"}, "byuid": BYUID | {"2", "22"}, "portacl": PORTACL | {"2", "12"},
     "sheet_verdict": VERDICTS | SHEET, "sheet_byuid": BYUID | SHEET, "sheet_portacl": PORTACL | SHEET,
+    "carry": {"answered", "2", "12", "13", "14"},
     "authbind": {"test", "read", "granted", "denied", "not ruled", "13", "14", "18", "19"},
     "check": SHEET | {"sheet ok"}, "unpack": SHEET | {"answered"}, "pack": {"answered", "14"} | SHEET,
     "upgrade": {"answered", "1", "2", "3", "14"}, "convert": {"answered", "2", "14"},
@@ -773,6 +798,12 @@ def main():
             compare("byuid", byuid(rng, lib.gate_byuid, expected, *case), ref.byuid_before(text, *case), text, case)
             compare("convert", written(rng, len(text), lib.gate_convert, *sized(expected)), expected, expected)
 
+    def carry_case():
+        text, uid = rng.choice([carried_text, carried_text, carried_text, portacl_text])(rng), rng.choice([0, 80, 432, 432, 432, 2 ** 32 - 1])
+        result = ref.carry(text, uid, 1 << 32, 1 << 32)
+        rooms = [room_for(rng, result if ref.refused(result) else each) for each in (result if not ref.refused(result) else [result] * 2)]
+        compare("carry", written_two(rng, rooms, lib.gate_carry, *sized(text), uid), ref.carry(text, uid, *rooms), text, uid, rooms)
+
     def portacl_request():
         settings = dict(enabled=rng.choice([0, 1, 1, 1, 2]), port_high=rng.choice([0, 79, 80, 1023, 1023, 65535, 2 ** 32 - 1]),
                         suser_exempt=rng.choice([0, 1, 7]), autoport_exempt=rng.choice([0, 1, 7]))
@@ -833,6 +864,7 @@ def main():
         port_cases()
         convert_case()
         authbind_case()
+        carry_case()
         sheet_cases()
         expand_case()
         address_cases()

@@ -161,6 +161,7 @@ def limits(text):
     found["GATE_GROUPS_LIMIT"] = constant(text[GROUPS], r"leb \(length \(b \.groups\)\) (\d+)", "the groups' limit")
     line = found["GATE_LINE_LIMIT"] = constant(text[LINES], r"isTooLong t = ltb (\d+) \(length t\)", "the line's limit")
     found["GATE_ADDRESS_ROOM"] = 8 * 4 + 7
+    found["GATE_CARRY_ROOM"] = found["GATE_PORTACL_LIMIT"]
     found["GATE_AUTHBIND_ROOM"] = len("/etc/authbind/byaddr/!") + found["GATE_ADDRESS_ROOM"] + len(",1023")
     most = max(found["GATE_DAEMON_LIMIT"], found["GATE_USER_LIMIT"]) + 1 + found["GATE_NAME_LIMIT"]
     found["GATE_EXPANSION_ROOM"] = line // 2 * most + line % 2
@@ -265,6 +266,9 @@ PLANTED = [
     (HEADER, "GATE_LATE_ANSWER = 19,", "GATE_LATE_ANSWER = 20,"),
     (HEADER, "GATE_ALLOWED = 1,", "GATE_ALLOWED = 3,"),
     (HEADER, "GATE_AUTHBIND_ROOM 66", "GATE_AUTHBIND_ROOM 65"),
+    (HEADER, "GATE_CARRY_ROOM GATE_PORTACL_LIMIT", "GATE_CARRY_ROOM GATE_BYUID_LIMIT"),
+    (HEADER, "uint64_t count, other_count;", "uint64_t other_count, count;"),
+    (HEADER, "gate_carry(uint8_t *plain, size_t plain_len, uint8_t *marked, size_t marked_len", "gate_carry(uint8_t *marked, size_t marked_len, uint8_t *plain, size_t plain_len"),
     (HEADER, "    uint32_t word;  /* GATE_TEST", "    uint64_t word;  /* GATE_TEST"),
     (ORDER, "given (eqb n 2) Other", "given (eqb n 3) Other"),
     (ANSWERS, 'word "read" 8', 'word "read" 9'),

@@ -34,7 +34,7 @@ TEXTS = [(TOP / "sample" / name).read_bytes() for name in NAMES]
 SHEET_LIMIT = 57360
 SHEET = ref.pack(TEXTS + [ref.NO_TABLES], SHEET_LIMIT)
 OLD_SHEET = SHEET[:-2]
-COMMANDS = ("check", "match", "byuid", "portacl", "authbind", "pack", "unpack", "fleet", "upgrade", "convert", "explain", "test")
+COMMANDS = ("check", "match", "byuid", "portacl", "authbind", "pack", "unpack", "fleet", "upgrade", "convert", "carry", "explain", "test")
 PAGE = os.sysconf("SC_PAGE_SIZE")
 runs, failures, statuses, skipped = 0, [], set(), []
 
@@ -129,6 +129,9 @@ def test_misread():
     for case in ([], ["432"], ["www-data", "10.20.1.2,80"], ["432", "10.20.1.2:80"], ["432", "10.20.1.2,65536"], ["432", "10.20.1.2,080"], ["432", "unknown,80"],
                  ["432", "[::1],80"], ["-1", "::1,80"], ["432", "::1,80", "x"], ["432", "::1,80", "--root"], ["432", "::1,80", "--marked", "x"]):
         expect(f"authbind {case} is an error", gate("authbind", *case), 2, b"", "gate: ")
+    for case in ([], ["portacl"], ["portacl", "432", "p"], ["portacl", "www", "p", "m"], ["portacl", "0432", "p", "m"], ["portacl", "4294967296", "p", "m"],
+                 ["portacl", "432", "p", "m", "x"], ["portacl", "432", "p", ""], ["portacl", "432", "p", "p"], ["portacl", "432", "p", "./p"], ["portacl", "432", ".", "m"]):
+        expect(f"carry {case} is an error", gate("carry", *case), 2, b"", "gate: ")
     for case in (["20"], ["21"], ["23"], ["x"], ["-1"], ["010"], [""], ["1", "2"], ["4294967306"]):
         expect(f"explain {case} is an error", gate("explain", *case), 2, b"", "gate: ")
     for case in ([], ["chek"], [""], ["-q"], ["--Version"], ["--version", "x"], ["check"], ["check", SAMPLE, SAMPLE], ["pack", SAMPLE], ["unpack", "x"],
@@ -824,6 +827,39 @@ def test_convert(folder):
         fail("a refused conversion changes nothing")
     expect("converting nothing", gate("convert", folder + "/none", new), 2, b"", "none: No such file")
     expect("converting to a folder", gate("convert", old, folder), 2, b"", "is a folder")
+def test_carry(folder):
+    """a portacl list as byuid texts: both files, or neither"""
+    plain, marked = pathlib.Path(folder) / "432", pathlib.Path(folder) / "!432"
+    both = b"".join(b"uid:432:%s:%d," % (protocol, port) for port in (600, 9, 512, 80) for protocol in (b"udp", b"tcp"))
+    text = both + b"uid:432:tcp:7,gid:432:udp:7,uid:432:udp:1024,uid:432:tcp:1024"
+    expected = ref.carry(text, 432, 4096, 4096)
+    expect("carrying a list over", gate("carry", "-", "432", plain, marked, stdin=text), 0, b"%s: 40 bytes\n%s: 46 bytes\n" % (os.fsencode(plain), os.fsencode(marked)), b"")
+    if [plain.read_bytes(), marked.read_bytes()] != expected or left_over(folder):
+        fail("carried texts", plain.read_bytes(), marked.read_bytes(), expected)
+    for port, file, status in ((80, "plain", 0), (9, "plain", 0), (7, "plain", 1), (512, "marked", 0), (600, "marked", 0), (601, "marked", 1)):
+        station_of = station(folder + "/carried", b"", b"", plain.read_bytes(), b"")
+        for address in ("10.20.1.2", "2001:db8::1", "::ffff:1.2.3.4"):
+            expect(f"what was written grants {port}", gate("byuid", station_of, "432", f"{address},{port}", "--marked", marked), status, None, None)
+    expect("carrying over quietly", gate("carry", "-q", "-", "433", plain, marked, stdin=text), 0, b"", b"")
+    if plain.read_bytes() + marked.read_bytes():
+        fail("another uid has no lines")
+    longest = b",".join(b"uid:1:%s:%d" % (protocol, port) for port in range(100, 246) for protocol in (b"tcp", b"udp"))
+    expect("a list near its limit", gate("carry", "-", "1", plain, marked, stdin=longest), 0, None, b"")
+    if [plain.read_bytes(), marked.read_bytes()] != ref.carry(longest, 1, 4096, 4096):
+        fail("the texts of a list near its limit")
+    for what, uid, text, message in (
+            ("root's", "0", both[:-1], "uid 0: byuid never rules root"), ("a bad entry", "0", both, "standard input: entry 9: not a portacl entry [12]"),
+            ("4,097 bytes", "432", b"," * 4097, "4097 bytes, and the most is 4096 [2]"), ("a megabyte", "432", b"," * (1 << 20), "over 65536 bytes, and the most is 4096 [2]"),
+            ("a newline at the end", "432", both[:-1] + b"\n", "entry 8: not a portacl entry [12]")):
+        plain.write_bytes(b"old plain"), marked.write_bytes(b"old marked")
+        expect("carrying over " + what, gate("carry", "-", uid, plain, marked, stdin=text), 2, b"", message)
+        if plain.read_bytes() != b"old plain" or marked.read_bytes() != b"old marked" or left_over(folder):
+            fail("a refused list changes neither file: " + what)
+    expect("a list that is not there", gate("carry", folder + "/none", "432", plain, marked), 2, b"", "none: No such file")
+    expect("a folder for the marked text", gate("carry", "-", "432", plain, folder, stdin=text), 2, b"", "is a folder")
+    expect("a folder that is not there", gate("carry", "-", "432", plain, folder + "/none/m", stdin=b""), 2, b"", "none/m: No such file")
+    if plain.read_bytes() != b"old plain" or left_over(folder):
+        fail("an error of the second file leaves the first as it was")
 
 
 def faulty(library, call, turn, **what):
@@ -1164,7 +1200,7 @@ def run_all():
     os.chmod(SCRATCH, 0o755)
     test_misread()
     test_read()
-    for test in (test_answers, test_checks, test_marked, test_authbind, test_explain, test_requests, test_reading, test_pack, test_unpack, test_tables, test_fleet, test_convert,
+    for test in (test_answers, test_checks, test_marked, test_authbind, test_carry, test_explain, test_requests, test_reading, test_pack, test_unpack, test_tables, test_fleet, test_convert,
                  test_upgrade, test_faults, test_full_disk):
         with tempfile.TemporaryDirectory(dir=SCRATCH) as folder:
             test(folder)

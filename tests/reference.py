@@ -731,6 +731,19 @@ def portacl(text, settings, uid, groups, protocol, port):
     return "denied"
 
 
+# Port lists for the other system (document 02, request 13)
+
+def carry(text, uid, room, other):
+    """the plain and the marked text"""
+    if over(4, text) or portacl_fault(text):
+        return over(4, text) or portacl_fault(text)
+    if uid == 0:
+        return (13, 0, 0)
+    tcp, udp = ({port for idtype, ident, of, port in entries_of(text) if idtype == b"uid" and ident == uid and of == wanted} for wanted in (b"tcp", b"udp"))
+    plain, marked = (b"".join(b"0.0.0.0/0,%d\n::/0,%d\n" % (port, port) for port in SPANS[mark] if port in tcp & udp) for mark in ("plain", "marked"))
+    return (14, 0, 0) if len(plain) > room or len(marked) > other else [plain, marked]
+
+
 # Expansion
 
 HOUSE = frozenset(b"ABCDEFGHIJKLMNOPQRSTUVWXYZabcdefghijklmnopqrstuvwxyz0123456789@%-_=+:,./")

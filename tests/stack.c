@@ -18,7 +18,7 @@ enum { PAGE = 4096, PAINT = 0xa5, BEYOND = 3 };
 
 /* In the order of `exports`; NOTHING is no call at all, and its bytes are not counted. */
 enum export { VERDICT, TABLES_VERDICT, SHEET_VERDICT, COMMAND, SHEET_COMMAND, BYUID, SHEET_BYUID, PORTACL, SHEET_PORTACL, CHECK, UNPACK, PACK, UPGRADE, CONVERT,
-              EXPAND, READ_ADDRESS, WRITE_ADDRESS, AUTHBIND, NOTHING };
+              EXPAND, READ_ADDRESS, WRITE_ADDRESS, AUTHBIND, CARRY, NOTHING };
 
 /* For tables over all limits too. */
 enum { TABLES_ROOM = 1 << 20 };
@@ -126,6 +126,10 @@ static uint32_t authbind(void) {
     static const uint8_t absent[2] = {GATE_ABSENT, GATE_ABSENT};
     return gate_authbind_for(out, sizeof out, &at, 1023, 4294967295u, absent, at.kind == GATE_IPV4 ? 2 : 1).number;
 }
+static uint32_t carry(void) {
+    static uint8_t marked[GATE_CARRY_ROOM];
+    return gate_carry(out, GATE_CARRY_ROOM, marked, sizeof marked, portacl.bytes, portacl.len, 1).number;
+}
 static uint32_t nothing(void) { return 0; }
 
 static const struct {
@@ -134,7 +138,7 @@ static const struct {
 } exports[] = {{"gate_verdict", verdict}, {"gate_tables_verdict", tables_verdict}, {"gate_sheet_verdict", sheet_verdict}, {"gate_command", with_command}, {"gate_sheet_command", sheet_command},
                {"gate_byuid", by_uid}, {"gate_sheet_byuid", sheet_byuid}, {"gate_portacl", port_acl}, {"gate_sheet_portacl", sheet_portacl},
                {"gate_check", check}, {"gate_unpack", unpack}, {"gate_pack", pack}, {"gate_upgrade", upgrade}, {"gate_convert", convert}, {"gate_expand", expand}, {"gate_read_address", read_address},
-               {"gate_write_address", write_address}, {"gate_authbind", authbind}, {"nothing", nothing}};
+               {"gate_write_address", write_address}, {"gate_authbind", authbind}, {"gate_carry", carry}, {"nothing", nothing}};
 
 /* In the thread. */
 
@@ -272,9 +276,8 @@ static void ports(void) {
     hosts_files("full sheet", "b:b\n", 0);
     port_texts("full ports", "::1-ffff:ffff:ffff:ffff:ffff:ffff:255.255.255.255,1-65535\n", "gid:4294967295:udp:65535,");
     port_texts("full ports, short lines", "::,0\n", "uid:0:tcp:0,");
-    port_texts("full ports, IPv4", "255.255.255.255/32,1023-1023\n", "uid:1:udp:1,");
-    port_texts("full ports, ignored", "255.255.255.254/31:1023,1022\n", "uid:1:udp:1,");
-    port_texts("full ports, retired", "255.255.255.255/32:1023,1023\n", "uid:1:udp:1,");
+    port_texts("full ports, carried over", "0.0.0.0/0,80\n", "uid:1:udp:80,uid:1:tcp:80,");
+    port_texts("full ports, IPv4", "255.255.255.255/32:1023,1023\n", "uid:1:udp:1,");
     port_texts("full ports, ranges", "0.0.0.0-255.255.255.255,0-65535\n", "uid:1:udp:1,x,");
     port_texts("full ports, one line", "1", "1");
     port_texts("no ports", "", "");

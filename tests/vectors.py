@@ -152,6 +152,11 @@ def authbind(room, port, at, uid, answers):
     return refusal(answer) if ref.refused(answer) else b" ".join([answer[0].encode()] + [answer[1]] * bool(answer[1]))
 
 
+def carry(room, other, uid, text, plain, marked):
+    answer = ref.carry(text, uid, min(room, BLOCK), min(other, BLOCK))
+    return refusal(answer) if ref.refused(answer) else packed(answer[0], plain) + b"\n" + packed(answer[1], marked)
+
+
 # Each call with the kinds of its fields: t a text, n a number, N any number of numbers.
 CALLS = {
     b"verdict": ("tttttttt", lambda *f: ruling(ref.verdict(*f[6:], request(*f[:6])))),
@@ -168,6 +173,7 @@ CALLS = {
     b"convert": ("nt", lambda room, text: shown(ref.convert(text, min(room, BLOCK)))),
     b"expand": ("ttttttnnt", expand),
     b"authbind": ("nntnt", authbind),
+    b"carry": ("nnnttt", carry),
     b"read_address": ("t", read_address),
     b"write_address": ("nt", lambda room, text: shown(ref.write_address(address(text), min(room, BLOCK)))),
 }

@@ -12,6 +12,7 @@ use Rattle.claims.proofs.MappedClaims.{no-mapped, held-as-v4}
 use Rattle.claims.proofs.OrderClaims.{absent-goes-on, answer-settles, names-differ, reads-its-file, manual-example}
 use Rattle.claims.proofs.LimitClaims.{old-boxes}
 use Rattle.claims.proofs.RetiredClaims.{retired-refused, converted, refusal-numbers}
+use Rattle.claims.proofs.CarryClaims.{carried-over}
 
 pub claims : Claims
 claims = record {
@@ -47,4 +48,5 @@ claims = record {
   retired-refused = retired-refused;
   converted = converted;
   refusal-numbers = refusal-numbers;
+  carried-over = carried-over;
 }

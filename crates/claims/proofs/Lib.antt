@@ -9,4 +9,5 @@ pub mod MappedClaims
 pub mod OrderClaims
 pub mod LimitClaims
 pub mod RetiredClaims
+pub mod CarryClaims
 pub mod Claims

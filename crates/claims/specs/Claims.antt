@@ -32,13 +32,14 @@ use Rattle.codes.specs.Answers.{granted, denied, ask, noLine, wordAnswer}
 use Rattle.codes.specs.Answers.{refusalAnswer, refusedCheck, accepted, refusedParts, countWritten, withCount, addressWith}
 use Rattle.gate.specs.Calls.{gateVerdict, gateTablesVerdict, gateSheetVerdict, gateByuid, gateSheetByuid, gatePortacl, gateSheetPortacl}
 use Rattle.gate.specs.Calls.{gateCheck, gateUnpack, gateReadAddress, Wrote, gatePack, gateUpgrade, gateExpand, gateWriteAddress}
-use Rattle.gate.specs.Calls.{WroteCommand, gateCommand, gateSheetCommand, gateAuthbind}
+use Rattle.gate.specs.Calls.{WroteCommand, gateCommand, gateSheetCommand, gateAuthbind, gateCarry}
 use Rattle.claims.specs.Examples.{Examples}
 use Rattle.claims.specs.MaskExamples.{MaskExamples}
 use Rattle.claims.specs.MappedExamples.{MappedExamples}
 use Rattle.claims.specs.TableExamples.{TableExamples}
 use Rattle.claims.specs.OldBoxes.{OldBoxes}
 use Rattle.claims.specs.Retired.{RetiredRefused, Converted, RefusalNumbers}
+use Rattle.claims.specs.CarriedOver.{CarriedOver}
 use Rattle.claims.specs.AuthbindOrder.{AbsentGoesOn, AnswerSettles, NamesDiffer, ReadsItsFile, ManualExample}
 
 -- numbers that fit a byte
@@ -96,6 +97,8 @@ pub record RefusalWritesNothing : Type 0 where
       → gateSheetCommand sheet n process out .out ≡ out
   pub naming : (port kind high low uid : ℕ) (answers out : List ℕ) → (gateAuthbind port kind high low uid answers out .answer .number ≡ 0 → ⊥)
       → gateAuthbind port kind high low uid answers out .out ≡ out
+  pub carrying : (list : List ℕ) (uid : ℕ) (plain marked : List ℕ) → (gateCarry list uid plain marked .answer .number ≡ 0 → ⊥)
+      → (gateCarry list uid plain marked .plain ≡ plain) × (gateCarry list uid plain marked .marked ≡ marked)
 
 -- a decision is a word, or a refusal by one of the papers' numbers "and gives no verdict"
 pub data Decision : GateAnswer → Type 0 where
@@ -122,6 +125,7 @@ pub record EveryNumber : Type 0 where
   pub expand-number : (command : List ℕ) (n : RequestNumbers) (process : ℕ) (out : List ℕ) → gateExpand command n process out .answer .number ≤ 22
   pub write-number : (kind high low : ℕ) (out : List ℕ) → gateWriteAddress kind high low out .answer .number ≤ 22
   pub authbind-number : (port kind high low uid : ℕ) (answers out : List ℕ) → gateAuthbind port kind high low uid answers out .answer .number ≤ 22
+  pub carry-number : (list : List ℕ) (uid : ℕ) (plain marked : List ℕ) → gateCarry list uid plain marked .answer .number ≤ 22
 
 -- ## Demand 2
 
@@ -345,3 +349,5 @@ pub record Claims : Type 0 where
   pub retired-refused : RetiredRefused
   pub converted : Converted
   pub refusal-numbers : RefusalNumbers
+  -- document 02, request 13
+  pub carried-over : CarriedOver

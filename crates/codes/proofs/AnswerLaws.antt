@@ -26,6 +26,9 @@ use Rattle.portacl.specs.declared.Decision.{Decision as PortaclDecision}
 use Rattle.portacl.specs.declared.Ruling.{Ruling as PortaclRuling}
 use Rattle.portacl.specs.declared.Ruling.the-variants as P
 use Rattle.portacl.specs.Portacl as Portacl
+use Rattle.carry.specs.declared.Carried.{Carried}
+use Rattle.carry.specs.declared.Carried.the-variants as Carried
+use Rattle.carry.specs.Carry.{carriedOf}
 use Rattle.authbind.specs.declared.Next.{Next}
 use Rattle.authbind.specs.declared.Next.the-variants as N
 use Rattle.authbind.specs.Authbind as Authbind
@@ -37,12 +40,13 @@ use Rattle.codes.specs.declared.GateAnswer.{GateAnswer}
 use Rattle.codes.specs.declared.GateCheck.{GateCheck}
 use Rattle.codes.specs.declared.GateCommand.{GateCommand}
 use Rattle.codes.specs.declared.GateNext.{GateNext}
+use Rattle.codes.specs.declared.GateWrittenTwo.{GateWrittenTwo}
 use Rattle.codes.specs.declared.GateParts.{GateParts}
 use Rattle.codes.specs.declared.GateWritten.{GateWritten}
 use Rattle.codes.specs.declared.GateAddress.{GateAddress}
 use Rattle.codes.specs.Answers.{verdictWord, byuidWord, portaclWord, refusalAnswer, wordAnswer, answerNumbers, accepted, foundParts, countWritten, addressWith}
-use Rattle.codes.specs.Answers.{addressNumbers, verdictAnswer, byuidAnswer, portaclAnswer, checkAnswer, partsAnswer, writtenAnswer, addressAnswer, command, together, withCount, commandAnswer, nextWith, nextAnswer}
-use Rattle.codes.specs.Code.{byuidNumbers, portaclNumbers, verdictNumbers, checkNumbers, partsNumbers, writtenNumbers, commandWritten, nextNumbers, readNumbers}
+use Rattle.codes.specs.Answers.{addressNumbers, verdictAnswer, byuidAnswer, portaclAnswer, checkAnswer, partsAnswer, writtenAnswer, countTwo, carriedAnswer, addressAnswer, command, together, withCount, commandAnswer, nextWith, nextAnswer}
+use Rattle.codes.specs.Code.{byuidNumbers, portaclNumbers, verdictNumbers, checkNumbers, partsNumbers, writtenNumbers, carriedNumbers, commandWritten, nextNumbers, readNumbers}
 
 pub byuid-numbers : (o : Outcome ByuidDecision) (x : ByuidRuling) (a : GateAnswer) → x ≡ Byuid.byuidRuling o → a ≡ byuidNumbers x → a ≡ byuidAnswer o
 unfolding byuidNumbers byuidAnswer
@@ -82,6 +86,18 @@ pub written-numbers : (o : Outcome (List ℕ)) (x : Written) (a : GateWritten) �
 unfolding writtenNumbers writtenAnswer
 written-numbers (refused r) x a e f = rw e at f
 written-numbers (answered t) x a e f = rw e at f
+
+pub carried-numbers : (o : Outcome (List ℕ × List ℕ)) (x : Carried) (a : GateWrittenTwo) → x ≡ carriedOf o → a ≡ carriedNumbers x → a ≡ carriedAnswer o
+unfolding carriedNumbers carriedAnswer
+carried-numbers (refused r) x a e f = rw e at f
+carried-numbers (answered p) x a e f = rw e at f
+
+pub carried-refused : (x : Carried) (r : Refusal) (a : GateWrittenTwo) → x ≡ Carried.Refused r → a ≡ carriedNumbers (Carried.Refused r) → a ≡ carriedNumbers x
+carried-refused x r a e f = rw e f
+
+pub carried-counts : (x : Carried) (n m : ℕ) → x ≡ Carried.Counts n m → countTwo n m ≡ carriedNumbers x
+unfolding carriedNumbers
+carried-counts x n m e = rw e
 
 pub read-numbers : (o : Outcome Addr) (x : AddressRead) (a : GateAddress) → x ≡ asRead o → a ≡ readNumbers x → a ≡ addressAnswer o
 unfolding readNumbers addressAnswer

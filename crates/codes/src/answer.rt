@@ -6,9 +6,11 @@ use crate::GateCommand;
 use crate::GateNext;
 use crate::GateParts;
 use crate::GateWritten;
+use crate::GateWrittenTwo;
 use address::Addr;
 use address::read::AddressRead;
 use authbind::Next;
+use carry::Carried;
 use section::Refusal;
 use section::Written;
 use sheet::Parts;
@@ -19,8 +21,9 @@ ghost use Rattle.section.specs.declared.Written.the-variants as W;
 ghost use Rattle.address.specs.declared.read.AddressRead.the-variants as R;
 ghost use Rattle.sheet.specs.declared.unpack.Unpacked.the-variants as Un;
 ghost use Rattle.authbind.specs.declared.Next.the-variants as N;
+ghost use Rattle.carry.specs.declared.Carried.the-variants as C;
 ghost use Rattle.codes.specs.Answers.{verdictWord, byuidWord, portaclWord, refusalAnswer, wordAnswer, answerNumbers, foundParts, withCount, nextWith, addressWith, addressNumbers};
-ghost use Rattle.codes.specs.Code.{byuidNumbers, portaclNumbers, verdictNumbers, checkNumbers, partsNumbers, writtenNumbers, commandWritten, nextNumbers, readNumbers};
+ghost use Rattle.codes.specs.Code.{byuidNumbers, portaclNumbers, verdictNumbers, checkNumbers, partsNumbers, writtenNumbers, carriedNumbers, commandWritten, nextNumbers, readNumbers};
 
 // The kind of an address that was not read: no address has it.
 pub const NO_ADDRESS: u32 = 255;
@@ -246,6 +249,35 @@ pub fn written_numbers(w: Written) -> GateWritten
             section: 0,
             line: 0,
             count: n as u64,
+        },
+    }
+}
+
+fn not_carried(r: Refusal) -> GateWrittenTwo
+    ensures { λ a. ⌜ a ≡ carriedNumbers (C.Refused r) ⌝ }
+{
+    let fault = r.fault;
+    GateWrittenTwo {
+        number: section::fault_number(fault) as u32,
+        section: r.section as u32,
+        line: r.line as u64,
+        count: 0u64,
+        other_count: 0u64,
+    }
+}
+
+// What a call that writes into two outputs answers, as numbers.
+pub fn carried_numbers(c: Carried) -> GateWrittenTwo
+    ensures { λ a. ⌜ a ≡ carriedNumbers c ⌝ }
+{
+    match c {
+        Carried::Refused(refusal) => not_carried(refusal),
+        Carried::Counts(plain, marked) => GateWrittenTwo {
+            number: 0,
+            section: 0,
+            line: 0,
+            count: plain as u64,
+            other_count: marked as u64,
         },
     }
 }

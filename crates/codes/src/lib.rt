@@ -75,6 +75,16 @@ pub struct GateAddress {
     pub low: u64,
 }
 
+// How many bytes were written into each of two outputs.
+#[repr(C)]
+pub struct GateWrittenTwo {
+    pub number: u32,
+    pub section: u32,
+    pub line: u64,
+    pub count: u64,
+    pub other_count: u64,
+}
+
 // What comes next in authbind's order, and how many bytes of a name were written.
 #[repr(C)]
 pub struct GateNext {

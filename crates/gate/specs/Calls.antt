@@ -1,5 +1,5 @@
 -- What each exported call answers, by the bytes and numbers that C hands over: one definition for each, which its promise and the claims cite.
---   wrote out o, wroteCommand out o, wroteNext out o == what a call with the outcome o answers, and what the lent output out holds afterwards
+--   wrote out o, wroteCommand out o, wroteNext out o, wroteTwo plain marked o == what a call with the outcome o answers, and what the lent output out holds afterwards
 -- Assumes nothing: these are definitions.
 use Prim.Native.Nat.{ℕ}
 use mathlib.Core.List.{List}
@@ -12,6 +12,7 @@ use Rattle.expansion.specs.Expand.{expand}
 use Rattle.byuid.specs.Byuid.{decideByuid}
 use Rattle.byuid.specs.Convert.{convert}
 use Rattle.authbind.specs.Authbind.{Step, nextStep, nameWritten}
+use Rattle.carry.specs.Carry.{carry, plainAfter, markedAfter}
 use Rattle.portacl.specs.declared.Settings.{Settings}
 use Rattle.portacl.specs.Portacl.{decidePortacl}
 use Rattle.sheet.specs.Sheet as Sheet
@@ -24,9 +25,10 @@ use Rattle.codes.specs.declared.GateCommand.{GateCommand}
 use Rattle.codes.specs.declared.GateNext.{GateNext}
 use Rattle.codes.specs.declared.GateParts.{GateParts}
 use Rattle.codes.specs.declared.GateWritten.{GateWritten}
+use Rattle.codes.specs.declared.GateWrittenTwo.{GateWrittenTwo}
 use Rattle.codes.specs.Requests.{RequestNumbers, request, byuidBind, byuidFileBind, authbindAsked, portaclBind, writeBy}
 use Rattle.codes.specs.Answers.{verdictAnswer, byuidAnswer, portaclAnswer, checkAnswer, partsAnswer, writtenAnswer, addressAnswer, Command, together, commandAnswer}
-use Rattle.codes.specs.Answers.{nextAnswer}
+use Rattle.codes.specs.Answers.{nextAnswer, carriedAnswer}
 
 -- ## Decisions
 
@@ -115,3 +117,15 @@ wroteNext out o = record { answer = nextAnswer o; out = lentAfter out (nameWritt
 
 abbrev pub gateAuthbind : ℕ → ℕ → ℕ → ℕ → ℕ → List ℕ → List ℕ → WroteNext
 gateAuthbind port kind high low uid answers out = wroteNext out (nextStep (authbindAsked port kind high low uid answers) (length out))
+
+-- document 02, request 13: "write the byuid lines that grant what the portacl list grants", into two lent outputs
+pub record WroteTwo : Type 0 where
+  pub answer : GateWrittenTwo
+  pub plain : List ℕ
+  pub marked : List ℕ
+
+abbrev pub wroteTwo : List ℕ → List ℕ → Outcome (List ℕ × List ℕ) → WroteTwo
+wroteTwo plain marked o = record { answer = carriedAnswer o; plain = plainAfter plain o; marked = markedAfter marked o }
+
+abbrev pub gateCarry : List ℕ → ℕ → List ℕ → List ℕ → WroteTwo
+gateCarry text uid plain marked = wroteTwo plain marked (carry text uid (length plain) (length marked))

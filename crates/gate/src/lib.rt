@@ -8,6 +8,7 @@
 //   gate_command, gate_sheet_command       == a verdict, and its command expanded
 //   gate_read_address, gate_write_address  == addresses as text
 //   gate_authbind                          == the next file in authbind's order, or the outcome
+//   gate_carry                             == the byuid lines that grant what a portacl list grants
 // A number outside its kinds is refused by 13, after every check of the texts.
 use codes::GateAddress;
 use codes::GateAnswer;
@@ -16,6 +17,7 @@ use codes::GateCommand;
 use codes::GateNext;
 use codes::GateParts;
 use codes::GateWritten;
+use codes::GateWrittenTwo;
 use portacl::Settings;
 use rules::Ruling;
 use section::Fault;
@@ -25,7 +27,7 @@ ghost use Rattle.sheet.specs.Sheet.{texts};
 ghost use Rattle.codes.specs.Requests.{hostNumbers, requestNumbers, settingsOf};
 ghost use Rattle.gate.specs.Calls.{gateVerdict, gateTablesVerdict, gateSheetVerdict, gateByuid, gateSheetByuid, gatePortacl, gateSheetPortacl};
 ghost use Rattle.gate.specs.Calls.{gateCheck, gateUnpack, gateReadAddress, gatePack, gateUpgrade, gateExpand, gateCommand, gateSheetCommand, gateWriteAddress};
-ghost use Rattle.gate.specs.Calls.{gateAuthbind, gateConvert};
+ghost use Rattle.gate.specs.Calls.{gateAuthbind, gateConvert, gateCarry};
 
 // The verdict by two texts.
 #[no_mangle]
@@ -548,4 +550,20 @@ pub extern "C" fn gate_authbind(
     let bound = codes::request::port_by(port);
     let place = codes::request::address_by(port, kind, high, low);
     codes::answer::next_numbers(authbind::next_step(out, bound, place, uid, answers))
+}
+
+// Writes the byuid lines that grant a user id what a portacl list grants it: those for the plain file at the front of plain, those for the marked
+// one at the front of marked; a refusal leaves both as they were.
+#[no_mangle]
+pub extern "C" fn gate_carry(
+    plain: &mut [u8],
+    marked: &mut [u8],
+    text: &[u8],
+    uid: u32,
+) -> GateWrittenTwo
+    ensures answer { λ r. ⌜ r ≡ gateCarry (now (text .entry)) uid (now (plain .entry)) (now (marked .entry)) .answer ⌝ }
+    ensures lower { λ _. ⌜ now (plain .exit) ≡ gateCarry (now (text .entry)) uid (now (plain .entry)) (now (marked .entry)) .plain ⌝ }
+    ensures upper { λ _. ⌜ now (marked .exit) ≡ gateCarry (now (text .entry)) uid (now (plain .entry)) (now (marked .entry)) .marked ⌝ }
+{
+    codes::answer::carried_numbers(carry::carry(plain, marked, text, uid))
 }

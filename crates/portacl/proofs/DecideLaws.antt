@@ -32,7 +32,7 @@ use Rattle.portacl.specs.Portacl.{bind, Bind, portaclRuling, readWord, r
 use Rattle.portacl.specs.Code.{checkedOf, entryData, idData, protocolData, portData, grantsTo, entriesData, walk, decisionOf}
 
 -- what an entry that was read grants
-abbrev grantsOf : Option Entry → Option (Bind → Bool)
+abbrev pub grantsOf : Option Entry → Option (Bind → Bool)
 grantsOf none = none
 grantsOf (some x) = some (grantsTo x)
 
@@ -57,7 +57,7 @@ map-readEntry : (l : List (List ℕ)) → map readEntry l ≡ map grantsOf (map 
 map-readEntry [] = refl
 map-readEntry (e ∷ l) = ap₂ (λ (o : Option (Bind → Bool)) (os : List (Option (Bind → Bool))). o ∷ os) (readEntry-entryData e) (map-readEntry l)
 
-entries-entriesData : (t : List ℕ) → entries t ≡ map grantsOf (entriesData t)
+pub entries-entriesData : (t : List ℕ) → entries t ≡ map grantsOf (entriesData t)
 unfolding entries entriesData
 entries-entriesData [] = refl
 entries-entriesData (x ∷ t) = map-readEntry (split "," (x ∷ t))
@@ -103,11 +103,11 @@ module _ (t : List ℕ) (b : Bind) (w : Walked) (is-w : w ≡ walk b 1 false (en
     granting : g ≡ any (holds λ grants. grants b) (entries t)
     granting = rw (entries-entriesData t) (any-walk b 1 false g (entriesData t) (sym is-w ∙ e))
 
-checkedOf-refused : (o : Option Refusal) (r : Refusal) → checkedOf o ≡ C.Refused r → o ≡ some r
+pub checkedOf-refused : (o : Option Refusal) (r : Refusal) → checkedOf o ≡ C.Refused r → o ≡ some r
 checkedOf-refused none r e = let z : _≡_ {A = ℕ} 0 1 = cc in absurd (omega arith)
 checkedOf-refused (some q) r e = cc
 
-checkedOf-sound : (o : Option Refusal) → checkedOf o ≡ C.Sound → o ≡ none
+pub checkedOf-sound : (o : Option Refusal) → checkedOf o ≡ C.Sound → o ≡ none
 checkedOf-sound none e = refl
 checkedOf-sound (some q) e = let z : _≡_ {A = ℕ} 0 1 = cc in absurd (omega arith)
 

@@ -1,4 +1,6 @@
 pub mod DecideLaws
 pub mod EntryLaws
 pub mod WalkLaws
+pub mod NoteLaws
+pub mod SizeLaws
 pub mod Examples

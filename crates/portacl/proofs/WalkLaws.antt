@@ -22,20 +22,20 @@ use Rattle.portacl.specs.Portacl.{Bind}
 use Rattle.portacl.specs.Code.{asEntry, entryData, grantsTo, entriesData, walk}
 
 -- what was read, from the code's answer
-asEntry-none : (o : Option Entry) → asEntry o ≡ Nothing → o ≡ none
+pub asEntry-none : (o : Option Entry) → asEntry o ≡ Nothing → o ≡ none
 asEntry-none none e = refl
 asEntry-none (some x) e = let z : _≡_ {A = ℕ} 0 1 = cc in absurd (omega arith)
 
-asEntry-some : (x : Entry) (o : Option Entry) → asEntry o ≡ Value x → o ≡ some x
+pub asEntry-some : (x : Entry) (o : Option Entry) → asEntry o ≡ Value x → o ≡ some x
 asEntry-some x none e = let z : _≡_ {A = ℕ} 0 1 = cc in absurd (omega arith)
 asEntry-some x (some y) e = cc
 
 -- the entries from a place on: past the end there is none
-pub entriesFrom : ℕ → List ℕ → List (Option Entry)
+unfoldable pub entriesFrom : ℕ → List ℕ → List (Option Entry)
 entriesFrom at t = if leb at (length t) then map entryData (split "," (drop at t)) else []
 
 -- the next entry, up to the comma at i of the rest
-next : (t : List ℕ) (at i : ℕ) → at ≤ length t → i ≡ indexOf 44 (drop at t) → entriesFrom at t ≡ entryData (take i (drop at t)) ∷ entriesFrom (at + i + 1) t
+pub next : (t : List ℕ) (at i : ℕ) → at ≤ length t → i ≡ indexOf 44 (drop at t) → entriesFrom at t ≡ entryData (take i (drop at t)) ∷ entriesFrom (at + i + 1) t
 unfolding entriesFrom
 next t at i h e = by (leb (at + i + 1) (length t)) refl
   where

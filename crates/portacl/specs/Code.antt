@@ -6,16 +6,22 @@
 --   entriesData t    == the entries of t
 --   walk b n g es    == the number of the first bad entry of es, numbered from n; else whether g, or an entry grants b
 --   decisionOf ..    == the decision, where it is known whether an entry grants
+--   faultIn n es     == the refusal of the first bad entry of es, numbered from n
+--   notes u p es m   == the bytes m, 1 at each port that an entry of es, up to the first bad one, grants the user id u over the protocol p
 -- Assumes nothing: these are definitions.
 use Prim.Native.Nat.{ℕ, _+_}
 use mathlib.Core.Bool.{Bool, true, false, not, _&&_, _||_}
 use mathlib.Core.List.{List, [], _∷_, map}
 use mathlib.Core.Option.{Option, none, some}
+use lib.ListN.{length, set}
 use lib.Dec.{ltb, eqb}
 use Rattle.text.specs.Basics.{if_then_else_, _>>=_, isEmpty, any}
 use Rattle.text.specs.Text.{bytes, equal, splitOnce, split}
 use Rattle.text.specs.Number.{readDecimal}
+use Rattle.section.specs.declared.Fault.the-variants as F
 use Rattle.section.specs.declared.Refusal.{Refusal}
+use Rattle.section.specs.Refusal.{refusal}
+use Rattle.section.specs.Section as S
 use Rattle.portacl.specs.declared.Checked.{Checked}
 use Rattle.portacl.specs.declared.Checked.the-variants as C
 use Rattle.portacl.specs.declared.Decision.{Decision}
@@ -96,3 +102,22 @@ decisionOf s uid port granted =
     else if not (eqb (s .«suser_exempt») 0) && eqb uid 0 then Exempt
     else if granted then Granted
     else Denied
+
+-- ## Ports noted
+
+unfoldable pub faultIn : ℕ → List (Option Entry) → Option Refusal
+faultIn n [] = none
+faultIn n (none ∷ es) = some (refusal F.BadEntry (S.portacl .order) n)
+faultIn n (some x ∷ es) = faultIn (n + 1) es
+
+-- the entry is the user id's own, over the protocol
+abbrev pub isFor : ℕ → Protocol → Entry → Bool
+isFor uid protocol x = equal (protocolWord (x .protocol)) (protocolWord protocol) && not (x .group) && eqb (x .id) uid
+
+unfoldable pub noted : ℕ → Protocol → Entry → List ℕ → List ℕ
+noted uid protocol x m = if isFor uid protocol x && ltb (x .port) (length m) then set m (x .port) 1 else m
+
+unfoldable pub notes : ℕ → Protocol → List (Option Entry) → List ℕ → List ℕ
+notes uid protocol [] m = m
+notes uid protocol (none ∷ es) m = m
+notes uid protocol (some x ∷ es) m = notes uid protocol es (noted uid protocol x m)

@@ -1,6 +1,7 @@
 // The decision by a mac_portacl rule list. The text is walked once: each entry is read and held against the bind at the same time.
 //   decide(..)  == the call: every check, then the decision on a bind
 //   check(text) == the refusal of the first entry that is not of its form
+//   note_ports(tcp, udp, text, uid) == the same, and the ports that the entries of a user id grant
 use section::Fault;
 use section::Refusal;
 use text::NumberRead;
@@ -12,7 +13,8 @@ ghost use lib.Dec.{eqb};
 ghost use Rattle.text.specs.Basics.{if_then_else_, any};
 ghost use Rattle.text.specs.Text.{equal};
 ghost use Rattle.portacl.specs.Portacl.{bind, protocolWord, portaclRuling, portaclFault, decidePortacl};
-ghost use Rattle.portacl.specs.Code.{checkedOf, asEntry, entryData, idData, protocolData, portData, grantsTo, entriesData, walk, decisionOf};
+ghost use Rattle.portacl.specs.declared.Protocol.the-variants.{Tcp, Udp};
+ghost use Rattle.portacl.specs.Code.{checkedOf, asEntry, entryData, idData, protocolData, portData, grantsTo, entriesData, walk, decisionOf, noted, notes};
 
 // The words of the decision.
 pub enum Decision {
@@ -208,6 +210,49 @@ fn walk_entries(text: &[u8], uid: u32, groups: &[u32], protocol: Protocol, port:
         at = end + 1;
     }
     Walked::Sound(granted)
+}
+
+// Notes the port of an entry of the user id over the protocol: its byte becomes 1.
+fn note(ports: &mut [u8], entry: Entry, uid: u32, protocol: Protocol)
+    ensures { λ _. ⌜ now (ports .exit) ≡ noted uid protocol entry (now (ports .entry)) ⌝ }
+{
+    let granted = entry.protocol;
+    let port = entry.port as usize;
+    if same_protocol(granted, protocol) & !entry.group & (entry.id == uid) {
+        if port < ports.len() {
+            ports[port] = 1;
+        }
+    }
+}
+
+// The refusal of the first entry that is not of its form. Up to it the ports that the entries of the user id grant are noted, those over tcp and
+// those over udp; groups are passed over, and so are ports beyond the lent bytes.
+pub fn note_ports(tcp: &mut [u8], udp: &mut [u8], text: &[u8], uid: u32) -> Checked
+    ensures answer { λ r. ⌜ r ≡ checkedOf (portaclFault (now (text .entry))) ⌝ }
+    ensures over_tcp { λ _. ⌜ now (tcp .exit) ≡ notes uid Tcp (entriesData (now (text .entry))) (now (tcp .entry)) ⌝ }
+    ensures over_udp { λ _. ⌜ now (udp .exit) ≡ notes uid Udp (entriesData (now (text .entry))) (now (udp .entry)) ⌝ }
+{
+    if text.len() == 0 {
+        return Checked::Sound;
+    }
+    let mut number = 1;
+    let mut at = 0;
+    while at <= text.len() {
+        let end = at + text::index_of(&text[at..], b',');
+        match read_entry(&text[at..end]) {
+            EntryRead::Nothing => return Checked::Refused(section::Portacl::refusal(
+                Fault::BadEntry,
+                number,
+            )),
+            EntryRead::Value(entry) => {
+                note(tcp, entry, uid, Protocol::Tcp);
+                note(udp, entry, uid, Protocol::Udp);
+            }
+        }
+        number += 1;
+        at = end + 1;
+    }
+    Checked::Sound
 }
 
 // The decision, where granted says whether an entry grants.

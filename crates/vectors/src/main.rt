@@ -433,6 +433,34 @@ fn authbind(case: &[u8], out: &mut [u8]) {
     next(n.word, part(out, 0, n.count));
 }
 
+fn carry_into(case: &[u8], plain: &mut [u8], marked: &mut [u8]) {
+    let list = cases::field(case, 4);
+    let w = gate::gate_carry(
+        cases::room(plain, cases::number(case, 1)),
+        cases::room(marked, cases::number(case, 2)),
+        list,
+        cases::number(case, 3),
+    );
+    untouched(plain, w.count);
+    untouched(marked, w.other_count);
+    if report::refused(w.number, w.section, w.line) {
+        return;
+    }
+    packed(0, 0, 0, part(plain, 0, w.count), cases::field(case, 5));
+    packed(
+        0,
+        0,
+        0,
+        part(marked, 0, w.other_count),
+        cases::field(case, 6),
+    );
+}
+
+fn carry(case: &[u8], out: &mut [u8]) {
+    let mut marked = [b'.'; 8192];
+    carry_into(case, out, &mut marked);
+}
+
 fn write(call: usize, case: &[u8], out: &mut [u8]) {
     match call {
         9 => pack(case, out),
@@ -441,7 +469,8 @@ fn write(call: usize, case: &[u8], out: &mut [u8]) {
         12 => read_address(case, out),
         13 => write_address(case, out),
         14 => convert(case, out),
-        _ => authbind(case, out),
+        15 => authbind(case, out),
+        _ => carry(case, out),
     }
 }
 
@@ -478,14 +507,14 @@ fn malformed(line: &[u8]) {
 fn call(case: &[u8]) -> usize {
     cases::call(
         b"verdict:tttttttt. tables_verdict:ttttttttt. sheet_verdict:ttttttt. byuid:ntnnt. sheet_byuid:ntnt. portacl:nnnnnnntn \
-          sheet_portacl:nnnnnnntn check:t. unpack:t. pack:ntttttt. upgrade:ntt. expand:ttttttnnt. read_address:t. write_address:nt. convert:nt. authbind:nntnt.",
+          sheet_portacl:nnnnnnntn check:t. unpack:t. pack:ntttttt. upgrade:ntt. expand:ttttttnnt. read_address:t. write_address:nt. convert:nt. authbind:nntnt. carry:nnnttt.",
         case,
     )
 }
 
 fn run_case(line: &[u8], case: &[u8]) {
     let place = call(case);
-    if 15 < place {
+    if 16 < place {
         malformed(line);
         return;
     }

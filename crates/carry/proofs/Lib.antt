@@ -1,0 +1,4 @@
+pub mod SpanLaws
+pub mod CarryLaws
+pub mod SizeLaws
+pub mod GrantLaws

@@ -1,0 +1,15 @@
+-- What the call answered, as numbers, and what it wrote. Assumes nothing.
+use borrow.Author.Needs.{needs}
+use Rattle.codes.proofs.AnswerLaws.{carried-numbers}
+use Rattle.gate.proofs.gate_carry.Statement.{statement}
+use Rattle.gate.proofs.gate_carry.Tie as tie
+
+pub gate-carry-spec : {M : Type 1} → statement M
+gate-carry-spec =
+    tie.close
+    (tie.spec
+    (λ c κs. search needs)
+    (λ c κs. search needs)
+    (λ c. search needs)
+    (λ c. search needs)
+    (λ c. (search (carried-numbers, needs), (search needs, search needs))))

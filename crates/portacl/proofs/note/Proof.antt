@@ -1,0 +1,17 @@
+-- `portacl::note` meets its contract: both tests are those of the definition. Assumes nothing.
+use Rattle.portacl.proofs.NoteLaws.{noted-set, noted-past, noted-other}
+use borrow.Author.Needs.{needs}
+use Rattle.portacl.proofs.note.Statement.{statement}
+use Rattle.portacl.proofs.note.Tie as tie
+
+pub note-spec : {M : Type 1} → statement M
+note-spec =
+    let facts = tie.spec
+    (λ c. search needs)
+    (λ c κs. search needs)
+    (λ c. search needs)
+    (λ c. search needs)
+    (λ c. search (noted-set, needs))
+    (λ c. search (noted-past, needs))
+    (λ c. search (noted-other, needs)) in
+    tie.close facts
