@@ -1,6 +1,6 @@
 /* The access gate for C: verdicts, port decisions, authbind's order, station sheets, command expansion and addresses.
  *
- * Linking: libgate.a is a static archive; there is no shared library. From the C library it needs memcpy and memset, and nothing
+ * Linking: libgate.a is a static archive; there is no shared library. From the C library it needs memcpy, memmove and memset, and nothing
  * else. It allocates nothing and keeps nothing between calls, so any thread may call any function at any time, with GATE_STACK bytes
  * of stack.
  *
@@ -38,7 +38,7 @@
 extern "C" {
 #endif
 
-#define GATE_VERSION "3.4.0"
+#define GATE_VERSION "4.0.0"
 
 /* Numbers: of an answer, or of a refusal. */
 enum gate_number {
@@ -177,6 +177,7 @@ struct gate_answer {
     uint32_t file;    /* of a verdict: the file of the deciding rule, GATE_ALLOW or GATE_DENY; else 0 */
     uint64_t place;   /* where the rule's raw command begins: in that file's text, by texts; in the sheet, by a sheet */
     uint64_t len;     /* its length; 0 where there is no command, and then place says nothing */
+    uint64_t looked;  /* of a verdict: how many elements were looked at for it, those tried in tables too; 2^64 - 1 where there were more */
 };
 
 /* A verdict, and its rule's command written for the request. As struct gate_answer, and: */
@@ -186,6 +187,7 @@ struct gate_command_answer {
     uint32_t word, file;
     uint64_t place, len;
     uint64_t count; /* bytes written; 0 where there is no command: at GATE_ASK too, and where no rule decided */
+    uint64_t looked;
 };
 
 /* What a check alone answers. */

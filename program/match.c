@@ -13,8 +13,9 @@ static const struct option options[] = {
 
 static const char help[] =
     "STATION is a sheet, a folder with the four texts, or - for a sheet on standard\n"
-    "input. Prints the verdict, the rule's place and text, and its command as it\n"
-    "stands and as it would be run. Nothing is looked up and nothing is run.\n"
+    "input. Prints the verdict, the rule's place and text, its command as it stands\n"
+    "and as it would be run, and how many elements of rules and tables were looked\n"
+    "at. Nothing is looked up and nothing is run.\n"
     "\n"
     "DAEMON   the service's name, 1 to 64 bytes.\n"
     "SERVER   the server's address, or unknown. Left out, it is unknown.\n"
@@ -122,6 +123,8 @@ static void ask_match(struct reply *reply, const struct station *station, const 
     reply->command_place = (size_t)answer.place;
     reply->command_len = (size_t)answer.len;
     reply->expanded_len = (size_t)answer.count;
+    reply->counts = true;
+    reply->looked = answer.looked;
     if (answer.file)
         find_rule(reply, station);
 }

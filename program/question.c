@@ -75,6 +75,8 @@ static void show_reply(const struct query *query, const struct station *station,
     const char *why = query->why(reply);
     if (why)
         printf("why       %s\n", why);
+    if (reply->counts)
+        printf("looked at %llu element%s\n", (unsigned long long)reply->looked, reply->looked == 1 ? "" : "s");
 }
 
 enum status run_query(const struct query *query, const struct arguments *arguments) {

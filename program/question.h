@@ -29,6 +29,8 @@ struct reply {
     size_t command_place, command_len; /* in the sheet, raw */
     uint8_t expanded[GATE_EXPANSION_ROOM];
     size_t expanded_len;
+    bool counts;           /* of match: how many elements were looked at is told */
+    uint64_t looked;
 };
 
 struct query {

@@ -92,7 +92,12 @@ static int decided(struct gate_answer a, uint32_t w, uint32_t file, uint64_t lin
 
 static int refused(struct gate_answer a, uint32_t number, uint32_t section, uint64_t line) {
     return a.number == number && a.section == section && a.line == line && a.word == GATE_NO_WORD && a.file == 0 && a.place == 0 &&
-           a.len == 0 && untouched();
+           a.len == 0 && a.looked == 0 && untouched();
+}
+
+/* How many elements were looked at. */
+static int looked(struct gate_answer a, uint64_t n) {
+    return a.number == GATE_ANSWERED && a.looked == n && untouched();
 }
 
 static int wrote(struct gate_written w, const void *bytes, size_t n) {
@@ -106,26 +111,35 @@ static int unwritten(struct gate_written w, uint32_t number, uint32_t section, u
 /* Decided as a verdict is, and n bytes written. */
 static int commanded(struct gate_command_answer a, struct gate_answer verdict, const void *bytes, size_t n) {
     return a.number == GATE_ANSWERED && a.section == 0 && a.word == verdict.word && a.file == verdict.file && a.line == verdict.line &&
-           a.len == verdict.len && a.place == verdict.place && a.count == n && holds(bytes, n);
+           a.len == verdict.len && a.place == verdict.place && a.count == n && a.looked == verdict.looked && holds(bytes, n);
 }
 
 static int command_refused(struct gate_command_answer a, uint32_t number, uint32_t section, uint64_t line) {
     return a.number == number && a.section == section && a.line == line && a.word == GATE_NO_WORD && a.file == 0 && a.place == 0 &&
-           a.len == 0 && a.count == 0 && untouched();
+           a.len == 0 && a.count == 0 && a.looked == 0 && untouched();
 }
 
 static void verdicts(void) {
     begin(), lend();
     expect("a verdict with its command", decided(gate_verdict(TEXT(allow), TEXT(deny), REQUEST(1)), GATE_GRANTED, GATE_ALLOW, 2, 13, 7));
+    expect("the elements of its rule", looked(gate_verdict(TEXT(allow), TEXT(deny), REQUEST(1)), 2));
     expect("a verdict for a user of no state", refused(gate_verdict(TEXT(allow), TEXT(deny), REQUEST(3)), GATE_BAD_REQUEST, 0, 0));
     SET(allow, "ALL: ALL@ALL\n"), lend();
     expect("a user not fetched", decided(gate_verdict(TEXT(allow), TEXT(deny), REQUEST(0)), GATE_ASK, GATE_ALLOW, 1, 0, 0));
+    expect("the element that asks is counted", looked(gate_verdict(TEXT(allow), TEXT(deny), REQUEST(0)), 2));
+    SET(allow, "ftpd sshd: 11. LOCAL 12. EXCEPT 13. 14.\n"), lend();
+    expect("EXCEPT and what stands before it after a match are not", looked(gate_verdict(TEXT(allow), TEXT(deny), REQUEST(1)), 6));
+    SET(allow, "ftpd: LOCAL\n"), lend();
+    expect("nor the clients of a rule for another daemon", looked(gate_verdict(TEXT(allow), TEXT(deny), REQUEST(1)), 3));
+    SET(allow, "ALL: /vans ALL\n"), lend();
+    expect("what is tried in tables is", looked(gate_tables_verdict(TEXT(allow), TEXT(deny), TEXT(tables), REQUEST(1)), 5));
     SET(allow, "ALL: ALL\nx\n"), lend();
     expect("a text's fault comes first", refused(gate_verdict(TEXT(allow), TEXT(deny), REQUEST(3)), GATE_NO_ELEMENT, GATE_ALLOW, 2));
     SET(allow, ""), lend();
     expect("no allow", decided(gate_verdict(TEXT(allow), TEXT(deny), REQUEST(1)), GATE_DENIED, GATE_DENY, 1, 0, 0));
     SET(deny, ""), lend();
     expect("no rule", decided(gate_verdict(TEXT(allow), TEXT(deny), REQUEST(1)), GATE_GRANTED, GATE_NO_SECTION, 0, 0, 0));
+    expect("no element", looked(gate_verdict(TEXT(allow), TEXT(deny), REQUEST(1)), 0));
 }
 
 /* An IPv4 client on an IPv6 socket: one definition, so every call that decides or expands makes the same of it. */

@@ -23,8 +23,8 @@ def struct(**fields):
     return type("Answer", (ctypes.Structure,), {"_fields_": common + list(fields.items())})
 
 
-Answer = struct(word=U32, file=U32, place=U64, len=U64)
-Command = struct(word=U32, file=U32, place=U64, len=U64, count=U64)
+Answer = struct(word=U32, file=U32, place=U64, len=U64, looked=U64)
+Command = struct(word=U32, file=U32, place=U64, len=U64, count=U64, looked=U64)
 Check = struct()
 Written = struct(count=U64)
 WrittenTwo = struct(count=U64, other_count=U64)
@@ -112,7 +112,7 @@ def decided(a, whole):
     if a.number:
         return refusal(a)
     command = whole[a.file][a.place:a.place + a.len]
-    return ("an answer's section", a.section) if a.section else (WORDS[a.word], a.file, a.line, a.place if command else None, command)
+    return ("an answer's section", a.section) if a.section else (WORDS[a.word], a.file, a.line, a.place if command else None, command, a.looked)
 
 
 def command(rng, room, call, texts, whole, r, process):
@@ -131,7 +131,7 @@ def command(rng, room, call, texts, whole, r, process):
 def word(a):
     if a.number:
         return refusal(a)
-    rest = (a.section, a.line, a.file, a.place, a.len)
+    rest = (a.section, a.line, a.file, a.place, a.len, a.looked)
     return ("more than a word", rest) if any(rest) else WORDS[a.word]
 
 
@@ -611,7 +611,7 @@ def process_of(rng):
 
 def room_for(rng, result):
     """about the length of the result, where there is one: of what is written"""
-    n = rng.randrange(60) if ref.refused(result) else len(result[5] if isinstance(result, tuple) else result)
+    n = rng.randrange(60) if ref.refused(result) else len(result[-1] if isinstance(result, tuple) else result)
     return max(0, rng.choice([n, n, n + 1, n - 1, n + 20, 0, rng.randrange(n + 1)]))
 
 

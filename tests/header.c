@@ -49,10 +49,10 @@ static struct gate_request request_to(const char *daemon) {
 /* With the command written, as without. */
 static int commanded(const struct gate_command_answer *c, const struct gate_answer *a) {
     return c->number == GATE_ANSWERED && c->word == a->word && c->file == a->file && c->line == a->line && c->len == a->len &&
-           c->place == a->place;
+           c->place == a->place && c->looked == a->looked;
 }
 
-/* The same word, file and line by texts, with tables that no rule names, and by the sheet. */
+/* The same word, file, line and number of elements by texts, with tables that no rule names, and by the sheet. */
 static int decided(const struct gate_request *r, uint32_t word, uint32_t file, uint64_t line) {
     struct gate_answer t = gate_verdict_for(allow, sizeof allow - 1, deny, sizeof deny - 1, r);
     struct gate_answer w = gate_tables_verdict_for(allow, sizeof allow - 1, deny, sizeof deny - 1, tables, sizeof tables - 1, r);
@@ -62,7 +62,7 @@ static int decided(const struct gate_request *r, uint32_t word, uint32_t file, u
     struct gate_command_answer sc = gate_sheet_command_for(out, sizeof out, sheet, sheet_len, r, 7);
     return t.number == GATE_ANSWERED && t.word == word && t.file == file && t.line == line && s.number == GATE_ANSWERED &&
            w.number == GATE_ANSWERED && w.word == word && w.file == file && w.line == line && w.place == t.place && w.len == t.len &&
-           s.word == word && s.file == file && s.line == line && s.len == t.len && commanded(&tc, &t) && commanded(&sc, &s);
+           t.looked > 0 && w.looked == t.looked && s.looked == t.looked && s.word == word && s.file == file && s.line == line && s.len == t.len && commanded(&tc, &t) && commanded(&sc, &s);
 }
 
 static int refused(const struct gate_request *r) {

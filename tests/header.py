@@ -33,7 +33,7 @@ SIZES = {"u32": 4, "u64": 8}
 TAGS = {"GateCheck": "gate_checked", "GateCommand": "gate_command_answer"}
 # numbers that the definitions write as themselves
 ZEROS = ["GATE_ANSWERED", "GATE_NO_SECTION", "GATE_NO_WORD"]
-NEEDED = {"memcpy", "memset"}
+NEEDED = {"memcpy", "memmove", "memset"}
 WARNINGS = ["-Wall", "-Wextra", "-Wpedantic", "-Wconversion", "-Werror"]
 # what the declarations say, and all that is warned of when code is made
 DECLARATIONS, CODE = ["-fsyntax-only"], ["-c", "-o", "/dev/null"]

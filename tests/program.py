@@ -185,11 +185,11 @@ def test_answers(folder):
     pathlib.Path(sheet).write_bytes(SHEET)
     for what, where, at in (("a folder", SAMPLE, SAMPLE + "/%s"), ("a sheet", sheet, sheet + "(%s)")):
         expect("granted by " + what, gate("match", where, *VAN), 0,
-               b"granted\nrule      %s:2\ntext      sshd: .vans.example EXCEPT spare.vans.example\n" % (at % "hosts.allow").encode(), b"")
+               b"granted\nrule      %s:2\ntext      sshd: .vans.example EXCEPT spare.vans.example\nlooked at 3 elements\n" % (at % "hosts.allow").encode(), b"")
         expect("ask by " + what, gate("match", where, "sshd", "10.20.30.41"), 3, "ask\nrule      %s:3\n" % (at % "hosts.allow"), b"")
         expect("denied by " + what, gate("match", where, "sshd", "10.9.30.41", "--paranoid"), 1,
                b"denied\nrule      %s:2\ntext      ALL: ALL: /usr/bin/logger -t gate refused \\\n              %%d to %%a\n"
-               b"command   /usr/bin/logger -t gate refused     %%d to %%a\nexpanded  /usr/bin/logger -t gate refused     sshd to 10.9.30.41\n"
+               b"command   /usr/bin/logger -t gate refused     %%d to %%a\nexpanded  /usr/bin/logger -t gate refused     sshd to 10.9.30.41\nlooked at 7 elements\n"
                % (at % "hosts.deny").encode(), b"")
         expect("byuid by " + what, gate("byuid", where, "432", "10.20.1.2,80"), 0,
                b"granted\nrule      %s:1\ntext      10.20.0.0/16,80\n" % (at % "byuid").encode(), b"")
@@ -792,6 +792,41 @@ def test_upgrade(folder):
     expect("upgrading to a folder", gate("upgrade", old, folder), 2, b"", "is a folder")
 
 
+def test_carry(folder):
+    """a portacl list as byuid texts: both files, or neither"""
+    plain, marked = pathlib.Path(folder) / "432", pathlib.Path(folder) / "!432"
+    both = b"".join(b"uid:432:%s:%d," % (protocol, port) for port in (600, 9, 512, 80) for protocol in (b"udp", b"tcp"))
+    text = both + b"uid:432:tcp:7,gid:432:udp:7,uid:432:udp:1024,uid:432:tcp:1024"
+    expected = ref.carry(text, 432, 4096, 4096)
+    expect("carrying a list over", gate("carry", "-", "432", plain, marked, stdin=text), 0, b"%s: 40 bytes\n%s: 46 bytes\n" % (os.fsencode(plain), os.fsencode(marked)), b"")
+    if [plain.read_bytes(), marked.read_bytes()] != expected or left_over(folder):
+        fail("carried texts", plain.read_bytes(), marked.read_bytes(), expected)
+    for port, file, status in ((80, "plain", 0), (9, "plain", 0), (7, "plain", 1), (512, "marked", 0), (600, "marked", 0), (601, "marked", 1)):
+        station_of = station(folder + "/carried", b"", b"", plain.read_bytes(), b"")
+        for address in ("10.20.1.2", "2001:db8::1", "::ffff:1.2.3.4"):
+            expect(f"what was written grants {port}", gate("byuid", station_of, "432", f"{address},{port}", "--marked", marked), status, None, None)
+    expect("carrying over quietly", gate("carry", "-q", "-", "433", plain, marked, stdin=text), 0, b"", b"")
+    if plain.read_bytes() + marked.read_bytes():
+        fail("another uid has no lines")
+    longest = b",".join(b"uid:1:%s:%d" % (protocol, port) for port in range(100, 246) for protocol in (b"tcp", b"udp"))
+    expect("a list near its limit", gate("carry", "-", "1", plain, marked, stdin=longest), 0, None, b"")
+    if [plain.read_bytes(), marked.read_bytes()] != ref.carry(longest, 1, 4096, 4096):
+        fail("the texts of a list near its limit")
+    for what, uid, text, message in (
+            ("root's", "0", both[:-1], "uid 0: byuid never rules root"), ("a bad entry", "0", both, "standard input: entry 9: not a portacl entry [12]"),
+            ("4,097 bytes", "432", b"," * 4097, "4097 bytes, and the most is 4096 [2]"), ("a megabyte", "432", b"," * (1 << 20), "over 65536 bytes, and the most is 4096 [2]"),
+            ("a newline at the end", "432", both[:-1] + b"\n", "entry 8: not a portacl entry [12]")):
+        plain.write_bytes(b"old plain"), marked.write_bytes(b"old marked")
+        expect("carrying over " + what, gate("carry", "-", uid, plain, marked, stdin=text), 2, b"", message)
+        if plain.read_bytes() != b"old plain" or marked.read_bytes() != b"old marked" or left_over(folder):
+            fail("a refused list changes neither file: " + what)
+    expect("a list that is not there", gate("carry", folder + "/none", "432", plain, marked), 2, b"", "none: No such file")
+    expect("a folder for the marked text", gate("carry", "-", "432", plain, folder, stdin=text), 2, b"", "is a folder")
+    expect("a folder that is not there", gate("carry", "-", "432", plain, folder + "/none/m", stdin=b""), 2, b"", "none/m: No such file")
+    if plain.read_bytes() != b"old plain" or left_over(folder):
+        fail("an error of the second file leaves the first as it was")
+
+
 RETIRED = b"# x\n10.0.0.0/8:80,90\n10.0.0.1/8:80,90\n::/0,80\r\n192.0.2.7/32:443,443"
 RENEWED = b"# x\n10.0.0.0/8,80-90\n10.0.0.1/8:80,90\n::/0,80\r\n192.0.2.7/32,443-443"
 
@@ -827,39 +862,6 @@ def test_convert(folder):
         fail("a refused conversion changes nothing")
     expect("converting nothing", gate("convert", folder + "/none", new), 2, b"", "none: No such file")
     expect("converting to a folder", gate("convert", old, folder), 2, b"", "is a folder")
-def test_carry(folder):
-    """a portacl list as byuid texts: both files, or neither"""
-    plain, marked = pathlib.Path(folder) / "432", pathlib.Path(folder) / "!432"
-    both = b"".join(b"uid:432:%s:%d," % (protocol, port) for port in (600, 9, 512, 80) for protocol in (b"udp", b"tcp"))
-    text = both + b"uid:432:tcp:7,gid:432:udp:7,uid:432:udp:1024,uid:432:tcp:1024"
-    expected = ref.carry(text, 432, 4096, 4096)
-    expect("carrying a list over", gate("carry", "-", "432", plain, marked, stdin=text), 0, b"%s: 40 bytes\n%s: 46 bytes\n" % (os.fsencode(plain), os.fsencode(marked)), b"")
-    if [plain.read_bytes(), marked.read_bytes()] != expected or left_over(folder):
-        fail("carried texts", plain.read_bytes(), marked.read_bytes(), expected)
-    for port, file, status in ((80, "plain", 0), (9, "plain", 0), (7, "plain", 1), (512, "marked", 0), (600, "marked", 0), (601, "marked", 1)):
-        station_of = station(folder + "/carried", b"", b"", plain.read_bytes(), b"")
-        for address in ("10.20.1.2", "2001:db8::1", "::ffff:1.2.3.4"):
-            expect(f"what was written grants {port}", gate("byuid", station_of, "432", f"{address},{port}", "--marked", marked), status, None, None)
-    expect("carrying over quietly", gate("carry", "-q", "-", "433", plain, marked, stdin=text), 0, b"", b"")
-    if plain.read_bytes() + marked.read_bytes():
-        fail("another uid has no lines")
-    longest = b",".join(b"uid:1:%s:%d" % (protocol, port) for port in range(100, 246) for protocol in (b"tcp", b"udp"))
-    expect("a list near its limit", gate("carry", "-", "1", plain, marked, stdin=longest), 0, None, b"")
-    if [plain.read_bytes(), marked.read_bytes()] != ref.carry(longest, 1, 4096, 4096):
-        fail("the texts of a list near its limit")
-    for what, uid, text, message in (
-            ("root's", "0", both[:-1], "uid 0: byuid never rules root"), ("a bad entry", "0", both, "standard input: entry 9: not a portacl entry [12]"),
-            ("4,097 bytes", "432", b"," * 4097, "4097 bytes, and the most is 4096 [2]"), ("a megabyte", "432", b"," * (1 << 20), "over 65536 bytes, and the most is 4096 [2]"),
-            ("a newline at the end", "432", both[:-1] + b"\n", "entry 8: not a portacl entry [12]")):
-        plain.write_bytes(b"old plain"), marked.write_bytes(b"old marked")
-        expect("carrying over " + what, gate("carry", "-", uid, plain, marked, stdin=text), 2, b"", message)
-        if plain.read_bytes() != b"old plain" or marked.read_bytes() != b"old marked" or left_over(folder):
-            fail("a refused list changes neither file: " + what)
-    expect("a list that is not there", gate("carry", folder + "/none", "432", plain, marked), 2, b"", "none: No such file")
-    expect("a folder for the marked text", gate("carry", "-", "432", plain, folder, stdin=text), 2, b"", "is a folder")
-    expect("a folder that is not there", gate("carry", "-", "432", plain, folder + "/none/m", stdin=b""), 2, b"", "none/m: No such file")
-    if plain.read_bytes() != b"old plain" or left_over(folder):
-        fail("an error of the second file leaves the first as it was")
 
 
 def faulty(library, call, turn, **what):
@@ -1126,7 +1128,7 @@ def match_line(r):
 
 
 def match_answer(texts, r):
-    word, file, line, _, command = ref.verdict(texts[0], texts[1], r, texts[4])
+    word, file, line, _, command, _ = ref.verdict(texts[0], texts[1], r, texts[4])
     if not file:
         return b"granted no rule"
     answer = b"%s %s:%d" % (word.encode(), NAMES[file - 1].encode(), line)

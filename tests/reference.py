@@ -348,7 +348,7 @@ class Tables:
         self.named = {}
         for name, text in tables:
             self.named.setdefault(lower(name), table_words(text))
-        self.known, self.deep, self.names = {}, {}, {}
+        self.known, self.deep, self.names, self.counts = {}, {}, {}, {}
 
     def has(self, name):
         return lower(name) in self.named
@@ -380,6 +380,27 @@ class Tables:
             return self.matches(table_named(w), host, depth)
         match = host_pattern(w)
         return match is not None and match(self, host)
+
+
+    def tried(self, name, host, depth=TABLES_DEEP):
+        """how many patterns are tried in that table, in order until one matches (document 02, request 12); what is tried in a table that
+        one of them names counts besides"""
+        key = lower(name), host, depth
+        if key not in self.counts:
+            count = 0
+            for w in self.named.get(key[0], []) if depth > 0 else []:
+                count += 1 + (0 if table_named(w) is None else self.tried(table_named(w), host, depth - 1))
+                if self.word_matches(w, host, depth - 1):
+                    break
+            self.counts[key] = count
+        return self.counts[key]
+
+
+def looked_at(tables, e, host):
+    """what an element counts (document 02, request 12): itself, and what is tried in the table that it names, behind an @ or not"""
+    first, second = halves(e)
+    name = table_named(first if second is None else second)
+    return 1 if name is None else 1 + tables.tried(name, host)
 
 
 def named_in_rule(line):
@@ -536,8 +557,8 @@ def list_matches(ws, look):
 
 
 def verdict(allow, deny, r, five=None):
-    """a refusal, or (word, file, line, place of the raw command in that file, its bytes); no place where there are none. five: the bytes
-    of section five, None in a call without tables"""
+    """a refusal, or (word, file, line, place of the raw command in that file, its bytes, elements looked at); no place where there are
+    none. five: the bytes of section five, None in a call without tables"""
     r = held(r)
     fault = (over(1, allow) or over(2, deny) or (None if five is None else frame_five(five)) or hosts_fault(1, allow)
              or hosts_fault(2, deny) or naming_fault(allow, deny, five) or request_fault(r))
@@ -546,22 +567,32 @@ def verdict(allow, deny, r, five=None):
 
 def search(allow, deny, r, tables):
     """the same of texts without a fault and a sound request as it is held"""
+    looked = 0
+
+    def look(element, end):
+        """at one element of a list, whose hosts are those of that end"""
+        def at(w):
+            nonlocal looked
+            looked += looked_at(tables, w, r[end])
+            return element(w)(tables, r)
+        return at
+
     for number, text, word in ((1, allow, "granted"), (2, deny, "denied")):
         for line in lines(text):
             if line.text.startswith(b"#") or all(b in BLANKS for b in line.text):
                 continue
             daemons, clients, command = rule(line)
             try:
-                if not list_matches(daemons, lambda w: daemon_element(w)(tables, r)):
+                if not list_matches(daemons, look(daemon_element, "server")):
                     continue
-                if not list_matches(clients, lambda w: client_element(w)(tables, r)):
+                if not list_matches(clients, look(client_element, "client")):
                     continue
             except Asks:
-                return ("ask", number, line.number, None, b"")
+                return ("ask", number, line.number, None, b"", looked)
             if not trimmed(command or b""):
-                return (word, number, line.number, None, b"")
-            return (word, number, line.number, line.place + len(line.raw) - len(command), command)
-    return ("granted", 0, 0, None, b"")
+                return (word, number, line.number, None, b"", looked)
+            return (word, number, line.number, line.place + len(line.raw) - len(command), command, looked)
+    return ("granted", 0, 0, None, b"", looked)
 
 
 # Ports
@@ -879,8 +910,8 @@ def sheet_verdict(sheet, r):
         answer = verdict(texts[0], texts[1], r, texts[4])
         if refused(answer) or answer[3] is None:
             return answer
-        word, file, line, place, command = answer
-        return word, file, line, parts[file - 1][0] + place, command
+        word, file, line, place, *rest = answer
+        return word, file, line, parts[file - 1][0] + place, *rest
     return of_sheet(decision, sheet)
 
 

@@ -277,7 +277,9 @@ static void ports(void) {
     port_texts("full ports", "::1-ffff:ffff:ffff:ffff:ffff:ffff:255.255.255.255,1-65535\n", "gid:4294967295:udp:65535,");
     port_texts("full ports, short lines", "::,0\n", "uid:0:tcp:0,");
     port_texts("full ports, carried over", "0.0.0.0/0,80\n", "uid:1:udp:80,uid:1:tcp:80,");
-    port_texts("full ports, IPv4", "255.255.255.255/32:1023,1023\n", "uid:1:udp:1,");
+    port_texts("full ports, IPv4", "255.255.255.255/32,1023-1023\n", "uid:1:udp:1,");
+    port_texts("full ports, ignored", "255.255.255.254/31:1023,1022\n", "uid:1:udp:1,");
+    port_texts("full ports, retired", "255.255.255.255/32:1023,1023\n", "uid:1:udp:1,");
     port_texts("full ports, ranges", "0.0.0.0-255.255.255.255,0-65535\n", "uid:1:udp:1,x,");
     port_texts("full ports, one line", "1", "1");
     port_texts("no ports", "", "");

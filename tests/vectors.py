@@ -109,9 +109,9 @@ def shown(answer):
 def ruling(answer):
     if ref.refused(answer):
         return refusal(answer)
-    word, file, line, _, command = answer
+    word, file, line, _, command, looked = answer
     where = b", no file" if file == 0 else b", %s line %d" % ([b"allow", b"deny"][file - 1], line)
-    return word.encode() + where + (b", command:" + command if command else b"")
+    return word.encode() + where + b", looked at %d" % looked + (b", command:" + command if command else b"")
 
 
 def read_address(text):

@@ -2,7 +2,7 @@
 -- Assumes nothing.
 use Prim.Native.Nat.{ℕ, _≤_}
 use native.Mathlib.Omega.{arith}
-use mathlib.Core.List.{List}
+use mathlib.Core.List.{List, []}
 use mathlib.Core.Path.{_≡_, refl, ap}
 use lib.ListN.{length, drop}
 use lib.Seq.{take-at}
@@ -18,6 +18,8 @@ use Rattle.rules.specs.declared.Answer.{Answer}
 use Rattle.rules.specs.declared.Verdict.{Verdict}
 use Rattle.rules.specs.declared.Verdict.the-variants as Ver
 use Rattle.rules.specs.Search.{decide, decideTables, commandBytes}
+use Rattle.rules.specs.Looked.{lookedOver}
+use Rattle.tables.specs.Table.{tablesOf}
 use Rattle.expansion.specs.Expand.{expand}
 use Rattle.byuid.specs.declared.Decision.{Decision as ByuidDecision}
 use Rattle.byuid.specs.declared.Decision.the-variants as B
@@ -28,7 +30,7 @@ use Rattle.portacl.specs.declared.Decision.the-variants as P
 use Rattle.portacl.specs.Portacl.{decidePortacl}
 use Rattle.sheet.specs.declared.Parts.{Parts}
 use Rattle.sheet.specs.Sheet.{unpack, pack, upgrade}
-use Rattle.station.specs.Station.{decideSheet, decideByuidSheet, decidePortaclSheet}
+use Rattle.station.specs.Station.{decideSheet, lookedSheet, decideByuidSheet, decidePortaclSheet}
 use Rattle.codes.specs.declared.GateCheck.{GateCheck}
 use Rattle.codes.specs.Requests.{request, byuidBind, byuidFileBind, authbindAsked, portaclBind, writeBy}
 use Rattle.codes.specs.Answers.{refusalAnswer, wordAnswer, answerNumbers, accepted, verdictAnswer, byuidAnswer, portaclAnswer, checkAnswer, partsAnswer, writtenAnswer, addressAnswer}
@@ -110,15 +112,15 @@ refusal-decision r = by-refusal r (fault-range (r .fault) .0) (fault-range (r .f
 word-decision : (w : ℕ) → 1 ≤ w → w ≤ 6 → Decision (wordAnswer w)
 word-decision w h k = by-word (wordAnswer w) refl refl h k
 
-pub verdict-decision : (o : Outcome Answer) → Decision (verdictAnswer o)
+pub verdict-decision : (o : Outcome Answer) (n : ℕ) → Decision (verdictAnswer o n)
 unfolding verdictAnswer
-verdict-decision (refused r) = refusal-decision r
-verdict-decision (answered a) = by (a .verdict) refl
+verdict-decision (refused r) n = refusal-decision r
+verdict-decision (answered a) n = by (a .verdict) refl
   where
-    by : (v : Verdict) → a .verdict ≡ v → Decision (answerNumbers a)
-    by Ver.Granted e = by-word (answerNumbers a) refl refl (rw e (omega arith)) (rw e (omega arith))
-    by Ver.Denied e = by-word (answerNumbers a) refl refl (rw e (omega arith)) (rw e (omega arith))
-    by Ver.Ask e = by-word (answerNumbers a) refl refl (rw e (omega arith)) (rw e (omega arith))
+    by : (v : Verdict) → a .verdict ≡ v → Decision (answerNumbers a n)
+    by Ver.Granted e = by-word (answerNumbers a n) refl refl (rw e (omega arith)) (rw e (omega arith))
+    by Ver.Denied e = by-word (answerNumbers a n) refl refl (rw e (omega arith)) (rw e (omega arith))
+    by Ver.Ask e = by-word (answerNumbers a n) refl refl (rw e (omega arith)) (rw e (omega arith))
 
 pub byuid-decision : (o : Outcome ByuidDecision) → Decision (byuidAnswer o)
 unfolding byuidAnswer
@@ -137,9 +139,9 @@ portacl-decision (answered P.Exempt) = word-decision 6 (omega arith) (omega arit
 
 pub every-decision : EveryDecision
 every-decision = record {
-  verdict-decided = λ allow deny n. verdict-decision (decide allow deny (request n));
-  tables-verdict-decided = λ allow deny tables n. verdict-decision (decideTables allow deny tables (request n));
-  sheet-verdict-decided = λ sheet n. verdict-decision (decideSheet sheet (request n));
+  verdict-decided = λ allow deny n. verdict-decision (decide allow deny (request n)) (lookedOver [] allow deny (request n));
+  tables-verdict-decided = λ allow deny tables n. verdict-decision (decideTables allow deny tables (request n)) (lookedOver (tablesOf tables) allow deny (request n));
+  sheet-verdict-decided = λ sheet n. verdict-decision (decideSheet sheet (request n)) (lookedSheet sheet (request n));
   byuid-decided = λ text mark port kind high low uid. byuid-decision (decideByuid text (byuidFileBind mark port kind high low uid));
   sheet-byuid-decided = λ sheet port kind high low uid. byuid-decision (decideByuidSheet sheet (byuidBind port kind high low uid));
   portacl-decided = λ text s uid groups protocol port. portacl-decision (decidePortacl text s (portaclBind uid groups protocol port));
@@ -203,10 +205,10 @@ unfolding writtenAnswer
 kept out (refused r) h = refl
 kept out (answered t) h = absurd (h refl)
 
-command-kept : (out : List ℕ) (o : Outcome Command) → (commandAnswer o .number ≡ 0 → ⊥) → lentAfter out (o >>= λ c. answered (c .text)) ≡ out
+command-kept : (out : List ℕ) (o : Outcome Command) (k : ℕ) → (commandAnswer o k .number ≡ 0 → ⊥) → lentAfter out (o >>= λ c. answered (c .text)) ≡ out
 unfolding commandAnswer
-command-kept out (refused r) h = refl
-command-kept out (answered c) h = absurd (h refl)
+command-kept out (refused r) k h = refl
+command-kept out (answered c) k h = absurd (h refl)
 
 name-kept : (out : List ℕ) (o : Outcome Step) → (nextAnswer o .number ≡ 0 → ⊥) → lentAfter out (nameWritten o) ≡ out
 unfolding nextAnswer
@@ -225,9 +227,11 @@ refusal-writes-nothing = record {
   writing = λ kind high low out. kept out (writeBy kind high low (length out));
   upgrading = λ sheet out. kept out (upgrade sheet (length out));
   commanding = λ allow deny n process out.
-      command-kept out (together (decide allow deny (request n)) (λ a. expand (commandBytes allow deny a) (request n) process (length out)));
+      command-kept out (together (decide allow deny (request n)) (λ a. expand (commandBytes allow deny a) (request n) process (length out)))
+      (lookedOver [] allow deny (request n));
   sheet-commanding = λ sheet n process out.
-      command-kept out (together (decideSheet sheet (request n)) (λ a. expand (bytesAt sheet (a .command)) (request n) process (length out)));
+      command-kept out (together (decideSheet sheet (request n)) (λ a. expand (bytesAt sheet (a .command)) (request n) process (length out)))
+      (lookedSheet sheet (request n));
   naming = λ port kind high low uid answers out. name-kept out (nextStep (authbindAsked port kind high low uid answers) (length out));
   carrying = λ list uid plain marked. two-kept plain marked (carry list uid (length plain) (length marked));
 }

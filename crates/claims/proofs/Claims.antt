@@ -1,7 +1,7 @@
 -- All claims hold.
 -- Assumes nothing.
 use Rattle.claims.specs.Claims.{Claims}
-use Rattle.claims.proofs.ExampleClaims.{examples, mask-lengths, mapped-addresses, table-examples}
+use Rattle.claims.proofs.ExampleClaims.{examples, mask-lengths, mapped-addresses, table-examples, looked-examples}
 use Rattle.claims.proofs.AnswerLaws.{refusal-writes-nothing, every-decision, every-number}
 use Rattle.claims.proofs.SheetClaims.{cut-short, longest, unpack-pack, pack-unpack, sheet-as-texts, upgraded}
 use Rattle.claims.proofs.AddressClaims.{read-written, bit-by-bit}
@@ -9,6 +9,7 @@ use Rattle.claims.proofs.CommandClaims.{command-in-turn}
 use Rattle.claims.proofs.UserClaims.{ask-only-unfetched, name-cannot-matter}
 use Rattle.claims.proofs.FileClaims.{grants-own-span, other-span-no-line, neither-file}
 use Rattle.claims.proofs.MappedClaims.{no-mapped, held-as-v4}
+use Rattle.claims.proofs.LookedClaims.{refusal-looks-at-nothing, looked-bound}
 use Rattle.claims.proofs.OrderClaims.{absent-goes-on, answer-settles, names-differ, reads-its-file, manual-example}
 use Rattle.claims.proofs.LimitClaims.{old-boxes}
 use Rattle.claims.proofs.RetiredClaims.{retired-refused, converted, refusal-numbers}
@@ -39,6 +40,9 @@ claims = record {
   held-as-v4 = held-as-v4;
   table-examples = table-examples;
   upgraded = upgraded;
+  looked-examples = looked-examples;
+  refusal-looks-at-nothing = refusal-looks-at-nothing;
+  looked-bound = looked-bound;
   absent-goes-on = absent-goes-on;
   answer-settles = answer-settles;
   names-differ = names-differ;

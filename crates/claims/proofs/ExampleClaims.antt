@@ -20,6 +20,9 @@ use Rattle.lists.specs.Check as ListCheck
 use Rattle.lists.specs.Walk as Walk
 use Rattle.rules.specs.Check as Check
 use Rattle.rules.specs.Search as Search
+use Rattle.tables.specs.Tried as Tried
+use Rattle.lists.specs.Looked as ListLooked
+use Rattle.rules.specs.Looked as Looked
 use Rattle.expansion.specs.Expand as Expand
 use Rattle.byuid.specs.Byuid as Byuid
 use Rattle.portacl.specs.Portacl as Portacl
@@ -28,6 +31,7 @@ use Rattle.station.specs.Station as Station
 use Rattle.claims.specs.Examples.{Examples}
 use Rattle.claims.specs.MaskExamples.{MaskExamples}
 use Rattle.claims.specs.MappedExamples.{MappedExamples}
+use Rattle.claims.specs.LookedExamples.{LookedExamples}
 use Rattle.claims.specs.TableExamples.{TableExamples, entriesOf, five, manyEntries, many}
 
 pub examples : Examples
@@ -204,4 +208,52 @@ table-examples = record {
   too-many = refl;
   after-last = refl;
   cut = refl;
+}
+
+pub looked-examples : LookedExamples
+unfolding
+    Basics.any Basics.all Basics.first Basics.each
+    Text.equal Text.splitOnce Text.split Text.intercalate Text.lower Text.equalFold
+    Number.fromDigits Number.toDigits Number.numeral Number.readDecimal
+    Refusal.lowest
+    Address.samePrefix Address.readV4 Address.readGroup Address.readLastGroup Address.readGroups Address.readCompressed Address.readV6
+    Address.compress Address.addrText Address.readAddress Address.writeAddress
+    Line.join Line.logicalLines Line.lines Line.hasBadByte
+    Rule.splitSeparator Rule.nonEmpty Rule.elements Rule.parseRule
+    Command.skipBlanks Command.trimmed Command.pieces Command.hasBadPercent
+    Request.wellFormed
+    Pattern.wildcard Pattern.isNameByte Pattern.domainPattern Pattern.bracketPattern Pattern.leadingFields Pattern.readMask Pattern.netMask Pattern.dottedPattern
+    Pattern.namePattern Pattern.hostPattern
+    Element.halves Element.clientReserved Element.daemonReserved Element.namedTable Element.isPlainName Element.daemonName Element.userHalf Element.daemonParts Element.clientParts
+    Element.daemonElement Element.clientElement
+    ListCheck.withoutExcept ListCheck.exceptMisplaced ListCheck.ruleFault ListCheck.ruleNames Walk.included Walk.excluded Walk.ruleFoundBy
+    Check.lineFaultBy Check.hostsFault Check.lineNames Check.namingFault Check.tablesFault Search.lineAnswer Search.search Search.decide
+    Table.readTables Table.readEach Table.readTable Table.afterCount Table.tablesFrame Table.isTableName Table.tableName Table.tableNamed Table.patterns
+    Table.patternWith Table.inTable Table.leadsPast Table.firstTable Table.isMisnamed Table.tableNameFault Table.isBadPattern Table.isUnsound Table.badTableFault
+    Expand.inserted Expand.safeByte Expand.pieceText Expand.expansion Expand.expand
+    Byuid.readRange Byuid.readNet Byuid.readCommaForm Byuid.readColonForm Byuid.lineGrants Byuid.isRetired Byuid.retiredFault Byuid.byuidFault Byuid.byuidDecision Byuid.decideByuid
+    Portacl.readEntry Portacl.entries Portacl.entryFault Portacl.portaclFault Portacl.portaclDecision Portacl.decidePortacl
+    Sheet.textsFault Sheet.sectionAt Sheet.frame Sheet.unpack
+    Basics.sum Basics.sumUntil Tried.triedIn Tried.capped Element.elementLooked ListLooked.lookedIncluded ListLooked.lookedExcluded ListLooked.ruleLookedBy
+    ListLooked.ruleElements Looked.lineCount Looked.fileLooked Looked.looked Looked.lookedOver Looked.fileElements Station.lookedSheet
+    flatMap
+    Mapped.isMapped Mapped.unmapped Sheet.sheetOf Sheet.pack Station.decideSheet entriesOf five manyEntries many
+looked-examples = record {
+  no-rules = refl;
+  one-rule = refl;
+  failing-daemons = refl;
+  with-except = refl;
+  left-missed = refl;
+  until-match = refl;
+  allow-decides = refl;
+  asking-counted = refl;
+  known-user = refl;
+  other-user = refl;
+  tried-in-table = refl;
+  tried-four-deep = refl;
+  tried-for-daemon = refl;
+  tried-for-user = refl;
+  tried-twice = refl;
+  none-at-refusal = refl;
+  elements-of-file = refl;
 }

@@ -6,6 +6,7 @@ pub mod CommandClaims
 pub mod UserClaims
 pub mod FileClaims
 pub mod MappedClaims
+pub mod LookedClaims
 pub mod OrderClaims
 pub mod LimitClaims
 pub mod RetiredClaims

@@ -2,7 +2,7 @@
 -- Assumes nothing.
 use Prim.Native.Nat.{ℕ, _+_, _*_, _<_, _^_}
 use mathlib.Core.Bool.{false}
-use mathlib.Core.List.{List}
+use mathlib.Core.List.{List, []}
 use mathlib.Core.Option.{Option, none, some}
 use mathlib.Core.Path.{_≡_, refl, sym, ap, ap₂, _∙_}
 use borrow.Author.Tests.{lt-ltb}
@@ -24,10 +24,11 @@ use Rattle.elements.proofs.HeldLaws.{held-fits}
 use Rattle.rules.specs.declared.Answer.{Answer}
 use Rattle.tables.specs.Table.{Table, tablesOf}
 use Rattle.rules.specs.Search.{decideOver, decide, decideTables}
+use Rattle.rules.specs.Looked.{lookedOver}
 use Rattle.expansion.specs.Expand.{expand}
 use Rattle.sheet.specs.declared.Parts.{Parts}
 use Rattle.sheet.specs.Sheet.{unpack}
-use Rattle.station.specs.Station.{inSheet, decideSheet}
+use Rattle.station.specs.Station.{inSheet, decideSheet, lookedIn, lookedSheet}
 use Rattle.codes.specs.declared.request.HostNumbers.{HostNumbers}
 use Rattle.codes.specs.Requests.{RequestNumbers, nameState, userState, addressOf, knownName, knownUser, hostBy, request}
 use Rattle.codes.specs.Answers.{verdictAnswer}
@@ -70,6 +71,19 @@ module _ (allow deny : List ℕ) where
   over-held : (ts : List Table) (o : Option Request) → decideOver ts allow deny (heldIn o) ≡ decideOver ts allow deny o
   over-held ts none = refl
   over-held ts (some r) = rw (held-fits r, held-held r)
+
+looked-held : (ts : List Table) (allow deny : List ℕ) (o : Option Request) → lookedOver ts allow deny (heldIn o) ≡ lookedOver ts allow deny o
+unfolding lookedOver
+looked-held ts allow deny none = refl
+looked-held ts allow deny (some r) = rw (held-fits r, held-held r)
+
+sheet-looked-held : (sheet : List ℕ) (o : Option Request) → lookedSheet sheet (heldIn o) ≡ lookedSheet sheet o
+unfolding lookedSheet
+sheet-looked-held sheet o = by (unpack sheet)
+  where
+    by : (u : Outcome Parts) → lookedIn sheet (heldIn o) u ≡ lookedIn sheet o u
+    by (refused r) = refl
+    by (answered p) = looked-held (tablesOf (bytesAt sheet (p .tables))) (bytesAt sheet (p .allow)) (bytesAt sheet (p .deny)) o
 
 sheet-held : (sheet : List ℕ) (o : Option Request) → decideSheet sheet (heldIn o) ≡ decideSheet sheet o
 unfolding decideSheet
@@ -135,16 +149,19 @@ module _ (n : RequestNumbers) (c s : HostNumbers) (same-c : SameHost (n .client)
       ∙ sym (held-ends (n .daemon) (n .userName) (userState (n .user)) (hostBy c (n .clientName)) (hostBy s (n .serverName)))
 
   -- what holds a request first answers both alike
-  same-outcome : {A : Type 0} (call : Option Request → Outcome A) → ((o : Option Request) → call (heldIn o) ≡ call o)
+  same-outcome : {A : Type 0} (call : Option Request → A) → ((o : Option Request) → call (heldIn o) ≡ call o)
       → call (request n) ≡ call (request (withHosts n c s))
   same-outcome call holds = sym (holds (request n)) ∙ ap call same-request ∙ holds (request (withHosts n c s))
 
 pub held-as-v4 : HeldAsV4
 held-as-v4 = record {
-  alike-by-texts = λ allow deny n c s same-c same-s. ap verdictAnswer (same-outcome n c s same-c same-s (decide allow deny) (decide-held allow deny));
+  alike-by-texts = λ allow deny n c s same-c same-s. ap₂ verdictAnswer (same-outcome n c s same-c same-s (decide allow deny) (decide-held allow deny))
+      (same-outcome n c s same-c same-s (lookedOver [] allow deny) (looked-held [] allow deny));
   alike-by-tables = λ allow deny tables n c s same-c same-s.
-      ap verdictAnswer (same-outcome n c s same-c same-s (decideTables allow deny tables) (tables-held allow deny tables));
-  alike-by-sheet = λ sheet n c s same-c same-s. ap verdictAnswer (same-outcome n c s same-c same-s (decideSheet sheet) (sheet-held sheet));
+      ap₂ verdictAnswer (same-outcome n c s same-c same-s (decideTables allow deny tables) (tables-held allow deny tables))
+      (same-outcome n c s same-c same-s (lookedOver (tablesOf tables) allow deny) (looked-held (tablesOf tables) allow deny));
+  alike-by-sheet = λ sheet n c s same-c same-s. ap₂ verdictAnswer (same-outcome n c s same-c same-s (decideSheet sheet) (sheet-held sheet))
+      (same-outcome n c s same-c same-s (lookedSheet sheet) (sheet-looked-held sheet));
   alike-written = λ command n c s same-c same-s process out. ap (wrote out)
       (same-outcome n c s same-c same-s (λ o. expand command o process (length out)) (λ o. expand-held command o process (length out)));
 }

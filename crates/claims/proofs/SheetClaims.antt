@@ -22,13 +22,14 @@ use Rattle.rules.specs.declared.File.the-variants.{Neither, Allow, Deny}
 use Rattle.rules.specs.Check.{hostsFault, tablesFault}
 use Rattle.rules.specs.Search.{answer, decideOver, decideTables}
 use Rattle.byuid.specs.Byuid.{byuidFault}
+use Rattle.rules.specs.Looked.{lookedOver}
 use Rattle.portacl.specs.Portacl.{portaclFault}
 use Rattle.sheet.specs.declared.Parts.{Parts}
 use Rattle.sheet.specs.Sheet.{Texts, textsAt, textsFault, unpack, sheetOf, pack, fourFrame, upgrade}
 use Rattle.sheet.proofs.FrameLaws.{partsOf, unpack-answered, answered-same}
 use Rattle.sheet.proofs.SheetLaws as Laws
 use Rattle.sheet.proofs.LongestLaws as Long
-use Rattle.station.specs.Station.{inSheet, decideSheet, decideByuidSheet, decidePortaclSheet}
+use Rattle.station.specs.Station.{inSheet, decideSheet, lookedSheet, decideByuidSheet, decidePortaclSheet}
 use Rattle.codes.specs.Requests.{RequestNumbers, request, markOf, byuidFileBind}
 use Rattle.codes.specs.Answers.{answerNumbers, foundParts, verdictAnswer, byuidAnswer, portaclAnswer, checkAnswer, partsAnswer, writtenAnswer}
 use Rattle.gate.specs.Calls.{gateTablesVerdict, gateSheetVerdict, gateUnpack}
@@ -126,22 +127,22 @@ sound-texts ts o e = by (overLimit S.allow (ts .allow)) (overLimit S.deny (ts .d
 sheet-verdict : (sheet : List ℕ) (n : RequestNumbers) → Accepted sheet
     → gateSheetVerdict sheet n
     ≡ placedIn (gateUnpack sheet) (gateTablesVerdict (textsOf sheet .allow) (textsOf sheet .deny) (textsOf sheet .tables) n)
-unfolding decideSheet partsAnswer verdictAnswer
+unfolding decideSheet lookedSheet partsAnswer verdictAnswer
 sheet-verdict sheet n e =
     let p = accepted-parts sheet e in
     let t : Texts = textsAt sheet (p .0) in
     rw (p .1, sound-texts t (request n) (unpack-answered sheet (p .0) (p .1) .1))
-    (by (p .0) (decideOver (tablesOf (t .tables)) (t .allow) (t .deny) (request n)))
+    (by (p .0) (decideOver (tablesOf (t .tables)) (t .allow) (t .deny) (request n)) (lookedOver (tablesOf (t .tables)) (t .allow) (t .deny) (request n)))
   where
-    file : (p : Parts) (a : Answer) (f : File) → answerNumbers (inSheet p (answer (a .verdict) f (a .line) (a .command)))
-        ≡ placedIn (foundParts p) (answerNumbers (answer (a .verdict) f (a .line) (a .command)))
-    file p a Neither = refl
-    file p a Allow = refl
-    file p a Deny = refl
+    file : (p : Parts) (a : Answer) (k : ℕ) (f : File) → answerNumbers (inSheet p (answer (a .verdict) f (a .line) (a .command))) k
+        ≡ placedIn (foundParts p) (answerNumbers (answer (a .verdict) f (a .line) (a .command)) k)
+    file p a k Neither = refl
+    file p a k Allow = refl
+    file p a k Deny = refl
 
-    by : (p : Parts) (o : Outcome Answer) → verdictAnswer (o >>= λ a. answered (inSheet p a)) ≡ placedIn (foundParts p) (verdictAnswer o)
-    by p (refused r) = refl
-    by p (answered a) = file p a (a .file)
+    by : (p : Parts) (o : Outcome Answer) (k : ℕ) → verdictAnswer (o >>= λ a. answered (inSheet p a)) k ≡ placedIn (foundParts p) (verdictAnswer o k)
+    by p (refused r) k = refl
+    by p (answered a) k = file p a k (a .file)
 
 pub sheet-as-texts : SheetAsTexts
 unfolding decideByuidSheet decidePortaclSheet partsAnswer markOf byuidFileBind

@@ -9,11 +9,12 @@ use mathlib.Core.Path.{_≡_, refl, sym, ap, subst, _∙_}
 use borrow.Author.Tests.{le-leb, eqb-true, eqb-false}
 use lib.Dec.{eqb}
 use lib.ListN.{length}
-use Rattle.text.specs.Basics.{if_then_else_, _>>=_, given}
+use Rattle.text.specs.Basics.{if_then_else_, _>>=_, _orElse_, given}
 use Rattle.text.specs.Text.{inRange}
 use Rattle.section.specs.Refusal.{_>>=_ as _andThen_}
 use Rattle.section.specs.Refusal.{Outcome, refused, answered}
-use Rattle.section.specs.Section.{bytesAt}
+use Rattle.section.specs.Section as S
+use Rattle.section.specs.Section.{bytesAt, overLimit}
 use Rattle.patterns.specs.Host.{Endpoint}
 use Rattle.elements.specs.declared.User.{User}
 use Rattle.elements.specs.declared.User.the-variants as U
@@ -22,7 +23,10 @@ use Rattle.elements.specs.Code as R
 use Rattle.rules.specs.declared.Answer.{Answer}
 use Rattle.rules.specs.declared.Verdict.{Verdict}
 use Rattle.rules.specs.declared.Verdict.the-variants.{Granted, Denied, Ask}
-use Rattle.tables.specs.Table.{Table, tablesOf}
+use Rattle.tables.specs.Table.{Table, tablesOf, tablesFrame}
+use Rattle.rules.specs.Check.{hostsFault, tablesFault}
+use Rattle.rules.specs.Looked.{lookedOver}
+use Rattle.rules.proofs.LookedUserLaws.{unlessRefused, over-looked-same}
 use Rattle.rules.specs.Search.{decideOver, decide, decideTables}
 use Rattle.rules.proofs.UserLaws.{QuietVerdict, QuietOutcome, over-same, decide-same, decideTables-same, Fetched}
 use Rattle.rules.proofs.UserLaws.{over-quiet, over-none-quiet, decide-quiet, decide-none-quiet, decideTables-quiet, decideTables-none-quiet}
@@ -30,7 +34,7 @@ use Rattle.expansion.specs.Expand.{usesUser, expand}
 use Rattle.expansion.proofs.UserLaws.{expand-same}
 use Rattle.sheet.specs.declared.Parts.{Parts}
 use Rattle.sheet.specs.Sheet.{unpack}
-use Rattle.station.specs.Station.{inSheet, decideSheet}
+use Rattle.station.specs.Station.{inSheet, decideSheet, lookedIn, lookedSheet}
 use Rattle.codes.specs.declared.GateAnswer.{GateAnswer}
 use Rattle.codes.specs.declared.request.HostNumbers.{HostNumbers}
 use Rattle.codes.specs.Requests.{userState, RequestNumbers, requestNumbers, hostBy, knownUser, request}
@@ -90,10 +94,10 @@ decided-word : {n w : ℕ} → Decided n w → w < 3
 decided-word is-granted = omega arith
 decided-word is-denied = omega arith
 
-decided-quiet : (o : Outcome Answer) → Decided (verdictAnswer o .number) (verdictAnswer o .word) → QuietOutcome o
+decided-quiet : (o : Outcome Answer) (k : ℕ) → Decided (verdictAnswer o k .number) (verdictAnswer o k .word) → QuietOutcome o
 unfolding verdictAnswer
-decided-quiet (refused r) d = tt
-decided-quiet (answered a) d = by (a .verdict) (decided-word d)
+decided-quiet (refused r) k d = tt
+decided-quiet (answered a) k d = by (a .verdict) (decided-word d)
   where
     by : (v : Verdict) → verdictWord v .number < 3 → QuietVerdict v
     by Granted h = tt
@@ -105,17 +109,43 @@ abbrev Same : (Option Request → Outcome Answer) → Type 0
 Same call = (r : Request) (t : List ℕ) (u : User) (name : List ℕ) → wellFormed (R.withUser r u name) ≡ wellFormed (R.withUser r U.NotFetched t)
     → QuietOutcome (call (some (R.withUser r U.NotFetched t))) → call (some (R.withUser r u name)) ≡ call (some (R.withUser r U.NotFetched t))
 
-same-for : (call : Option Request → Outcome Answer) → Same call → (command : List ℕ) (n : RequestNumbers) → n .user ≡ 0
-    → Decided (verdictAnswer (call (request n)) .number) (verdictAnswer (call (request n)) .word)
-    → (user : ℕ) (name : List ℕ) → Permitted user name → SameFor (λ m. verdictAnswer (call (request m))) command n user name
-same-for call same command n e d user name p = record {
-  same-answer = ap verdictAnswer
-      (alike n user name p e (λ o q. QuietOutcome (call q) → call o ≡ call q) (λ h. refl) (λ r u t fits. same r [] u t fits)
-      (decided-quiet (call (request n)) d));
+-- and one that tells them the same number with it
+abbrev SameNumber : (Option Request → Outcome Answer) → (Option Request → ℕ) → Type 0
+SameNumber call count = (r : Request) (t : List ℕ) (u : User) (name : List ℕ) → wellFormed (R.withUser r u name) ≡ wellFormed (R.withUser r U.NotFetched t)
+    → QuietOutcome (call (some (R.withUser r U.NotFetched t)))
+    → unlessRefused (call (some (R.withUser r U.NotFetched t))) (count (some (R.withUser r u name)))
+    ≡ unlessRefused (call (some (R.withUser r U.NotFetched t))) (count (some (R.withUser r U.NotFetched t)))
+
+-- a number is told only with an answer
+told : (o : Outcome Answer) (n : ℕ) → verdictAnswer o n ≡ verdictAnswer o (unlessRefused o n)
+unfolding verdictAnswer
+told (refused f) n = refl
+told (answered a) n = refl
+
+same-for : (call : Option Request → Outcome Answer) → Same call → (count : Option Request → ℕ) → SameNumber call count
+    → (command : List ℕ) (n : RequestNumbers) → n .user ≡ 0
+    → Decided (verdictAnswer (call (request n)) (count (request n)) .number) (verdictAnswer (call (request n)) (count (request n)) .word)
+    → (user : ℕ) (name : List ℕ) → Permitted user name → SameFor (λ m. verdictAnswer (call (request m)) (count (request m))) command n user name
+same-for call same count counts command n e d user name p = record {
+  same-answer =
+      alike n user name p e (λ o q. QuietOutcome (call q) → verdictAnswer (call o) (count o) ≡ verdictAnswer (call q) (count q)) (λ h. refl)
+      (λ r u t fits h. both r u t (same r [] u t fits h) (counts r [] u t fits h)) (decided-quiet (call (request n)) (count (request n)) d);
   same-expansion = λ process out free. ap (wrote out)
       (alike n user name p e (λ o q. expand command o process (length out) ≡ expand command q process (length out)) refl
       (λ r u t fits. expand-same r u U.NotFetched t [] process command (length out) fits free));
 }
+  where
+    both : (r : Request) (u : User) (t : List ℕ)
+        → call (some (R.withUser r u t)) ≡ call (some (R.withUser r U.NotFetched []))
+        → unlessRefused (call (some (R.withUser r U.NotFetched []))) (count (some (R.withUser r u t)))
+        ≡ unlessRefused (call (some (R.withUser r U.NotFetched []))) (count (some (R.withUser r U.NotFetched [])))
+        → verdictAnswer (call (some (R.withUser r u t))) (count (some (R.withUser r u t)))
+        ≡ verdictAnswer (call (some (R.withUser r U.NotFetched []))) (count (some (R.withUser r U.NotFetched [])))
+    both r u t h g =
+        let q : Outcome Answer = call (some (R.withUser r U.NotFetched [])) in
+        let x : ℕ = count (some (R.withUser r u t)) in
+        let y : ℕ = count (some (R.withUser r U.NotFetched [])) in
+        ap (λ (o : Outcome Answer). verdictAnswer o x) h ∙ told q x ∙ ap (verdictAnswer q) g ∙ sym (told q y)
 
 -- an accepted sheet decides as its two texts do
 module _ (sheet : List ℕ) where
@@ -143,6 +173,25 @@ module _ (sheet : List ℕ) where
           (over-same r t u name fits none (tablesOf (bytesAt sheet (p .tables))) (bytesAt sheet (p .allow)) (bytesAt sheet (p .deny))
           (quiet p (decideOver (tablesOf (bytesAt sheet (p .tables))) (bytesAt sheet (p .allow)) (bytesAt sheet (p .deny)) (some (R.withUser r U.NotFetched t))) h))
 
+  placed-told : (p : Parts) (o : Outcome Answer) (n : ℕ) → unlessRefused (o andThen λ a. answered (inSheet p a)) n ≡ unlessRefused o n
+  placed-told p (refused f) n = refl
+  placed-told p (answered a) n = refl
+
+  sheet-same-number : SameNumber (decideSheet sheet) (lookedSheet sheet)
+  unfolding decideSheet lookedSheet decides
+  sheet-same-number r t u name fits = by (unpack sheet)
+    where
+      by : (o : Outcome Parts) → QuietOutcome (o andThen decides (some (R.withUser r U.NotFetched t)))
+          → unlessRefused (o andThen decides (some (R.withUser r U.NotFetched t))) (lookedIn sheet (some (R.withUser r u name)) o)
+          ≡ unlessRefused (o andThen decides (some (R.withUser r U.NotFetched t))) (lookedIn sheet (some (R.withUser r U.NotFetched t)) o)
+      by (refused f) h = refl
+      by (answered p) h =
+          let ts : List Table = tablesOf (bytesAt sheet (p .tables)) in
+          let d : Outcome Answer = decideOver ts (bytesAt sheet (p .allow)) (bytesAt sheet (p .deny)) (some (R.withUser r U.NotFetched t)) in
+          placed-told p d (lookedOver ts (bytesAt sheet (p .allow)) (bytesAt sheet (p .deny)) (some (R.withUser r u name)))
+          ∙ over-looked-same r t u name fits none ts (bytesAt sheet (p .allow)) (bytesAt sheet (p .deny)) (quiet p d h)
+          ∙ sym (placed-told p d (lookedOver ts (bytesAt sheet (p .allow)) (bytesAt sheet (p .deny)) (some (R.withUser r U.NotFetched t))))
+
   sheet-quiet : (q : Option Request) → ((ts : List Table) (a d : List ℕ) → QuietOutcome (decideOver ts a d q)) → QuietOutcome (decideSheet sheet q)
   unfolding decideSheet decides
   sheet-quiet q h = by (unpack sheet)
@@ -153,15 +202,31 @@ module _ (sheet : List ℕ) where
           placed-quiet p (decideOver (tablesOf (bytesAt sheet (p .tables))) (bytesAt sheet (p .allow)) (bytesAt sheet (p .deny)) q)
           (h (tablesOf (bytesAt sheet (p .tables))) (bytesAt sheet (p .allow)) (bytesAt sheet (p .deny)))
 
+module _ (allow deny : List ℕ) where
+  texts-same-number : SameNumber (decide allow deny) (lookedOver [] allow deny)
+  unfolding decide
+  texts-same-number r t u name fits = over-looked-same r t u name fits
+      (overLimit S.allow allow orElse overLimit S.deny deny orElse hostsFault S.allow allow orElse hostsFault S.deny deny orElse tablesFault allow deny [])
+      [] allow deny
+
+  tables-same-number : (tables : List ℕ) → SameNumber (decideTables allow deny tables) (lookedOver (tablesOf tables) allow deny)
+  unfolding decideTables
+  tables-same-number tables r t u name fits = over-looked-same r t u name fits
+      (overLimit S.allow allow orElse overLimit S.deny deny orElse tablesFrame tables orElse hostsFault S.allow allow orElse hostsFault S.deny deny
+      orElse tablesFault allow deny tables)
+      (tablesOf tables) allow deny
+
 pub name-cannot-matter : NameCannotMatter
 name-cannot-matter = record {
   by-texts = λ allow deny n.
       same-for (decide allow deny) (λ r t u name fits. decide-same r t u name fits allow deny)
+      (lookedOver [] allow deny) (texts-same-number allow deny)
       (commandIn (deciding allow deny (gateVerdict allow deny n)) (gateVerdict allow deny n)) n;
   by-tables = λ allow deny tables n.
       same-for (decideTables allow deny tables) (λ r t u name fits. decideTables-same r t u name fits allow deny tables)
+      (lookedOver (tablesOf tables) allow deny) (tables-same-number allow deny tables)
       (commandIn (deciding allow deny (gateTablesVerdict allow deny tables n)) (gateTablesVerdict allow deny tables n)) n;
-  by-sheet = λ sheet n. same-for (decideSheet sheet) (sheet-same sheet) (commandIn sheet (gateSheetVerdict sheet n)) n;
+  by-sheet = λ sheet n. same-for (decideSheet sheet) (sheet-same sheet) (lookedSheet sheet) (sheet-same-number sheet) (commandIn sheet (gateSheetVerdict sheet n)) n;
 }
 
 -- as two calls of the exported verdict hand it over
@@ -175,10 +240,10 @@ same-verdict allow deny daemon client clientName server serverName t x is-x user
 
 -- ## Who has fetched is never asked
 
-asked-loud : (o : Outcome Answer) → verdictAnswer o .word ≡ 3 → QuietOutcome o → ⊥
+asked-loud : (o : Outcome Answer) (k : ℕ) → verdictAnswer o k .word ≡ 3 → QuietOutcome o → ⊥
 unfolding verdictAnswer
-asked-loud (refused r) e h = omega arith
-asked-loud (answered a) e h = by (a .verdict) e h
+asked-loud (refused r) k e h = omega arith
+asked-loud (answered a) k e h = by (a .verdict) e h
   where
     by : (v : Verdict) → verdictWord v .number ≡ 3 → QuietVerdict v → ⊥
     by Granted e h = omega arith
@@ -201,18 +266,19 @@ module _ (n : RequestNumbers) (call : Option Request → Outcome Answer) (none-q
       by (some x) (some y) false true = fetched-quiet (requestOf (n .daemon) x y U.Known (n .userName)) tt
       by (some x) (some y) false false = none-quiet
 
-  unfetched : verdictAnswer (call (request n)) .word ≡ 3 → n .user ≡ 0
-  unfetched w = by (eqb (n .user) 0) refl
+  unfetched : (k : ℕ) → verdictAnswer (call (request n)) k .word ≡ 3 → n .user ≡ 0
+  unfetched k w = by (eqb (n .user) 0) refl
     where
       by : (b : Bool) → eqb (n .user) 0 ≡ b → n .user ≡ 0
       by true e = eqb-true (n .user) 0 e
-      by false e = absurd (asked-loud (call (request n)) w (request-quiet e))
+      by false e = absurd (asked-loud (call (request n)) k w (request-quiet e))
 
 pub ask-only-unfetched : AskOnlyUnfetched
 ask-only-unfetched = record {
-  asked-by-texts = λ allow deny n. unfetched n (decide allow deny) (decide-none-quiet allow deny) (λ r h. decide-quiet r h allow deny);
+  asked-by-texts = λ allow deny n. unfetched n (decide allow deny) (decide-none-quiet allow deny) (λ r h. decide-quiet r h allow deny)
+      (lookedOver [] allow deny (request n));
   asked-by-tables = λ allow deny tables n. unfetched n (decideTables allow deny tables) (decideTables-none-quiet allow deny tables)
-      (λ r h. decideTables-quiet r h allow deny tables);
+      (λ r h. decideTables-quiet r h allow deny tables) (lookedOver (tablesOf tables) allow deny (request n));
   asked-by-sheet = λ sheet n. unfetched n (decideSheet sheet) (sheet-quiet sheet none (λ ts a d. over-none-quiet none ts a d))
-      (λ r h. sheet-quiet sheet (some r) (λ ts a d. over-quiet none ts a d r h));
+      (λ r h. sheet-quiet sheet (some r) (λ ts a d. over-quiet none ts a d r h)) (lookedSheet sheet (request n));
 }

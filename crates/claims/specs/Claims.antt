@@ -8,7 +8,7 @@ use mathlib.Core.Option.{none}
 use mathlib.Core.Path.{_≡_}
 use lib.ListN.{length, take}
 use lib.Dec.{ltb, eqb}
-use Rattle.text.specs.Basics.{if_then_else_, all}
+use Rattle.text.specs.Basics.{if_then_else_, any, all}
 use Rattle.section.specs.declared.Fault.the-variants as F
 use Rattle.section.specs.declared.Refusal.{Refusal}
 use Rattle.section.specs.Section as S
@@ -17,7 +17,10 @@ use Rattle.section.specs.Refusal.{refusal, placeless}
 use Rattle.address.specs.Address.{samePrefix}
 use Rattle.address.specs.Bits.{sameBits}
 use Rattle.address.specs.Mapped.{isMapped}
+use Rattle.lines.specs.Line.{lines}
 use Rattle.elements.specs.Request.{Request, held}
+use Rattle.rules.specs.Check.{lineNames}
+use Rattle.rules.specs.Looked.{fileElements}
 use Rattle.expansion.specs.Expand.{usesUser}
 use Rattle.byuid.specs.Byuid.{byuidFault}
 use Rattle.portacl.specs.declared.Settings.{Settings}
@@ -39,6 +42,7 @@ use Rattle.claims.specs.MappedExamples.{MappedExamples}
 use Rattle.claims.specs.TableExamples.{TableExamples}
 use Rattle.claims.specs.OldBoxes.{OldBoxes}
 use Rattle.claims.specs.Retired.{RetiredRefused, Converted, RefusalNumbers}
+use Rattle.claims.specs.LookedExamples.{LookedExamples}
 use Rattle.claims.specs.CarriedOver.{CarriedOver}
 use Rattle.claims.specs.AuthbindOrder.{AbsentGoesOn, AnswerSettles, NamesDiffer, ReadsItsFile, ManualExample}
 
@@ -166,9 +170,10 @@ placedIn p a = record {
   file = a .file;
   place = filePlace p (a .file) + a .place;
   len = a .len;
+  looked = a .looked;
 }
 
--- an accepted sheet decides as its texts do
+-- an accepted sheet decides as its texts do, and looks at as many elements
 pub record SheetAsTexts : Type 0 where
   pub same-verdict : (sheet : List ℕ) (n : RequestNumbers) → Accepted sheet
       → gateSheetVerdict sheet n ≡ placedIn (gateUnpack sheet) (gateTablesVerdict (textsOf sheet .allow) (textsOf sheet .deny) (textsOf sheet .tables) n)
@@ -186,7 +191,7 @@ commandIn text a = bytesAt text (part (a .place) (a .len))
 
 -- a verdict, and then the writing of its command: what refuses first is the refusal, and writes nothing
 abbrev pub unwritten : GateWritten → GateCommand
-unwritten w = record { number = w .number; section = w .section; line = w .line; word = 0; file = 0; place = 0; len = 0; count = 0 }
+unwritten w = record { number = w .number; section = w .section; line = w .line; word = 0; file = 0; place = 0; len = 0; count = 0; looked = 0 }
 
 abbrev pub inTurn : GateAnswer → Wrote → List ℕ → WroteCommand
 inTurn v w out =
@@ -224,8 +229,8 @@ pub data Decided : ℕ → ℕ → Type 0 where
   is-granted : Decided 0 (granted .number)
   is-denied : Decided 0 (denied .number)
 
--- the name could not have mattered: the same answer whole, so the same raw command, and "expanding that command for both in
--- the same room gives the same bytes or the same refusal, unless it uses %u or %c"
+-- the name could not have mattered: the same answer whole, so the same raw command and (request 12: "Where demand 3 gives equal answers
+-- the number is equal too") the same number of elements looked at, and "expanding that command for both in the same room gives the same bytes or the same refusal, unless it uses %u or %c"
 pub record SameFor (call : RequestNumbers → GateAnswer) (command : List ℕ) (n : RequestNumbers) (user : ℕ) (name : List ℕ) : Type 0 where
   pub same-answer : call (asUser n user name) ≡ call n
   pub same-expansion : (process : ℕ) (out : List ℕ) → usesUser command ≡ false → gateExpand command (asUser n user name) process out
@@ -311,6 +316,29 @@ pub record HeldAsV4 : Type 0 where
   pub alike-written : (command : List ℕ) (n : RequestNumbers) (c s : HostNumbers) → SameHost (n .client) c → SameHost (n .server) s
       → (process : ℕ) (out : List ℕ) → gateExpand command n process out ≡ gateExpand command (withHosts n c s) process out
 
+-- request 12: "(0 at a refusal)"
+pub record RefusalLooksAtNothing : Type 0 where
+  pub none-by-texts : (allow deny : List ℕ) (n : RequestNumbers) → (gateVerdict allow deny n .number ≡ 0 → ⊥) → gateVerdict allow deny n .looked ≡ 0
+  pub none-by-tables : (allow deny tables : List ℕ) (n : RequestNumbers) → (gateTablesVerdict allow deny tables n .number ≡ 0 → ⊥)
+      → gateTablesVerdict allow deny tables n .looked ≡ 0
+  pub none-by-sheet : (sheet : List ℕ) (n : RequestNumbers) → (gateSheetVerdict sheet n .number ≡ 0 → ⊥) → gateSheetVerdict sheet n .looked ≡ 0
+  pub none-commanded : (allow deny : List ℕ) (n : RequestNumbers) (process : ℕ) (out : List ℕ)
+      → (gateCommand allow deny n process out .answer .number ≡ 0 → ⊥) → gateCommand allow deny n process out .answer .looked ≡ 0
+  pub none-sheet-commanded : (sheet : List ℕ) (n : RequestNumbers) (process : ℕ) (out : List ℕ)
+      → (gateSheetCommand sheet n process out .answer .number ≡ 0 → ⊥) → gateSheetCommand sheet n process out .answer .looked ≡ 0
+
+-- "For rules without tables the number never exceeds the elements in both files, and that bound is to be shown."
+abbrev pub NamesNoTable : List ℕ → Type 0
+NamesNoTable t = any (lineNames (λ n. true)) (lines t) ≡ false
+
+pub record LookedBound : Type 0 where
+  pub bound-by-texts : (allow deny : List ℕ) (n : RequestNumbers) → NamesNoTable allow → NamesNoTable deny
+      → gateVerdict allow deny n .looked ≤ fileElements allow + fileElements deny
+  pub bound-by-tables : (allow deny tables : List ℕ) (n : RequestNumbers) → NamesNoTable allow → NamesNoTable deny
+      → gateTablesVerdict allow deny tables n .looked ≤ fileElements allow + fileElements deny
+  pub bound-by-sheet : (sheet : List ℕ) (n : RequestNumbers) → NamesNoTable (textsOf sheet .allow) → NamesNoTable (textsOf sheet .deny)
+      → gateSheetVerdict sheet n .looked ≤ fileElements (textsOf sheet .allow) + fileElements (textsOf sheet .deny)
+
 -- ## All
 
 pub record Claims : Type 0 where
@@ -337,6 +365,9 @@ pub record Claims : Type 0 where
   pub held-as-v4 : HeldAsV4
   pub table-examples : TableExamples
   pub upgraded : Upgraded
+  pub looked-examples : LookedExamples
+  pub refusal-looks-at-nothing : RefusalLooksAtNothing
+  pub looked-bound : LookedBound
   -- document 02, request 4
   pub absent-goes-on : AbsentGoesOn
   pub answer-settles : AnswerSettles

@@ -14,9 +14,9 @@ use Rattle.address.specs.declared.read.AddressRead.{AddressRead}
 use Rattle.address.specs.declared.read.AddressRead.the-variants as R
 use Rattle.address.specs.Address.{asRead}
 use Rattle.rules.specs.declared.Answer.{Answer}
-use Rattle.rules.specs.declared.Ruling.{Ruling as VerdictRuling}
+use Rattle.rules.specs.declared.Reported.{Reported}
 use Rattle.rules.specs.declared.Ruling.the-variants as Ver
-use Rattle.rules.specs.Search as Search
+use Rattle.rules.specs.Looked.{reported}
 use Rattle.rules.specs.Search.{fileSection}
 use Rattle.byuid.specs.declared.Decision.{Decision as ByuidDecision}
 use Rattle.byuid.specs.declared.Ruling.{Ruling as ByuidRuling}
@@ -59,14 +59,14 @@ unfolding portaclNumbers portaclAnswer
 portacl-numbers (refused r) x a e f = rw e at f
 portacl-numbers (answered d) x a e f = rw e at f
 
-pub verdict-answered : (x : VerdictRuling) (b : Answer) (a : GateAnswer) → x ≡ Ver.Answered b → a ≡ answerNumbers b → a ≡ verdictNumbers x
+pub verdict-answered : (x : Reported) (b : Answer) (a : GateAnswer) → x .ruling ≡ Ver.Answered b → a ≡ answerNumbers b (x .looked) → a ≡ verdictNumbers x
 unfolding verdictNumbers
 verdict-answered x b a e f = rw e f
 
-pub verdict-numbers : (o : Outcome Answer) (x : VerdictRuling) (a : GateAnswer) → x ≡ Search.verdictRuling o → a ≡ verdictNumbers x → a ≡ verdictAnswer o
+pub verdict-numbers : (o : Outcome Answer) (k : ℕ) (x : Reported) (a : GateAnswer) → x ≡ reported o k → a ≡ verdictNumbers x → a ≡ verdictAnswer o k
 unfolding verdictNumbers verdictAnswer
-verdict-numbers (refused r) x a e f = rw e at f
-verdict-numbers (answered b) x a e f = rw e at f
+verdict-numbers (refused r) k x a e f = rw e at f
+verdict-numbers (answered b) k x a e f = rw e at f
 
 pub parts-found : (x : Unpacked) (p : Parts) (a : GateParts) → x ≡ Un.Parts p → a ≡ foundParts p → a ≡ partsNumbers x
 unfolding partsNumbers
@@ -160,7 +160,7 @@ pub portacl-answered : (x : PortaclRuling) (d : PortaclDecision) (k : ℕ) (a : 
 unfolding portaclNumbers
 portacl-answered x d k a e g f = rw e (rw g at f)
 
-pub verdict-refused : (x : VerdictRuling) (r : Refusal) (a : GateAnswer) → x ≡ Ver.Refused r → a ≡ refusalAnswer r → a ≡ verdictNumbers x
+pub verdict-refused : (x : Reported) (r : Refusal) (a : GateAnswer) → x .ruling ≡ Ver.Refused r → a ≡ refusalAnswer r → a ≡ verdictNumbers x
 unfolding verdictNumbers
 verdict-refused x r a e f = rw e f
 
@@ -174,10 +174,10 @@ pub read-found : (x : AddressRead) (b : Addr) (a : GateAddress) → x ≡ R.Addr
 unfolding readNumbers
 read-found x b a e f = rw e f
 
-pub verdict-word : (a : Answer) (w : ℕ) → w ≡ verdictWord (a .verdict) .number → (f : ℕ) → f ≡ fileSection (a .file)
+pub verdict-word : (a : Answer) (n w : ℕ) → w ≡ verdictWord (a .verdict) .number → (f : ℕ) → f ≡ fileSection (a .file)
     → _≡_ {A = GateAnswer}
-    (record { number = 0; section = 0; line = a .line; word = w; file = f; place = a .command .place; len = a .command .len }) (answerNumbers a)
-verdict-word a w is-w f is-f = rw (is-w, is-f)
+    (record { number = 0; section = 0; line = a .line; word = w; file = f; place = a .command .place; len = a .command .len; looked = n }) (answerNumbers a n)
+verdict-word a n w is-w f is-f = rw (is-w, is-f)
 
 pub check-refused : (x : Unpacked) (r : Refusal) (a : GateCheck) → x ≡ Un.Refused r → a ≡ checkNumbers (Un.Refused r) → a ≡ checkNumbers x
 check-refused x r a e f = rw e f
@@ -196,45 +196,45 @@ written-count x n e = rw e
 pub refusal-counted : (r : Refusal) (b : GateAnswer) → b ≡ refusalAnswer r → (a : GateCommand) → a ≡ withCount b 0 → a ≡ withCount (refusalAnswer r) 0
 refusal-counted r b is-b a is-a = rw (is-a, is-b)
 
-module _ (b : Answer) (x : Written) where
-  pub command-refused : (r : Refusal) → x ≡ W.Refused r → (a : GateCommand) → a ≡ withCount (refusalAnswer r) 0 → a ≡ commandWritten b x
+module _ (b : Answer) (k : ℕ) (x : Written) where
+  pub command-refused : (r : Refusal) → x ≡ W.Refused r → (a : GateCommand) → a ≡ withCount (refusalAnswer r) 0 → a ≡ commandWritten b k x
   unfolding commandWritten
   command-refused r e a f = rw e f
 
-  pub command-count : (n : ℕ) → x ≡ W.Count n → (v : GateAnswer) → v ≡ answerNumbers b → (a : GateCommand) → a ≡ withCount v n → a ≡ commandWritten b x
+  pub command-count : (n : ℕ) → x ≡ W.Count n → (v : GateAnswer) → v ≡ answerNumbers b k → (a : GateCommand) → a ≡ withCount v n → a ≡ commandWritten b k x
   unfolding commandWritten
   command-count n e v is-v a f = rw e (f ∙ ap (λ (y : GateAnswer). withCount y n) is-v)
 
--- a verdict, and then its command
-module _ (out : List ℕ) (d : Outcome Answer) (f : Answer → Outcome (List ℕ)) where
-  pub together-refused : (g : Refusal) → Search.verdictRuling d ≡ Ver.Refused g → withCount (refusalAnswer g) 0 ≡ commandAnswer (together d f)
+-- a verdict, and then its command; k: how many elements were looked at for the verdict
+module _ (out : List ℕ) (d : Outcome Answer) (k : ℕ) (f : Answer → Outcome (List ℕ)) where
+  pub together-refused : (g : Refusal) → reported d k .ruling ≡ Ver.Refused g → withCount (refusalAnswer g) 0 ≡ commandAnswer (together d f) k
   unfolding commandAnswer
   together-refused g e = by d e
     where
-      by : (d : Outcome Answer) → Search.verdictRuling d ≡ Ver.Refused g → withCount (refusalAnswer g) 0 ≡ commandAnswer (together d f)
-      by (refused r) k = let z : r ≡ g = cc in rw z
-      by (answered a) k = let z : _≡_ {A = ℕ} 0 1 = cc in absurd (omega arith)
+      by : (d : Outcome Answer) → reported d k .ruling ≡ Ver.Refused g → withCount (refusalAnswer g) 0 ≡ commandAnswer (together d f) k
+      by (refused r) q = let z : r ≡ g = cc in rw z
+      by (answered a) q = let z : _≡_ {A = ℕ} 0 1 = cc in absurd (omega arith)
 
-  pub together-kept : (g : Refusal) → Search.verdictRuling d ≡ Ver.Refused g → out ≡ lentAfter out (together d f >>= λ c. answered (c .text))
+  pub together-kept : (g : Refusal) → reported d k .ruling ≡ Ver.Refused g → out ≡ lentAfter out (together d f >>= λ c. answered (c .text))
   together-kept g e = by d e
     where
-      by : (d : Outcome Answer) → Search.verdictRuling d ≡ Ver.Refused g → out ≡ lentAfter out (together d f >>= λ c. answered (c .text))
-      by (refused r) k = refl
-      by (answered a) k = let z : _≡_ {A = ℕ} 0 1 = cc in absurd (omega arith)
+      by : (d : Outcome Answer) → reported d k .ruling ≡ Ver.Refused g → out ≡ lentAfter out (together d f >>= λ c. answered (c .text))
+      by (refused r) q = refl
+      by (answered a) q = let z : _≡_ {A = ℕ} 0 1 = cc in absurd (omega arith)
 
-  module _ (b : Answer) (e : Search.verdictRuling d ≡ Ver.Answered b) where
+  module _ (b : Answer) (e : reported d k .ruling ≡ Ver.Answered b) where
     is-answered : d ≡ answered b
     is-answered = by d e
       where
-        by : (d : Outcome Answer) → Search.verdictRuling d ≡ Ver.Answered b → d ≡ answered b
-        by (refused r) k = let z : _≡_ {A = ℕ} 0 1 = cc in absurd (omega arith)
-        by (answered a) k = cc
+        by : (d : Outcome Answer) → reported d k .ruling ≡ Ver.Answered b → d ≡ answered b
+        by (refused r) q = let z : _≡_ {A = ℕ} 0 1 = cc in absurd (omega arith)
+        by (answered a) q = cc
 
-    pub together-written : (w : Written) → w ≡ writtenOf (f b) → commandWritten b w ≡ commandAnswer (together d f)
+    pub together-written : (w : Written) → w ≡ writtenOf (f b) → commandWritten b (reported d k .looked) w ≡ commandAnswer (together d f) k
     unfolding commandAnswer commandWritten
     together-written w is-w = rw (is-answered, is-w) (by (f b))
       where
-        by : (o : Outcome (List ℕ)) → commandWritten b (writtenOf o) ≡ commandAnswer (o >>= λ t. answered (command b t))
+        by : (o : Outcome (List ℕ)) → commandWritten b k (writtenOf o) ≡ commandAnswer (o >>= λ t. answered (command b t)) k
         by (refused r) = refl
         by (answered t) = refl
 

@@ -98,14 +98,15 @@ stepWord Authbind.notRuled = notRuled
 -- ## Decisions
 
 abbrev pub refusalAnswer : Refusal → GateAnswer
-refusalAnswer r = record { number = faultNumber (r .fault); section = r .section; line = r .line; word = 0; file = 0; place = 0; len = 0 }
+refusalAnswer r = record { number = faultNumber (r .fault); section = r .section; line = r .line; word = 0; file = 0; place = 0; len = 0; looked = 0 }
 
 -- a word alone, by its number: "Both port decisions give their word only."
 abbrev pub wordAnswer : ℕ → GateAnswer
-wordAnswer w = record { number = 0; section = 0; line = 0; word = w; file = 0; place = 0; len = 0 }
+wordAnswer w = record { number = 0; section = 0; line = 0; word = w; file = 0; place = 0; len = 0; looked = 0 }
 
-abbrev pub answerNumbers : Answer → GateAnswer
-answerNumbers a = record {
+-- a verdict, and document 02, request 12: how many elements were looked at for it
+abbrev pub answerNumbers : Answer → ℕ → GateAnswer
+answerNumbers a n = record {
   number = 0;
   section = 0;
   line = a .line;
@@ -113,11 +114,13 @@ answerNumbers a = record {
   file = fileSection (a .file);
   place = a .command .place;
   len = a .command .len;
+  looked = n;
 }
 
-unfoldable pub verdictAnswer : Outcome Answer → GateAnswer
-verdictAnswer (refused r) = refusalAnswer r
-verdictAnswer (answered a) = answerNumbers a
+-- "(0 at a refusal)"
+unfoldable pub verdictAnswer : Outcome Answer → ℕ → GateAnswer
+verdictAnswer (refused r) n = refusalAnswer r
+verdictAnswer (answered a) n = answerNumbers a n
 
 unfoldable pub byuidAnswer : Outcome ByuidDecision → GateAnswer
 byuidAnswer (refused r) = refusalAnswer r
@@ -225,11 +228,13 @@ withCount a n = record {
   place = a .place;
   len = a .len;
   count = n;
+  looked = a .looked;
 }
 
-unfoldable pub commandAnswer : Outcome Command → GateCommand
-commandAnswer (refused r) = withCount (refusalAnswer r) 0
-commandAnswer (answered c) = withCount (answerNumbers (c .answer)) (length (c .text))
+-- n: how many elements were looked at for the verdict
+unfoldable pub commandAnswer : Outcome Command → ℕ → GateCommand
+commandAnswer (refused r) n = withCount (refusalAnswer r) 0
+commandAnswer (answered c) n = withCount (answerNumbers (c .answer) n) (length (c .text))
 
 abbrev pub refusedNext : Refusal → GateNext
 refusedNext r = record { number = faultNumber (r .fault); section = r .section; line = r .line; word = 0; count = 0 }

@@ -42,6 +42,7 @@ use Rattle.carry.specs.declared.Carried.the-variants as Carried
 use Rattle.authbind.specs.declared.Next.{Next}
 use Rattle.authbind.specs.declared.Next.the-variants as Step
 use Rattle.rules.specs.declared.Answer.{Answer}
+use Rattle.rules.specs.declared.Reported.{Reported}
 use Rattle.rules.specs.declared.Ruling.{Ruling as VerdictRuling}
 use Rattle.rules.specs.declared.Ruling.the-variants as Ver
 use Rattle.sheet.specs.declared.unpack.Unpacked.{Unpacked}
@@ -145,9 +146,12 @@ unfoldable pub portaclNumbers : PortaclRuling → GateAnswer
 portaclNumbers (P.Refused r) = refusalAnswer r
 portaclNumbers (P.Answered d) = wordAnswer (portaclWord d .number)
 
-unfoldable pub verdictNumbers : VerdictRuling → GateAnswer
-verdictNumbers (Ver.Refused r) = refusalAnswer r
-verdictNumbers (Ver.Answered a) = answerNumbers a
+abbrev pub rulingNumbers : VerdictRuling → ℕ → GateAnswer
+rulingNumbers (Ver.Refused r) n = refusalAnswer r
+rulingNumbers (Ver.Answered a) n = answerNumbers a n
+
+unfoldable pub verdictNumbers : Reported → GateAnswer
+verdictNumbers x = rulingNumbers (x .ruling) (x .looked)
 
 unfoldable pub checkNumbers : Unpacked → GateCheck
 checkNumbers (Un.Refused r) = refusedCheck r
@@ -161,9 +165,9 @@ unfoldable pub writtenNumbers : Written → GateWritten
 writtenNumbers (W.Refused r) = refusedWritten r
 writtenNumbers (W.Count n) = countWritten n
 
-unfoldable pub commandWritten : Answer → Written → GateCommand
-commandWritten a (W.Refused r) = withCount (refusalAnswer r) 0
-commandWritten a (W.Count n) = withCount (answerNumbers a) n
+unfoldable pub commandWritten : Answer → ℕ → Written → GateCommand
+commandWritten a k (W.Refused r) = withCount (refusalAnswer r) 0
+commandWritten a k (W.Count n) = withCount (answerNumbers a k) n
 
 unfoldable pub carriedNumbers : Carried → GateWrittenTwo
 carriedNumbers (Carried.Refused r) = refusedTwo r

@@ -40,6 +40,7 @@ fn refused(r: Refusal) -> GateAnswer
         file: 0,
         place: 0,
         len: 0,
+        looked: 0,
     }
 }
 
@@ -54,6 +55,7 @@ fn word(w: u32) -> GateAnswer
         file: 0,
         place: 0,
         len: 0,
+        looked: 0,
     }
 }
 
@@ -118,8 +120,8 @@ fn file_section(f: rules::File) -> u32
     }
 }
 
-fn verdict_word(a: rules::Answer) -> GateAnswer
-    ensures { λ r. ⌜ r ≡ answerNumbers a ⌝ }
+fn verdict_word(a: rules::Answer, looked: u64) -> GateAnswer
+    ensures { λ r. ⌜ r ≡ answerNumbers a looked ⌝ }
 {
     let verdict = a.verdict;
     let file = a.file;
@@ -132,16 +134,18 @@ fn verdict_word(a: rules::Answer) -> GateAnswer
         file: file_section(file),
         place: command.place as u64,
         len: command.len as u64,
+        looked,
     }
 }
 
 // A verdict as numbers.
-pub fn verdict_numbers(r: rules::Ruling) -> GateAnswer
+pub fn verdict_numbers(r: rules::Reported) -> GateAnswer
     ensures { λ a. ⌜ a ≡ verdictNumbers r ⌝ }
 {
-    match r {
+    let ruling = r.ruling;
+    match ruling {
         rules::Ruling::Refused(refusal) => refused(refusal),
-        rules::Ruling::Answered(answer) => verdict_word(answer),
+        rules::Ruling::Answered(answer) => verdict_word(answer, r.looked),
     }
 }
 
@@ -295,6 +299,7 @@ fn with_count(a: GateAnswer, n: usize) -> GateCommand
         place: a.place,
         len: a.len,
         count: n as u64,
+        looked: a.looked,
     }
 }
 
@@ -306,12 +311,12 @@ pub fn no_command(r: Refusal) -> GateCommand
 }
 
 // A verdict as numbers, where its command was written; else the refusal to write it.
-pub fn command_numbers(a: rules::Answer, w: Written) -> GateCommand
-    ensures { λ r. ⌜ r ≡ commandWritten a w ⌝ }
+pub fn command_numbers(a: rules::Answer, looked: u64, w: Written) -> GateCommand
+    ensures { λ r. ⌜ r ≡ commandWritten a looked w ⌝ }
 {
     match w {
         Written::Refused(refusal) => no_command(refusal),
-        Written::Count(n) => with_count(verdict_word(a), n),
+        Written::Count(n) => with_count(verdict_word(a, looked), n),
     }
 }
 

@@ -4,7 +4,7 @@
 pub mod answer;
 pub mod request;
 
-// A decision as numbers.
+// A decision as numbers; looked: how many elements were looked at for a verdict.
 #[repr(C)]
 pub struct GateAnswer {
     pub number: u32,
@@ -14,9 +14,10 @@ pub struct GateAnswer {
     pub file: u32,
     pub place: u64,
     pub len: u64,
+    pub looked: u64,
 }
 
-// A verdict as numbers, and how many bytes of its command were written.
+// The same of a verdict, and how many bytes of its command were written.
 #[repr(C)]
 pub struct GateCommand {
     pub number: u32,
@@ -27,6 +28,7 @@ pub struct GateCommand {
     pub place: u64,
     pub len: u64,
     pub count: u64,
+    pub looked: u64,
 }
 
 // Whether a sheet is accepted.

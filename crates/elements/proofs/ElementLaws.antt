@@ -6,7 +6,7 @@ use Prim.Native.String.{String}
 use mathlib.Core.Bool.{Bool, true, false, not, _&&_, _||_}
 use mathlib.Core.Bool as Bool
 use mathlib.Core.List.{List, [], _∷_, map}
-use mathlib.Core.Option.{Option, none, some}
+use mathlib.Core.Option.{Option, none, some, Option·getD}
 use mathlib.Core.Path.{_≡_, refl, sym, ap, _∙_}
 use native.Mathlib.Numerals.{add-one}
 use native.Mathlib.Omega.{arith}
@@ -22,8 +22,12 @@ use Rattle.patterns.specs.declared.pattern.Wildcard.the-variants as W
 use Rattle.patterns.specs.Host.{Endpoint, nameCase}
 use Rattle.patterns.specs.Pattern.{Pattern, isNameByte, hostPattern}
 use Rattle.tables.specs.Table.{Matcher, isTableName, tableName, patternWith}
+use Rattle.tables.specs.Tried.{lookedWith}
+use Rattle.tables.specs.Code.{tablesIn}
 use Rattle.views.specs.declared.Naming.{Naming}
 use Rattle.views.specs.declared.Naming.the-variants as N
+use Rattle.views.specs.declared.Reference.{Reference}
+use Rattle.views.specs.View.{namingOf, notedTried, referenceOf}
 use Rattle.patterns.specs.Code.{wildcardOf, wildcardPattern, matchesPattern}
 use Rattle.patterns.proofs.TestLaws.{firstAmong-head, indexOf-length}
 use Rattle.patterns.proofs.PatternLaws.{wildcard-of, isSome-given}
@@ -32,8 +36,8 @@ use Rattle.elements.specs.declared.User.the-variants as U
 use Rattle.elements.specs.declared.Found.{Found}
 use Rattle.elements.specs.declared.Found.the-variants.{No, Ask}
 use Rattle.elements.specs.Request.{Request, requestOf, userCase, wellFormed}
-use Rattle.elements.specs.Element.{halves, clientReserved, daemonReserved, namedTable, isPlainName, daemonName, userHalf, foundIf, daemonParts, clientParts, daemonElement, clientElement, lookAt}
-use Rattle.elements.specs.Code.{namingWith, elementNaming, userFits, atSign, nameFits, nameEquals, userTest, userFound, askIf, nobody, daemonRequest, clientRequest}
+use Rattle.elements.specs.Element.{halves, clientReserved, daemonReserved, namedTable, isPlainName, daemonName, userHalf, foundIf, daemonParts, clientParts, daemonElement, clientElement, lookAt, elementLooked}
+use Rattle.elements.specs.Code.{noted, noReference, referenceWith, elementReference, saying, namingWith, elementNaming, userFits, atSign, nameFits, nameEquals, userTest, userFound, askIf, nobody, daemonRequest, clientRequest}
 
 -- ## Halves
 
@@ -105,24 +109,72 @@ pub slash-some : (t : List ℕ) (x : Bool) → x ≡ firstAmong "/" t → x ≡ 
 slash-some [] x is-x q = absurd (Bool.true≢false (sym q ∙ is-x))
 slash-some (y ∷ t) x is-x q = omega arith
 
-module _ (f : List ℕ → Naming) (t : List ℕ) where
-  pub naming-plain : (x : Bool) → x ≡ firstAmong "/" t → x ≡ false → N.Sound ≡ namingWith f (tableName t)
+module _ (k : ℕ) (tables notes t : List ℕ) (r : Reference) where
+  pub reference-plain : (x : Bool) → x ≡ firstAmong "/" t → x ≡ false → r ≡ noReference → r ≡ referenceWith k tables notes (tableName t)
   unfolding tableName
-  naming-plain x is-x q = rw (← is-x, q)
+  reference-plain x is-x q is-r = rw (← is-x, q) is-r
 
-  pub naming-slash : (x : Bool) → x ≡ firstAmong "/" t → x ≡ true → (n : List ℕ) → n ≡ take (length t - 1) (drop 1 t)
-      → (r : Naming) → r ≡ namingWith f (given (isTableName n) n) → r ≡ namingWith f (tableName t)
+  pub reference-slash : (x : Bool) → x ≡ firstAmong "/" t → x ≡ true → (n : List ℕ) → n ≡ take (length t - 1) (drop 1 t)
+      → r ≡ referenceWith k tables notes (given (isTableName n) n) → r ≡ referenceWith k tables notes (tableName t)
   unfolding tableName
-  naming-slash x is-x q n is-n r k = rw (← is-x, q, ← (take-rest t 1), ← is-n) k
+  reference-slash x is-x q n is-n is-r = rw (← is-x, q, ← (take-rest t 1), ← is-n) is-r
 
-module _ (f : List ℕ → Naming) (e : List ℕ) (at : ℕ) (is-at : at ≡ atSign e) (r : Naming) where
-  pub elementNaming-whole : at ≡ length e → r ≡ namingWith f (tableName e) → r ≡ elementNaming f e
-  unfolding elementNaming namedTable
-  elementNaming-whole h q = rw (halves-none e at is-at h) q
+module _ (k : ℕ) (tables notes n : List ℕ) (y : Bool) (is-y : y ≡ isTableName n) (r : Reference) where
+  pub reference-named : y ≡ true → r ≡ referenceOf k (tablesIn tables) notes n → r ≡ referenceWith k tables notes (given (isTableName n) n)
+  reference-named q is-r = rw (← is-y, q) is-r
 
-  pub elementNaming-half : (at ≡ length e → ⊥) → r ≡ namingWith f (tableName (take (length e - (at + 1)) (drop (at + 1) e))) → r ≡ elementNaming f e
-  unfolding elementNaming namedTable
-  elementNaming-half h q = rw (halves-some e at is-at h) (q ∙ ap (λ (t : List ℕ). namingWith f (tableName t)) (take-rest e (at + 1)))
+  pub reference-unnamed : y ≡ false → r ≡ noReference → r ≡ referenceWith k tables notes (given (isTableName n) n)
+  reference-unnamed q is-r = rw (← is-y, q) is-r
+
+module _ (k : ℕ) (tables notes e : List ℕ) (at : ℕ) (is-at : at ≡ atSign e) (r : Reference) where
+  pub reference-whole : at ≡ length e → r ≡ referenceWith k tables notes (tableName e) → r ≡ elementReference k tables notes e
+  unfolding elementReference namedTable
+  reference-whole h q = rw (halves-none e at is-at h) q
+
+  pub reference-half : (at ≡ length e → ⊥) → r ≡ referenceWith k tables notes (tableName (take (length e - (at + 1)) (drop (at + 1) e)))
+      → r ≡ elementReference k tables notes e
+  unfolding elementReference namedTable
+  reference-half h q = rw (halves-some e at is-at h) (q ∙ ap (λ (t : List ℕ). referenceWith k tables notes (tableName t)) (take-rest e (at + 1)))
+
+-- what a reference tells of the element that it was found for
+module _ (k : ℕ) (tables notes e : List ℕ) (r : Reference) (is-r : r ≡ elementReference k tables notes e) where
+  pub reference-naming : r .naming ≡ elementNaming (namingOf (tablesIn tables) notes) e
+  unfolding elementReference elementNaming referenceOf
+  reference-naming = ap (λ (x : Reference). x .naming) is-r ∙ by (namedTable e)
+    where
+      by : (o : Option (List ℕ)) → referenceWith k tables notes o .naming ≡ namingWith (namingOf (tablesIn tables) notes) o
+      by none = refl
+      by (some n) = refl
+
+  pub reference-matches : (h : Endpoint) → r .matches ≡ holds (λ n. noted k tables notes n h) (namedTable e)
+  unfolding elementReference referenceOf noted
+  reference-matches h = ap (λ (x : Reference). x .matches) is-r ∙ by (namedTable e)
+    where
+      by : (o : Option (List ℕ)) → referenceWith k tables notes o .matches ≡ holds (λ n. noted k tables notes n h) o
+      by none = refl
+      by (some n) = refl
+
+  pub reference-looked : 1 + r .tried ≡ elementLooked (notedTried k (tablesIn tables) notes) e
+  unfolding elementReference elementLooked referenceOf
+  reference-looked = ap (λ (x : Reference). 1 + x .tried) is-r ∙ by (namedTable e)
+    where
+      by : (o : Option (List ℕ)) → 1 + referenceWith k tables notes o .tried ≡ lookedWith (notedTried k (tablesIn tables) notes) o
+      by none = refl
+      by (some n) = refl
+
+-- a whole element that begins with no slash names no table
+module _ (e : List ℕ) (whole : length e ≡ atSign e) (slashless : firstAmong "/" e ≡ false) where
+  unnamed : namedTable e ≡ none
+  unfolding namedTable tableName
+  unnamed = rw (halves-none e (length e) whole refl, slashless)
+
+  pub naming-none : (f : List ℕ → Naming) → N.Sound ≡ elementNaming f e
+  unfolding elementNaming
+  naming-none f = rw unnamed
+
+  pub looked-none : (c : List ℕ → ℕ) → 1 ≡ elementLooked c e
+  unfolding elementLooked
+  looked-none c = rw unnamed
 
 -- ## Names
 
@@ -455,6 +507,67 @@ module _ (m : Matcher) (e : List ℕ) (at : ℕ) (is-at : at ≡ atSign e) (c : 
             neither false = refl
         by (some f) none = refl
         by (some f) (some g) = refl
+
+-- ## A table that is looked up before the element is read
+
+module _ (m : Matcher) (b : Bool) where
+  pattern-once : (h : Endpoint) (t : List ℕ) → b ≡ holds (λ n. m n h) (tableName t)
+      → matchesPattern (patternWith (saying b) t) h ≡ matchesPattern (patternWith m t) h
+  unfolding patternWith saying
+  pattern-once h t is-b = by (firstAmong "/" t) (tableName t) is-b
+    where
+      by : (x : Bool) (o : Option (List ℕ)) → b ≡ holds (λ n. m n h) o
+          → matchesPattern (if x then (o >>= λ n. some (saying b n)) else hostPattern t) h ≡ matchesPattern (if x then (o >>= λ n. some (m n)) else hostPattern t) h
+      by true none q = refl
+      by true (some n) q = q
+      by false o q = refl
+
+  pub daemon-once : (q : Request) (e : List ℕ) → b ≡ holds (λ n. m n (q .server)) (namedTable e)
+      → lookAt q (daemonElement (saying b) e) ≡ lookAt q (daemonElement m e)
+  unfolding daemonElement daemonParts namedTable
+  daemon-once q e is-b = by (halves e) is-b
+    where
+      through : (f : List ℕ → Bool) (p : Pattern) → lookAt q (p >>= λ g. some (λ r. foundIf (f (r .daemon) && g (r .server))))
+          ≡ foundIf (f (q .daemon) && matchesPattern p (q .server))
+      through f none = ap foundIf (sym (Bool.and-false (f (q .daemon))))
+      through f (some g) = refl
+
+      both : (o : Option (List ℕ → Bool)) (p k : Pattern) → matchesPattern p (q .server) ≡ matchesPattern k (q .server)
+          → lookAt q (o >>= λ f. p >>= λ g. some (λ r. foundIf (f (r .daemon) && g (r .server))))
+          ≡ lookAt q (o >>= λ f. k >>= λ g. some (λ r. foundIf (f (r .daemon) && g (r .server))))
+      both none p k z = refl
+      both (some f) p k z = through f p ∙ ap (λ (x : Bool). foundIf (f (q .daemon) && x)) z ∙ sym (through f k)
+
+      by : (h : Option (List ℕ × List ℕ)) → b ≡ holds (λ n. m n (q .server)) (tableName (Option·getD (h >>= λ p. some (p .1)) e))
+          → lookAt q (daemonParts (saying b) e h) ≡ lookAt q (daemonParts m e h)
+      by none z = refl
+      by (some p) z = both (daemonName (p .0)) (patternWith (saying b) (p .1)) (patternWith m (p .1)) (pattern-once (q .server) (p .1) z)
+
+  pub client-once : (q : Request) (e : List ℕ) → b ≡ holds (λ n. m n (q .client)) (namedTable e)
+      → lookAt q (clientElement (saying b) e) ≡ lookAt q (clientElement m e)
+  unfolding clientElement clientParts namedTable
+  client-once q e is-b = by (halves e) is-b
+    where
+      whole : (p : Pattern) → lookAt q (p >>= λ g. some (λ r. foundIf (g (r .client)))) ≡ foundIf (matchesPattern p (q .client))
+      whole none = refl
+      whole (some g) = refl
+
+      through : (f : Request → Bool) (p : Pattern)
+          → lookAt q (p >>= λ g. some (λ r. if g (r .client) then userCase r Ask (foundIf (f r)) (foundIf (f r)) else No))
+          ≡ (if matchesPattern p (q .client) then userCase q Ask (foundIf (f q)) (foundIf (f q)) else No)
+      through f none = refl
+      through f (some g) = refl
+
+      both : (o : Option (Request → Bool)) (p k : Pattern) → matchesPattern p (q .client) ≡ matchesPattern k (q .client)
+          → lookAt q (o >>= λ f. p >>= λ g. some (λ r. if g (r .client) then userCase r Ask (foundIf (f r)) (foundIf (f r)) else No))
+          ≡ lookAt q (o >>= λ f. k >>= λ g. some (λ r. if g (r .client) then userCase r Ask (foundIf (f r)) (foundIf (f r)) else No))
+      both none p k z = refl
+      both (some f) p k z = through f p ∙ ap (λ (x : Bool). if x then userCase q Ask (foundIf (f q)) (foundIf (f q)) else No) z ∙ sym (through f k)
+
+      by : (h : Option (List ℕ × List ℕ)) → b ≡ holds (λ n. m n (q .client)) (tableName (Option·getD (h >>= λ p. some (p .1)) e))
+          → lookAt q (clientParts (saying b) e h) ≡ lookAt q (clientParts m e h)
+      by none z = whole (patternWith (saying b) e) ∙ ap foundIf (pattern-once (q .client) e z) ∙ sym (whole (patternWith m e))
+      by (some p) z = both (userHalf (p .0)) (patternWith (saying b) (p .1)) (patternWith m (p .1)) (pattern-once (q .client) (p .1) z)
 
 -- ## What elements look at
 

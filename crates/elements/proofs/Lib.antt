@@ -1,3 +1,4 @@
+pub mod CountLaws
 pub mod ElementLaws
 pub mod SeenLaws
 pub mod HeldLaws

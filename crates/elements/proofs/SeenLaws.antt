@@ -1,6 +1,6 @@
 -- Laws of an element that is checked and looked at in one reading, shaped as the calls and tests of the code hand their facts over.
 -- Assumes nothing.
-use Prim.Native.Nat.{ℕ, suc, _-_, _<_, _≤_}
+use Prim.Native.Nat.{ℕ, suc, _+_, _-_, _<_, _≤_}
 use mathlib.Core.Bool.{Bool, true, false, not, _&&_, and-assoc, and-false, and-true as and-true-r, true≢false}
 use mathlib.Core.List.{List, [], _∷_}
 use mathlib.Core.Option.{none, some}
@@ -22,11 +22,10 @@ use Rattle.patterns.specs.declared.pattern.Wildcard.the-variants as W
 use Rattle.patterns.specs.Host.{Endpoint}
 use Rattle.patterns.specs.Pattern.{Pattern, isNameByte, hostPattern}
 use Rattle.tables.specs.Table.{Matcher, isTableName, tableName, patternWith}
-use Rattle.tables.specs.Code.{tablesIn}
+use Rattle.tables.specs.Tried.{capped}
 use Rattle.views.specs.declared.Naming.{Naming}
 use Rattle.views.specs.declared.Naming.the-variants as N
 use Rattle.views.specs.declared.Reference.{Reference}
-use Rattle.views.specs.View.{notedMatch, namingOf, referenceOf}
 use Rattle.patterns.specs.Code.{Named, wordSize, wildcardOf, matchesPattern, hostSeen, patternSeen}
 use Rattle.patterns.proofs.PatternLaws.{wildcardOf-sized}
 use Rattle.classes.specs.Class.{Describes}
@@ -36,10 +35,11 @@ use Rattle.elements.specs.declared.Found.the-variants.{No}
 use Rattle.elements.specs.declared.element.ElementFault.{ElementFault}
 use Rattle.elements.specs.declared.element.KindSeen.{KindSeen}
 use Rattle.elements.specs.Request.{Request}
-use Rattle.elements.specs.Element.{Element, clientReserved, daemonReserved, daemonName, userHalf, foundIf, daemonElement, clientElement, lookAt}
-use Rattle.elements.specs.Code.{View, Kind, noted, tableSeen, namingWith, elementNaming, daemonKind, clientKind}
+use Rattle.elements.specs.Element.{Element, clientReserved, daemonReserved, daemonName, userHalf, foundIf, daemonElement, clientElement, lookAt, elementLooked}
+use Rattle.elements.specs.Code.{View, Kind, viewOf, noted, elementReference, saying, tableSeen, daemonKind, clientKind, counted, lookedFor}
 use Rattle.elements.specs.Code.{atSign, nameFits, nameEquals, daemonSeen, userFound, daemonRequest, clientRequest, faultOf, elementFault, sought, kindSeen, elementSeen}
-use Rattle.elements.proofs.ElementLaws.{clientReserved-whole, daemonReserved-client, elementNaming-whole, naming-plain}
+use Rattle.elements.proofs.ElementLaws.{clientReserved-whole, daemonReserved-client, naming-none, looked-none}
+use Rattle.elements.proofs.ElementLaws.{reference-naming, reference-matches, reference-looked, daemon-sound, client-sound, daemon-once, client-once}
 use Rattle.elements.proofs.ElementLaws.{daemonAt, daemonName-is, isSome-daemonAt, daemonAt-equals, after}
 use Rattle.elements.proofs.ElementLaws.{daemonElement-whole, clientElement-whole, daemonElement-both, clientElement-both}
 use Rattle.elements.proofs.ElementLaws.{daemon-found-whole, client-found-whole, daemon-found-both, client-found-both}
@@ -182,13 +182,55 @@ module _ (m : Matcher) (e : List ℕ) (at : ℕ) (is-at : at ≡ atSign e) (look
 
 pub elementSeen-is : (look : Bool) (q : Request) (of : Kind) (e : List ℕ) (k : KindSeen) → k ≡ kindSeen look q (of .element e)
     → (x : Bool) → x ≡ of .reserved e → (n : Naming) → n ≡ of .naming e → (f : ElementFault) → f ≡ faultOf x (k .sound) n
-    → record { fault = f; found = k .found } ≡ elementSeen look q of e
+    → (c : ℕ) → c ≡ counted look (capped (of .looked e)) → record { fault = f; found = k .found; looked = c } ≡ elementSeen look q of e
 unfolding elementSeen elementFault kindSeen
-elementSeen-is look q of e k is-k x is-x n is-n f is-f = rw (is-f, is-x, is-n, is-k)
+elementSeen-is look q of e k is-k x is-x n is-n f is-f c is-c = rw (is-f, is-x, is-n, is-k, is-c)
 
-pub found-kind : (q : Request) (o : Element) (r : KindSeen) → r ≡ kindSeen true q o → r .found ≡ lookAt q o
-unfolding kindSeen
-found-kind q o r is-r = ap (λ (x : KindSeen). x .found) is-r
+-- r the reference of e
+module _ (tables notes e : List ℕ) (look : Bool) (r : Reference) (c : ℕ) (is-c : c ≡ counted look (capped (1 + r .tried))) (k : KindSeen) where
+  module _ (is-r : r ≡ elementReference 1 tables notes e) (d : List ℕ) (s : Endpoint)
+      (is-k : k ≡ kindSeen look (daemonRequest d s) (daemonElement (saying (r .matches)) e))
+    where
+      daemon-kind : k ≡ kindSeen look (daemonRequest d s) (daemonElement (noted 1 tables notes) e)
+      unfolding kindSeen
+      daemon-kind = is-k ∙ ap₂ kind (daemon-sound (saying (r .matches)) (noted 1 tables notes) e)
+          (ap (sought look) (daemon-once (noted 1 tables notes) (r .matches) (daemonRequest d s) e (reference-matches 1 tables notes e r is-r s)))
+
+      daemon-count : c ≡ counted look (capped (elementLooked (viewOf tables notes .serverTried) e))
+      daemon-count = is-c ∙ ap (λ (n : ℕ). counted look (capped n)) (reference-looked 1 tables notes e r is-r)
+
+      pub daemon-any-is : (x : Bool) → x ≡ daemonReserved e → (f : ElementFault) → f ≡ faultOf x (k .sound) (r .naming)
+          → record { fault = f; found = k .found; looked = c } ≡ elementSeen look (daemonRequest d s) (daemonKind (viewOf tables notes)) e
+      daemon-any-is x is-x f is-f = elementSeen-is look (daemonRequest d s) (daemonKind (viewOf tables notes)) e k daemon-kind x is-x
+          (r .naming) (reference-naming 1 tables notes e r is-r) f is-f c daemon-count
+
+      pub daemon-found-is : look ≡ true
+          → lookedFor (k .found) c
+          ≡ lookedFor (lookAt (daemonRequest d s) (daemonElement (noted 1 tables notes) e)) (capped (elementLooked (viewOf tables notes .serverTried) e))
+      unfolding kindSeen
+      daemon-found-is l = ap₂ lookedFor (ap (λ (x : KindSeen). x .found) daemon-kind ∙ rw l) (daemon-count ∙ rw l)
+
+  module _ (is-r : r ≡ elementReference 0 tables notes e) (h : Endpoint) (u : User) (name : List ℕ)
+      (is-k : k ≡ kindSeen look (clientRequest h u name) (clientElement (saying (r .matches)) e))
+    where
+      client-kind : k ≡ kindSeen look (clientRequest h u name) (clientElement (noted 0 tables notes) e)
+      unfolding kindSeen
+      client-kind = is-k ∙ ap₂ kind (client-sound (saying (r .matches)) (noted 0 tables notes) e)
+          (ap (sought look) (client-once (noted 0 tables notes) (r .matches) (clientRequest h u name) e (reference-matches 0 tables notes e r is-r h)))
+
+      client-count : c ≡ counted look (capped (elementLooked (viewOf tables notes .clientTried) e))
+      client-count = is-c ∙ ap (λ (n : ℕ). counted look (capped n)) (reference-looked 0 tables notes e r is-r)
+
+      pub client-any-is : (x : Bool) → x ≡ clientReserved e → (f : ElementFault) → f ≡ faultOf x (k .sound) (r .naming)
+          → record { fault = f; found = k .found; looked = c } ≡ elementSeen look (clientRequest h u name) (clientKind (viewOf tables notes)) e
+      client-any-is x is-x f is-f = elementSeen-is look (clientRequest h u name) (clientKind (viewOf tables notes)) e k client-kind x is-x
+          (r .naming) (reference-naming 0 tables notes e r is-r) f is-f c client-count
+
+      pub client-found-is : look ≡ true
+          → lookedFor (k .found) c
+          ≡ lookedFor (lookAt (clientRequest h u name) (clientElement (noted 0 tables notes) e)) (capped (elementLooked (viewOf tables notes .clientTried) e))
+      unfolding kindSeen
+      client-found-is l = ap₂ lookedFor (ap (λ (x : KindSeen). x .found) client-kind ∙ rw l) (client-count ∙ rw l)
 
 -- ## A client element that is told to be a domain or a name
 
@@ -241,21 +283,19 @@ module _ (e : List ℕ) (h : all isNameByte e ≡ true) where
   daemon-unreserved : false ≡ daemonReserved e
   daemon-unreserved = daemonReserved-client e false (sym slashless) refl false client-unreserved
 
-  names-none : (f : List ℕ → Naming) → N.Sound ≡ elementNaming f e
-  names-none f = elementNaming-whole f e (length e) whole N.Sound refl (naming-plain f e false (sym slashless) refl)
-
   plain-pattern : (m : Matcher) → patternWith m e ≡ hostPattern e
   unfolding patternWith
   plain-pattern m = rw slashless
 
 pub named-client : (v : View) (e : List ℕ) → Named e → (look : Bool) (c : Endpoint) (u : User) (name : List ℕ) (g : HostSeen)
     → g ≡ patternSeen look (hostPattern e) c → (f : ElementFault) → f ≡ faultOf false (g .sound) N.Sound → (x : Found) → x ≡ foundIf (g .matches)
-    → record { fault = f; found = x } ≡ elementSeen look (clientRequest c u name) (clientKind v) e
-named-client v e h look c u name g is-g f is-f x is-x =
+    → (n : ℕ) → n ≡ counted look (capped (1 + 0)) → record { fault = f; found = x; looked = n } ≡ elementSeen look (clientRequest c u name) (clientKind v) e
+named-client v e h look c u name g is-g f is-f x is-x n is-n =
     let is-with : g ≡ patternSeen look (patternWith (v .client) e) c = is-g ∙ ap (λ (p : Pattern). patternSeen look p c) (sym (plain-pattern e (h .names) (v .client))) in
     elementSeen-is look (clientRequest c u name) (clientKind v) e (kind (g .sound) x)
     (clientKind-whole (v .client) e (length e) (whole e (h .names)) look c u name g refl is-with x is-x) false (client-unreserved e (h .names))
-    N.Sound (names-none e (h .names) (v .naming)) f is-f
+    N.Sound (naming-none e (whole e (h .names)) (slashless e (h .names)) (v .naming)) f is-f
+    n (is-n ∙ ap (λ (k : ℕ). counted look (capped k)) (looked-none e (whole e (h .names)) (slashless e (h .names)) (v .clientTried)))
 
 -- a daemon element that is told to be a name: x says whether it is as long as a wildcard
 module _ (k : ℕ) (e : List ℕ) (h : Describes k e) (x : Bool) (is-x : x ≡ wordSize (length e)) (t : (not x && ltb k 8) ≡ true) where
@@ -264,59 +304,30 @@ module _ (k : ℕ) (e : List ℕ) (h : Describes k e) (x : Bool) (is-x : x ≡ w
 
   pub named-daemon : (v : View) (look : Bool) (d : List ℕ) (s : Endpoint) (g : HostSeen) → g ≡ hostSeen (nameFits e) (look && nameEquals e d)
       → (f : ElementFault) → f ≡ faultOf false (g .sound) N.Sound → (y : Found) → y ≡ foundIf (g .matches)
-      → record { fault = f; found = y } ≡ elementSeen look (daemonRequest d s) (daemonKind v) e
-  named-daemon v look d s g is-g f is-f y is-y =
+      → (n : ℕ) → n ≡ counted look (capped (1 + 0)) → record { fault = f; found = y; looked = n } ≡ elementSeen look (daemonRequest d s) (daemonKind v) e
+  named-daemon v look d s g is-g f is-f y is-y n is-n =
       let nothing : wildcardOf e ≡ W.Nothing = sym (wildcardOf-sized e x is-x (and-true (not x) (ltb k 8) t .0)) in
       let names : all isNameByte e ≡ true = sym names-described in
       elementSeen-is look (daemonRequest d s) (daemonKind v) e (kind (g .sound) y)
       (daemonKind-whole (v .server) e (length e) (whole e names) look d s g refl (daemonSeen-name e d look (wildcardOf e) refl g nothing is-g) y is-y)
-      false (daemon-unreserved e names) N.Sound (names-none e names (v .naming)) f is-f
+      false (daemon-unreserved e names) N.Sound (naming-none e (whole e names) (slashless e names) (v .naming)) f is-f
+      n (is-n ∙ ap (λ (k : ℕ). counted look (capped k)) (looked-none e (whole e names) (slashless e names) (v .serverTried)))
 
 -- ## Host halves
 
-module _ (look : Bool) (k : ℕ) (tables notes e : List ℕ) where
-  -- the name test and, where it is looked at, what the notes say
-  module _ (y : Bool) (is-y : y ≡ isTableName (take (length e - 1) (drop 1 e))) where
-    name : isTableName (drop 1 e) ≡ y
-    name = ap isTableName (sym (take-rest e 1)) ∙ sym is-y
+pub table-is : (look matched : Bool) (e : List ℕ) (y : Bool) → y ≡ isTableName (take (length e - 1) (drop 1 e))
+    → hostSeen y (look && (y && matched)) ≡ tableSeen look matched e
+table-is look matched e y is-y = ap (λ (b : Bool). hostSeen b (look && (b && matched))) (is-y ∙ ap isTableName (take-rest e 1))
 
-    pub table-looked : (look && y) ≡ true → (r : Reference) → r ≡ referenceOf k (tablesIn tables) notes (take (length e - 1) (drop 1 e))
-        → hostSeen y (r .matches) ≡ tableSeen look k tables notes e
-    unfolding referenceOf
-    table-looked h r is-r =
-        let both : (look ≡ true) × (y ≡ true) = and-true look y h in
-        let m : r .matches ≡ notedMatch k (tablesIn tables) notes (drop 1 e) =
-        ap (λ (x : Reference). x .matches) is-r ∙ ap (notedMatch k (tablesIn tables) notes) (take-rest e 1) in
-        ap₂ hostSeen (sym name) (m ∙ sym (rw (name, both .0, both .1)))
+module _ (look matched : Bool) (e : List ℕ) (h : Endpoint) (x : Bool) (is-x : x ≡ firstAmong "/" e) (r : HostSeen) where
+  pub half-table : x ≡ true → r ≡ tableSeen look matched e → r ≡ patternSeen look (patternWith (saying matched) e) h
+  unfolding patternSeen patternWith tableName saying
+  half-table q is-r = is-r ∙ sym (rw (← is-x, q) (by (isTableName (drop 1 e))))
+    where
+      by : (b : Bool) → patternSeen look (given b (drop 1 e) >>= λ n. some (saying matched n)) h ≡ hostSeen b (look && (b && matched))
+      by true = refl
+      by false = refl
 
-    pub table-passed : (look && y) ≡ false → hostSeen y false ≡ tableSeen look k tables notes e
-    table-passed h = ap₂ hostSeen (sym name) (by look y (notedMatch k (tablesIn tables) notes (drop 1 e)) h ∙ sym (rw name))
-      where
-        by : (l s q : Bool) → (l && s) ≡ false → false ≡ (l && (s && q))
-        by false s q z = refl
-        by true true q z = absurd (true≢false z)
-        by true false q z = refl
-
-  module _ (h : Endpoint) (x : Bool) (is-x : x ≡ firstAmong "/" e) (r : HostSeen) where
-    pub half-table : x ≡ true → r ≡ tableSeen look k tables notes e → r ≡ patternSeen look (patternWith (noted k tables notes) e) h
-    unfolding patternSeen patternWith tableName noted
-    half-table q is-r = is-r ∙ sym (rw (← is-x, q) (by (isTableName (drop 1 e))))
-      where
-        by : (b : Bool) → patternSeen look (given b (drop 1 e) >>= λ n. some (noted k tables notes n)) h
-            ≡ hostSeen b (look && (b && notedMatch k (tablesIn tables) notes (drop 1 e)))
-        by true = refl
-        by false = refl
-
-    pub half-plain : x ≡ false → r ≡ patternSeen look (hostPattern e) h → r ≡ patternSeen look (patternWith (noted k tables notes) e) h
-    unfolding patternWith
-    half-plain q is-r = is-r ∙ sym (rw (← is-x, q))
-
--- a reference that is looked up tells how the table is named
-module _ (k : ℕ) (tables notes n : List ℕ) (y : Bool) (is-y : y ≡ isTableName n) where
-  pub naming-looked : y ≡ true → (r : Reference) → r ≡ referenceOf k (tablesIn tables) notes n
-      → r .naming ≡ namingWith (namingOf (tablesIn tables) notes) (given (isTableName n) n)
-  unfolding referenceOf
-  naming-looked q r is-r = rw (← is-y, q) (ap (λ (z : Reference). z .naming) is-r)
-
-  pub naming-unnamed : y ≡ false → N.Sound ≡ namingWith (namingOf (tablesIn tables) notes) (given (isTableName n) n)
-  naming-unnamed q = rw (← is-y, q)
+  pub half-plain : x ≡ false → r ≡ patternSeen look (hostPattern e) h → r ≡ patternSeen look (patternWith (saying matched) e) h
+  unfolding patternWith
+  half-plain q is-r = is-r ∙ sym (rw (← is-x, q))

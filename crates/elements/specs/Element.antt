@@ -1,9 +1,10 @@
--- Document 01, "Elements" and "Asking", and document 02, request 1: the elements of daemon and client lists, where m says what a named
--- table matches.
+-- Document 01, "Elements" and "Asking", and document 02, requests 1 and 12: the elements of daemon and client lists, where m says what a
+-- named table matches, c what is tried in it.
 --   halves e         == what stands before and after the `@` that parts e
 --   daemonReserved e, clientReserved e == e is refused by 9
 --   namedTable e     == the table that e names
 --   daemonElement m e, clientElement m e == what e finds of a request, none where it is of no kind
+--   elementLooked c e == how many elements are looked at with e: itself, and what is tried in the table that it names
 -- Assumes nothing: these are definitions.
 use Prim.Native.Nat.{ℕ}
 use mathlib.Core.Bool.{Bool, true, false, not, _&&_, _||_}
@@ -14,6 +15,7 @@ use Rattle.text.specs.Basics.{if_then_else_, _>>=_, _orElse_, given, holds, isS
 use Rattle.text.specs.Text.{bytes, firstAmong, consFirst, splitOnce, inRange, equalFold, isWord}
 use Rattle.patterns.specs.Pattern.{wildcard, isNameByte}
 use Rattle.tables.specs.Table.{Matcher, tableName, patternWith}
+use Rattle.tables.specs.Tried.{lookedWith}
 use Rattle.elements.specs.declared.Found.{Found}
 use Rattle.elements.specs.declared.Found.the-variants.{No, Yes, Ask}
 use Rattle.elements.specs.Request.{Request, userCase}
@@ -94,3 +96,7 @@ clientElement m e = clientParts m e (halves e)
 abbrev pub lookAt : Request → Element → Found
 lookAt r none = No
 lookAt r (some f) = f r
+
+-- Request 12: "an element with `@` counts once, the one that asks included"; "a table after an `@` is always tried": whatever stands before it
+unfoldable pub elementLooked : (List ℕ → ℕ) → List ℕ → ℕ
+elementLooked c e = lookedWith c (namedTable e)

@@ -2,7 +2,9 @@
 //   daemon_seen(e, mask, look, ..), client_seen(e, mask, look, ..) == what is wrong with e and, if it is looked at, what it finds
 //   daemon_found(e, mask, ..), client_found(e, mask, ..) == what it finds
 use super::Found;
+use super::Looked;
 use super::User;
+use super::count;
 use patterns::Host;
 use patterns::HostSeen;
 use patterns::Name;
@@ -17,6 +19,7 @@ use tables::word::has_slash;
 use tables::word::is_table_name;
 use text::equal_fold;
 use views::Naming;
+use views::Reference;
 use views::look_up;
 ghost use mathlib.Core.Path.{_≡_};
 ghost use mathlib.Core.Bool.{true, false, _&&_};
@@ -29,10 +32,11 @@ ghost use Rattle.patterns.specs.Host.{endpoint, nameCase};
 ghost use Rattle.patterns.specs.Pattern.{isNameByte};
 ghost use Rattle.patterns.specs.Code.{isDottedByte, hostSeen, patternSeen};
 ghost use Rattle.tables.specs.Table.{isTableName, tableName, patternWith};
+ghost use Rattle.tables.specs.Tried.{capped};
 ghost use Rattle.classes.specs.Class.{Describes};
 ghost use Rattle.elements.specs.Request.{requestOf, wellFormed};
-ghost use Rattle.elements.specs.Element.{clientReserved, daemonReserved, foundIf, daemonName, userHalf, daemonElement, clientElement, lookAt};
-ghost use Rattle.elements.specs.Code.{viewOf, noted, tableSeen, namingWith, elementNaming, daemonKind, clientKind, misnamed};
+ghost use Rattle.elements.specs.Element.{clientReserved, daemonReserved, foundIf, daemonName, userHalf, daemonElement, clientElement, lookAt, elementLooked};
+ghost use Rattle.elements.specs.Code.{viewOf, noReference, referenceWith, elementReference, saying, tableSeen, daemonKind, clientKind, misnamed, lookedFor};
 ghost use Rattle.elements.specs.Code.{faultOf, kindSeen, elementSeen, daemonSeen, daemonRequest, clientRequest};
 ghost use Rattle.elements.specs.Code.{atSign, nameFits, nameEquals, askIf, userTest, userFound, userFits};
 
@@ -45,10 +49,11 @@ pub enum ElementFault {
     Deep,
 }
 
-// What is wrong with an element, and what it finds, if it is looked at.
+// What is wrong with an element, and what it finds and counts, if it is looked at.
 pub struct ElementSeen {
     pub fault: ElementFault,
     pub found: Found,
+    pub looked: u64,
 }
 
 // Whether a text is of a kind of element, and what it finds, if it is looked at.
@@ -118,100 +123,93 @@ fn is_daemon_reserved(e: &[u8], at: usize) -> bool
     is_client_reserved(e, at)
 }
 
-// How a table of that name may be named; sound where it is no name.
-fn naming_of_table(name: &[u8], tables: &[u8], notes: &[u64]) -> Naming
+// What is known where no table is named.
+fn no_reference() -> Reference
+    ensures { λ r. ⌜ r ≡ noReference ⌝ }
+{
+    Reference {
+        naming: Naming::Sound,
+        matches: false,
+        tried: 0,
+    }
+}
+
+// What the notes say of a table of that name, if it is a name.
+fn reference_of_table(tables: &[u8], notes: &[u64], k: usize, name: &[u8]) -> Reference
     ensures { λ r.
-        ⌜ r ≡ namingWith (viewOf (now (tables .entry)) (now (notes .entry)) .naming) (given (isTableName (now (name .entry))) (now (name .entry))) ⌝ }
+        ⌜ r ≡ referenceWith k (now (tables .entry)) (now (notes .entry)) (given (isTableName (now (name .entry))) (now (name .entry))) ⌝ }
 {
     if is_table_name(name) {
-        let found = look_up(tables, notes, 0, name);
-        let naming = found.naming;
-        return naming;
+        look_up(tables, notes, k, name)
+    } else {
+        no_reference()
     }
-    Naming::Sound
 }
 
-// How t, a host half, names a table.
-fn naming_of_half(t: &[u8], tables: &[u8], notes: &[u64]) -> Naming
-    ensures { λ r. ⌜ r ≡ namingWith (viewOf (now (tables .entry)) (now (notes .entry)) .naming) (tableName (now (t .entry))) ⌝ }
+// What they say of the table that t, a host half, names.
+fn reference_of_half(tables: &[u8], notes: &[u64], k: usize, t: &[u8]) -> Reference
+    ensures { λ r. ⌜ r ≡ referenceWith k (now (tables .entry)) (now (notes .entry)) (tableName (now (t .entry))) ⌝ }
 {
     if has_slash(t) {
-        naming_of_table(&t[1..], tables, notes)
+        reference_of_table(tables, notes, k, &t[1..])
     } else {
-        Naming::Sound
+        no_reference()
     }
 }
 
-// How the element e, parted at at, names a table.
-fn naming_of(e: &[u8], at: usize, tables: &[u8], notes: &[u64]) -> Naming
+// What they say of the table that the element e, parted at at, names: all that is told of a table is looked up here, once.
+fn reference_of(tables: &[u8], notes: &[u64], k: usize, e: &[u8], at: usize) -> Reference
     requires { ⌜ (at ≡ atSign (now e)) × (at ≤ length (now e)) ⌝ }
-    ensures { λ r. ⌜ r ≡ elementNaming (viewOf (now (tables .entry)) (now (notes .entry)) .naming) (now (e .entry)) ⌝ }
+    ensures { λ r. ⌜ r ≡ elementReference k (now (tables .entry)) (now (notes .entry)) (now (e .entry)) ⌝ }
 {
     if at == e.len() {
-        return naming_of_half(e, tables, notes);
+        return reference_of_half(tables, notes, k, e);
     }
     let after = at + 1;
-    naming_of_half(&e[after..], tables, notes)
+    reference_of_half(tables, notes, k, &e[after..])
 }
 
-// Whether e, which begins with a slash, names a table and, if it is looked at, whether that matches.
-fn table_seen(e: &[u8], look: bool, tables: &[u8], notes: &[u64], k: usize) -> HostSeen
+// Whether e, which begins with a slash, names a table and, if it is looked at, whether that matches; matched: what its table does.
+fn table_seen(e: &[u8], look: bool, matched: bool) -> HostSeen
     requires { ⌜ true ≡ firstAmong "/" (now e) ⌝ }
-    ensures { λ r. ⌜ r ≡ tableSeen look k (now (tables .entry)) (now (notes .entry)) (now (e .entry)) ⌝ }
+    ensures { λ r. ⌜ r ≡ tableSeen look matched (now (e .entry)) ⌝ }
 {
-    let name = &e[1..];
-    let sound = is_table_name(name);
-    if look & sound {
-        let found = look_up(tables, notes, k, name);
-        return HostSeen {
-            sound,
-            matches: found.matches,
-        };
-    }
+    let sound = is_table_name(&e[1..]);
     HostSeen {
         sound,
-        matches: false,
+        matches: look & (sound & matched),
     }
 }
 
-// Whether e is a host pattern and, if it is looked at, matches; names, dotted: what its bytes tell.
+// Whether e is a host pattern and, if it is looked at, matches; names, dotted: what its bytes tell, matched: what the table does that it
+// names.
 fn half_seen(
     e: &[u8],
     names: bool,
     dotted: bool,
     look: bool,
-    tables: &[u8],
-    notes: &[u64],
-    k: usize,
+    matched: bool,
     host: Host,
     name: &[u8],
 ) -> HostSeen
     requires { ⌜ (names ≡ all isNameByte (now e)) × (dotted ≡ all isDottedByte (now e)) ⌝ }
     ensures { λ r.
-        ⌜ r ≡ patternSeen look (patternWith (noted k (now (tables .entry)) (now (notes .entry))) (now (e .entry))) (endpoint host (now (name .entry))) ⌝ }
+        ⌜ r ≡ patternSeen look (patternWith (saying matched) (now (e .entry))) (endpoint host (now (name .entry))) ⌝ }
 {
     if has_slash(e) {
-        table_seen(e, look, tables, notes, k)
+        table_seen(e, look, matched)
     } else {
         host_seen(e, names, dotted, look, host, name)
     }
 }
 
 // The same of a text of which nothing is known.
-fn half_read(
-    e: &[u8],
-    look: bool,
-    tables: &[u8],
-    notes: &[u64],
-    k: usize,
-    host: Host,
-    name: &[u8],
-) -> HostSeen
+fn half_read(e: &[u8], look: bool, matched: bool, host: Host, name: &[u8]) -> HostSeen
     ensures { λ r.
-        ⌜ r ≡ patternSeen look (patternWith (noted k (now (tables .entry)) (now (notes .entry))) (now (e .entry))) (endpoint host (now (name .entry))) ⌝ }
+        ⌜ r ≡ patternSeen look (patternWith (saying matched) (now (e .entry))) (endpoint host (now (name .entry))) ⌝ }
 {
     if has_slash(e) {
-        table_seen(e, look, tables, notes, k)
+        table_seen(e, look, matched)
     } else {
         host_read(e, look, host, name)
     }
@@ -358,32 +356,23 @@ fn user_found(t: &[u8], user: User, name: &[u8]) -> Found
     }
 }
 
-// Whether the halves of e, parted at at, make a daemon element and, if it is looked at, what that finds.
+// Whether the halves of e, parted at at, make a daemon element and, if it is looked at, what that finds; matched: what the table does that it names.
 fn daemon_halves(
     e: &[u8],
     at: usize,
     look: bool,
-    tables: &[u8],
-    notes: &[u64],
+    matched: bool,
     daemon: &[u8],
     server: Host,
     server_name: &[u8],
 ) -> KindSeen
     requires { ⌜ (at ≡ atSign (now e)) × (at < length (now e)) ⌝ }
-    ensures { λ r. ⌜ r ≡ kindSeen look (daemonRequest (now (daemon .entry)) (endpoint server (now («server_name» .entry)))) (daemonElement (viewOf (now (tables .entry)) (now (notes .entry)) .server) (now (e .entry))) ⌝ }
+    ensures { λ r. ⌜ r ≡ kindSeen look (daemonRequest (now (daemon .entry)) (endpoint server (now («server_name» .entry)))) (daemonElement (saying matched) (now (e .entry))) ⌝ }
 {
     let after = at + 1;
     let t = &e[..at];
     let name = daemon_name_seen(t, is_name(t), look, daemon);
-    let host = half_read(
-        &e[after..],
-        name.matches,
-        tables,
-        notes,
-        1,
-        server,
-        server_name,
-    );
+    let host = half_read(&e[after..], name.matches, matched, server, server_name);
     KindSeen {
         sound: name.sound & host.sound,
         found: found_if(host.matches),
@@ -396,15 +385,14 @@ fn daemon_kind(
     at: usize,
     names: bool,
     look: bool,
-    tables: &[u8],
-    notes: &[u64],
+    matched: bool,
     daemon: &[u8],
     server: Host,
     server_name: &[u8],
 ) -> KindSeen
     requires { ⌜ (at ≡ atSign (now e)) × (at ≤ length (now e)) ⌝ }
     requires { ⌜ names ≡ all isNameByte (now e) ⌝ }
-    ensures { λ r. ⌜ r ≡ kindSeen look (daemonRequest (now (daemon .entry)) (endpoint server (now («server_name» .entry)))) (daemonElement (viewOf (now (tables .entry)) (now (notes .entry)) .server) (now (e .entry))) ⌝ }
+    ensures { λ r. ⌜ r ≡ kindSeen look (daemonRequest (now (daemon .entry)) (endpoint server (now («server_name» .entry)))) (daemonElement (saying matched) (now (e .entry))) ⌝ }
 {
     if at == e.len() {
         let name = daemon_name_seen(e, names, look, daemon);
@@ -413,7 +401,7 @@ fn daemon_kind(
             found: found_if(name.matches),
         };
     }
-    daemon_halves(e, at, look, tables, notes, daemon, server, server_name)
+    daemon_halves(e, at, look, matched, daemon, server, server_name)
 }
 
 // Whether the halves of e, parted at at, make a client element and, if it is looked at, what that finds.
@@ -421,8 +409,7 @@ fn client_halves(
     e: &[u8],
     at: usize,
     look: bool,
-    tables: &[u8],
-    notes: &[u64],
+    matched: bool,
     client: Host,
     client_name: &[u8],
     user: User,
@@ -431,10 +418,10 @@ fn client_halves(
     requires { ⌜ (at ≡ atSign (now e)) × (at < length (now e)) ⌝ }
     ensures { λ r.
         ⌜ r ≡ kindSeen look (clientRequest (endpoint client (now («client_name» .entry))) user (now («user_name» .entry)))
-        (clientElement (viewOf (now (tables .entry)) (now (notes .entry)) .client) (now (e .entry))) ⌝ }
+        (clientElement (saying matched) (now (e .entry))) ⌝ }
 {
     let after = at + 1;
-    let host = half_read(&e[after..], look, tables, notes, 0, client, client_name);
+    let host = half_read(&e[after..], look, matched, client, client_name);
     let t = &e[..at];
     let sound = user_sound(t) & host.sound;
     if host.matches {
@@ -455,8 +442,7 @@ fn client_kind(
     at: usize,
     mask: u8,
     look: bool,
-    tables: &[u8],
-    notes: &[u64],
+    matched: bool,
     client: Host,
     client_name: &[u8],
     user: User,
@@ -466,7 +452,7 @@ fn client_kind(
     requires { ⌜ Describes mask (now e) ⌝ }
     ensures { λ r.
         ⌜ r ≡ kindSeen look (clientRequest (endpoint client (now («client_name» .entry))) user (now («user_name» .entry)))
-        (clientElement (viewOf (now (tables .entry)) (now (notes .entry)) .client) (now (e .entry))) ⌝ }
+        (clientElement (saying matched) (now (e .entry))) ⌝ }
 {
     if at == e.len() {
         let host = half_seen(
@@ -474,9 +460,7 @@ fn client_kind(
             mask < 8,
             mask & 241 == 0,
             look,
-            tables,
-            notes,
-            0,
+            matched,
             client,
             client_name,
         );
@@ -485,20 +469,10 @@ fn client_kind(
             found: found_if(host.matches),
         };
     }
-    client_halves(
-        e,
-        at,
-        look,
-        tables,
-        notes,
-        client,
-        client_name,
-        user,
-        user_name,
-    )
+    client_halves(e, at, look, matched, client, client_name, user, user_name)
 }
 
-// What the daemon element e finds of a request; mask: the classes of its bytes.
+// What the daemon element e finds of a request, and what it counts; mask: the classes of its bytes.
 pub fn daemon_found(
     e: &[u8],
     mask: u8,
@@ -507,26 +481,33 @@ pub fn daemon_found(
     daemon: &[u8],
     server: Host,
     server_name: &[u8],
-) -> Found
+) -> Looked
     requires { ⌜ Describes mask (now e) ⌝ }
-    ensures { λ r. ⌜ r ≡ lookAt (daemonRequest (now (daemon .entry)) (endpoint server (now («server_name» .entry)))) (daemonElement (viewOf (now (tables .entry)) (now (notes .entry)) .server) (now (e .entry))) ⌝ }
+    ensures { λ r.
+        ⌜ r ≡ lookedFor
+        (lookAt (daemonRequest (now (daemon .entry)) (endpoint server (now («server_name» .entry)))) (daemonElement (viewOf (now (tables .entry)) (now (notes .entry)) .server) (now (e .entry))))
+        (capped (elementLooked (viewOf (now (tables .entry)) (now (notes .entry)) .serverTried) (now (e .entry)))) ⌝ }
 {
     let at = sign_place(e, mask);
+    let named = reference_of(tables, notes, 1, e, at);
     let kind = daemon_kind(
         e,
         at,
         mask < 8,
         true,
-        tables,
-        notes,
+        named.matches,
         daemon,
         server,
         server_name,
     );
-    kind.found
+    let found = kind.found;
+    Looked {
+        found,
+        looked: count::if_looked(true, named.tried),
+    }
 }
 
-// What the client element e finds of a request; mask: the classes of its bytes.
+// What the client element e finds of a request, and what it counts; mask: the classes of its bytes.
 pub fn client_found(
     e: &[u8],
     mask: u8,
@@ -536,26 +517,32 @@ pub fn client_found(
     client_name: &[u8],
     user: User,
     user_name: &[u8],
-) -> Found
+) -> Looked
     requires { ⌜ Describes mask (now e) ⌝ }
     ensures { λ r.
-        ⌜ r ≡ lookAt (clientRequest (endpoint client (now («client_name» .entry))) user (now («user_name» .entry)))
-        (clientElement (viewOf (now (tables .entry)) (now (notes .entry)) .client) (now (e .entry))) ⌝ }
+        ⌜ r ≡ lookedFor
+        (lookAt (clientRequest (endpoint client (now («client_name» .entry))) user (now («user_name» .entry)))
+        (clientElement (viewOf (now (tables .entry)) (now (notes .entry)) .client) (now (e .entry))))
+        (capped (elementLooked (viewOf (now (tables .entry)) (now (notes .entry)) .clientTried) (now (e .entry)))) ⌝ }
 {
     let at = sign_place(e, mask);
+    let named = reference_of(tables, notes, 0, e, at);
     let kind = client_kind(
         e,
         at,
         mask,
         true,
-        tables,
-        notes,
+        named.matches,
         client,
         client_name,
         user,
         user_name,
     );
-    kind.found
+    let found = kind.found;
+    Looked {
+        found,
+        looked: count::if_looked(true, named.tried),
+    }
 }
 
 // What is wrong with the table that a sound element names.
@@ -600,25 +587,23 @@ fn daemon_any(
         (daemonKind (viewOf (now (tables .entry)) (now (notes .entry)))) (now (e .entry)) ⌝ }
 {
     let at = sign_place(e, mask);
+    let named = reference_of(tables, notes, 1, e, at);
+    let naming = named.naming;
     let kind = daemon_kind(
         e,
         at,
         mask < 8,
         look,
-        tables,
-        notes,
+        named.matches,
         daemon,
         server,
         server_name,
     );
     let found = kind.found;
     ElementSeen {
-        fault: fault_of(
-            is_daemon_reserved(e, at),
-            kind.sound,
-            naming_of(e, at, tables, notes),
-        ),
+        fault: fault_of(is_daemon_reserved(e, at), kind.sound, naming),
         found,
+        looked: count::if_looked(look, named.tried),
     }
 }
 
@@ -644,6 +629,7 @@ pub fn daemon_seen(
         return ElementSeen {
             fault: fault_of(false, name.sound, Naming::Sound),
             found: found_if(name.matches),
+            looked: count::if_looked(look, 0),
         };
     }
     daemon_any(e, mask, look, tables, notes, daemon, server, server_name)
@@ -667,13 +653,14 @@ fn client_any(
         (clientKind (viewOf (now (tables .entry)) (now (notes .entry)))) (now (e .entry)) ⌝ }
 {
     let at = sign_place(e, mask);
+    let named = reference_of(tables, notes, 0, e, at);
+    let naming = named.naming;
     let kind = client_kind(
         e,
         at,
         mask,
         look,
-        tables,
-        notes,
+        named.matches,
         client,
         client_name,
         user,
@@ -681,12 +668,9 @@ fn client_any(
     );
     let found = kind.found;
     ElementSeen {
-        fault: fault_of(
-            is_client_reserved(e, at),
-            kind.sound,
-            naming_of(e, at, tables, notes),
-        ),
+        fault: fault_of(is_client_reserved(e, at), kind.sound, naming),
         found,
+        looked: count::if_looked(look, named.tried),
     }
 }
 
@@ -713,6 +697,7 @@ pub fn client_seen(
         return ElementSeen {
             fault: fault_of(false, host.sound, Naming::Sound),
             found: found_if(host.matches),
+            looked: count::if_looked(look, 0),
         };
     }
     client_any(

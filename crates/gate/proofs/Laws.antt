@@ -4,7 +4,7 @@ use Prim.Native.Nat.{ℕ}
 use mathlib.Core.Bool.{Bool, true, false, true≢false}
 use mathlib.Core.List.{List, [], _∷_}
 use mathlib.Core.Option.{Option, none, some, Option·getD}
-use mathlib.Core.Path.{_≡_, refl, sym, ap, _∙_}
+use mathlib.Core.Path.{_≡_, refl, sym, ap, ap₂, _∙_}
 use lib.ListN.{length, replicate}
 use Rattle.text.specs.Basics.{if_then_else_, _orElse_, isSome}
 use Rattle.section.specs.declared.Fault.the-variants as F
@@ -23,9 +23,10 @@ use Rattle.elements.specs.declared.request.Request.{Request as Places}
 use Rattle.elements.specs.Request.{Request, wellFormed, held}
 use Rattle.elements.specs.Places.{requestAt}
 use Rattle.rules.specs.declared.Answer.{Answer}
-use Rattle.rules.specs.declared.Ruling.{Ruling as VerdictRuling}
+use Rattle.rules.specs.declared.Reported.{Reported}
 use Rattle.rules.specs.declared.Ruling.the-variants as Ver
-use Rattle.rules.specs.Search as Search
+use Rattle.rules.specs.Looked.{looked, numberOf, lookedOver, reported}
+use Rattle.tables.specs.Tried.{capped}
 use Rattle.tables.specs.Table.{Table, tablesOf, tablesFrame, matchOf}
 use Rattle.rules.specs.Search.{search, decideOver, decide, decideTables, commandBytes}
 use Rattle.rules.specs.Check.{hostsFault, tablesFault}
@@ -47,7 +48,7 @@ use Rattle.portacl.specs.Portacl as Portacl
 use Rattle.portacl.specs.Portacl.{portaclFault, portaclDecision, decidePortacl}
 use Rattle.sheet.specs.declared.Parts.{Parts}
 use Rattle.sheet.specs.Sheet.{unpack}
-use Rattle.station.specs.Station.{inSheet, decideSheet, decideByuidSheet, decidePortaclSheet}
+use Rattle.station.specs.Station.{inSheet, decideSheet, lookedIn, lookedSheet, decideByuidSheet, decidePortaclSheet}
 use Rattle.codes.specs.declared.GateAddress.{GateAddress}
 use Rattle.codes.specs.declared.GateAnswer.{GateAnswer}
 use Rattle.codes.specs.declared.GateCommand.{GateCommand}
@@ -73,6 +74,11 @@ module _ (names : List ℕ) (q : Places) (n : RequestNumbers)
   over-read : (ts : List Table) (allow deny : List ℕ) → decideOver ts allow deny (some (requestAt names q)) ≡ decideOver ts allow deny (request n)
   over-read ts allow deny = fitting-same wellFormed (λ r. answered (search (matchOf ts) allow deny (held r))) (some (requestAt names q)) (request n) same
 
+  looked-read : (ts : List Table) (allow deny : List ℕ) → lookedOver ts allow deny (some (requestAt names q)) ≡ lookedOver ts allow deny (request n)
+  unfolding lookedOver
+  looked-read ts allow deny =
+      ap numberOf (fitting-same wellFormed (λ r. answered (capped (looked ts allow deny (held r)))) (some (requestAt names q)) (request n) same)
+
   decide-read : (allow deny : List ℕ) → decide allow deny (some (requestAt names q)) ≡ decide allow deny (request n)
   unfolding decide
   decide-read allow deny =
@@ -85,14 +91,16 @@ module _ (names : List ℕ) (q : Places) (n : RequestNumbers)
       ap (λ (x : Outcome Answer). (overLimit S.allow allow orElse overLimit S.deny deny orElse tablesFrame tables orElse hostsFault S.allow allow
       orElse hostsFault S.deny deny orElse tablesFault allow deny tables) before x) (over-read (tablesOf tables) allow deny)
 
-  pub tables-verdict-by : (allow deny tables : List ℕ) (o : VerdictRuling) (a : GateAnswer)
-      → o ≡ Search.verdictRuling (decideTables allow deny tables (some (requestAt names q)))
-      → a ≡ verdictNumbers o → a ≡ verdictAnswer (decideTables allow deny tables (request n))
-  tables-verdict-by allow deny tables o a e f = verdict-numbers _ o a e f ∙ ap verdictAnswer (tables-read allow deny tables)
+  pub tables-verdict-by : (allow deny tables : List ℕ) (o : Reported) (a : GateAnswer)
+      → o ≡ reported (decideTables allow deny tables (some (requestAt names q))) (lookedOver (tablesOf tables) allow deny (some (requestAt names q)))
+      → a ≡ verdictNumbers o → a ≡ verdictAnswer (decideTables allow deny tables (request n)) (lookedOver (tablesOf tables) allow deny (request n))
+  tables-verdict-by allow deny tables o a e f =
+      verdict-numbers _ _ o a e f ∙ ap₂ verdictAnswer (tables-read allow deny tables) (looked-read (tablesOf tables) allow deny)
 
-  pub verdict-by : (allow deny : List ℕ) (o : VerdictRuling) (a : GateAnswer) → o ≡ Search.verdictRuling (decide allow deny (some (requestAt names q)))
-      → a ≡ verdictNumbers o → a ≡ verdictAnswer (decide allow deny (request n))
-  verdict-by allow deny o a e f = verdict-numbers _ o a e f ∙ ap verdictAnswer (decide-read allow deny)
+  pub verdict-by : (allow deny : List ℕ) (o : Reported) (a : GateAnswer)
+      → o ≡ reported (decide allow deny (some (requestAt names q))) (lookedOver [] allow deny (some (requestAt names q)))
+      → a ≡ verdictNumbers o → a ≡ verdictAnswer (decide allow deny (request n)) (lookedOver [] allow deny (request n))
+  verdict-by allow deny o a e f = verdict-numbers _ _ o a e f ∙ ap₂ verdictAnswer (decide-read allow deny) (looked-read [] allow deny)
 
   sheet-read : (sheet : List ℕ) → decideSheet sheet (some (requestAt names q)) ≡ decideSheet sheet (request n)
   unfolding decideSheet
@@ -102,9 +110,18 @@ module _ (names : List ℕ) (q : Places) (n : RequestNumbers)
       by (refused r) = refl
       by (answered p) = ap (λ (x : Outcome Answer). x >>= λ a. answered (inSheet p a)) (over-read (tablesOf (bytesAt sheet (p .tables))) (bytesAt sheet (p .allow)) (bytesAt sheet (p .deny)))
 
-  pub sheet-verdict-by : (sheet : List ℕ) (o : VerdictRuling) (a : GateAnswer) → o ≡ Search.verdictRuling (decideSheet sheet (some (requestAt names q)))
-      → a ≡ verdictNumbers o → a ≡ verdictAnswer (decideSheet sheet (request n))
-  sheet-verdict-by sheet o a e f = verdict-numbers _ o a e f ∙ ap verdictAnswer (sheet-read sheet)
+  sheet-looked-read : (sheet : List ℕ) → lookedSheet sheet (some (requestAt names q)) ≡ lookedSheet sheet (request n)
+  unfolding lookedSheet
+  sheet-looked-read sheet = by (unpack sheet)
+    where
+      by : (u : Outcome Parts) → lookedIn sheet (some (requestAt names q)) u ≡ lookedIn sheet (request n) u
+      by (refused r) = refl
+      by (answered p) = looked-read (tablesOf (bytesAt sheet (p .tables))) (bytesAt sheet (p .allow)) (bytesAt sheet (p .deny))
+
+  pub sheet-verdict-by : (sheet : List ℕ) (o : Reported) (a : GateAnswer)
+      → o ≡ reported (decideSheet sheet (some (requestAt names q))) (lookedSheet sheet (some (requestAt names q)))
+      → a ≡ verdictNumbers o → a ≡ verdictAnswer (decideSheet sheet (request n)) (lookedSheet sheet (request n))
+  sheet-verdict-by sheet o a e f = verdict-numbers _ _ o a e f ∙ ap₂ verdictAnswer (sheet-read sheet) (sheet-looked-read sheet)
 
   module _ (command out : List ℕ) (process : ℕ) where
     expand-read : expand command (some (requestAt names q)) process (length out) ≡ expand command (request n) process (length out)
@@ -122,82 +139,89 @@ module _ (names : List ℕ) (q : Places) (n : RequestNumbers)
         → out' ≡ lentAfter out (expand command (request n) process (length out))
     expand-holds out' e = e ∙ ap (lentAfter out) expand-read
 
-  -- ## A verdict, and its command: d is the verdict on the request handed over, raw its command
+  -- ## A verdict, and its command: d is the verdict on the request handed over, k what was looked at for it, raw its command
 
-  module _ (d : Outcome Answer) (raw : Answer → List ℕ) (out : List ℕ) (process : ℕ) (x : VerdictRuling) (is-x : x ≡ Search.verdictRuling d) where
+  module _ (d : Outcome Answer) (k : ℕ) (raw : Answer → List ℕ) (out : List ℕ) (process : ℕ) (x : Reported) (is-x : x ≡ reported d k) where
+    ruling-is : x .ruling ≡ reported d k .ruling
+    ruling-is = ap (λ (y : Reported). y .ruling) is-x
+
     commanded : Outcome Command
     commanded = together d (λ a. expand (raw a) (request n) process (length out))
 
-    refusal-answer : (g : Refusal) → x ≡ Ver.Refused g → (a : GateCommand) → a ≡ withCount (refusalAnswer g) 0 → a ≡ commandAnswer commanded
+    refusal-answer : (g : Refusal) → x .ruling ≡ Ver.Refused g → (a : GateCommand) → a ≡ withCount (refusalAnswer g) 0 → a ≡ commandAnswer commanded k
     unfolding commanded
-    refusal-answer g e a f = f ∙ together-refused out d (λ a. expand (raw a) (request n) process (length out)) g (sym is-x ∙ e)
+    refusal-answer g e a f = f ∙ together-refused out d k (λ a. expand (raw a) (request n) process (length out)) g (sym ruling-is ∙ e)
 
-    refusal-kept : (g : Refusal) → x ≡ Ver.Refused g → out ≡ lentAfter out (commanded >>= λ c. answered (c .text))
+    refusal-kept : (g : Refusal) → x .ruling ≡ Ver.Refused g → out ≡ lentAfter out (commanded >>= λ c. answered (c .text))
     unfolding commanded
-    refusal-kept g e = together-kept out d (λ a. expand (raw a) (request n) process (length out)) g (sym is-x ∙ e)
+    refusal-kept g e = together-kept out d k (λ a. expand (raw a) (request n) process (length out)) g (sym ruling-is ∙ e)
 
-    module _ (b : Answer) (e : x ≡ Ver.Answered b) (c : List ℕ) (is-c : c ≡ raw b) where
+    module _ (b : Answer) (e : x .ruling ≡ Ver.Answered b) (c : List ℕ) (is-c : c ≡ raw b) where
       expand-raw : expand c (some (requestAt names q)) process (length out) ≡ expand (raw b) (request n) process (length out)
       expand-raw = expand-read c out process ∙ ap (λ (s : List ℕ). expand s (request n) process (length out)) is-c
 
       written-answer : (w : Written) → w ≡ writtenOf (expand c (some (requestAt names q)) process (length out))
-          → (a : GateCommand) → a ≡ commandWritten b w → a ≡ commandAnswer commanded
+          → (a : GateCommand) → a ≡ commandWritten b (x .looked) w → a ≡ commandAnswer commanded k
       unfolding commanded
       written-answer w is-w a f =
-          f ∙ together-written out d (λ a. expand (raw a) (request n) process (length out)) b (sym is-x ∙ e) w (is-w ∙ ap writtenOf expand-raw)
+          f ∙ ap (λ (y : Reported). commandWritten b (y .looked) w) is-x ∙ together-written out d k (λ a. expand (raw a) (request n) process (length out)) b (sym ruling-is ∙ e) w (is-w ∙ ap writtenOf expand-raw)
 
       written-holds : (o : List ℕ) → o ≡ lentAfter out (expand c (some (requestAt names q)) process (length out))
           → o ≡ lentAfter out (commanded >>= λ c. answered (c .text))
       unfolding commanded
-      written-holds o f = f ∙ ap (lentAfter out) expand-raw ∙ together-holds out d (λ a. expand (raw a) (request n) process (length out)) b (sym is-x ∙ e)
+      written-holds o f = f ∙ ap (lentAfter out) expand-raw ∙ together-holds out d k (λ a. expand (raw a) (request n) process (length out)) b (sym ruling-is ∙ e)
 
-  module _ (allow deny out : List ℕ) (process : ℕ) (x : VerdictRuling) (is-x : x ≡ Search.verdictRuling (decide allow deny (some (requestAt names q)))) where
-    by-texts : x ≡ Search.verdictRuling (decide allow deny (request n))
-    by-texts = is-x ∙ ap Search.verdictRuling (decide-read allow deny)
+  module _ (allow deny out : List ℕ) (process : ℕ) (x : Reported)
+      (is-x : x ≡ reported (decide allow deny (some (requestAt names q))) (lookedOver [] allow deny (some (requestAt names q))))
+    where
+      by-texts : x ≡ reported (decide allow deny (request n)) (lookedOver [] allow deny (request n))
+      by-texts = is-x ∙ ap₂ reported (decide-read allow deny) (looked-read [] allow deny)
 
-    pub command-refused : (g : Refusal) → x ≡ Ver.Refused g → (a : GateCommand) → a ≡ withCount (refusalAnswer g) 0 → a
-        ≡ gateCommand allow deny n process out .answer
-    unfolding commanded
-    command-refused = refusal-answer (decide allow deny (request n)) (commandBytes allow deny) out process x by-texts
-
-    pub command-kept : (g : Refusal) → x ≡ Ver.Refused g → out ≡ gateCommand allow deny n process out .out
-    unfolding commanded
-    command-kept = refusal-kept (decide allow deny (request n)) (commandBytes allow deny) out process x by-texts
-
-    module _ (b : Answer) (e : x ≡ Ver.Answered b) (c : List ℕ) (is-c : c ≡ commandBytes allow deny b) where
-      pub command-answer : (w : Written) → w ≡ writtenOf (expand c (some (requestAt names q)) process (length out))
-          → (a : GateCommand) → a ≡ commandWritten b w → a ≡ gateCommand allow deny n process out .answer
+      pub command-refused : (g : Refusal) → x .ruling ≡ Ver.Refused g → (a : GateCommand) → a ≡ withCount (refusalAnswer g) 0 → a
+          ≡ gateCommand allow deny n process out .answer
       unfolding commanded
-      command-answer = written-answer (decide allow deny (request n)) (commandBytes allow deny) out process x by-texts b e c is-c
+      command-refused = refusal-answer (decide allow deny (request n)) (lookedOver [] allow deny (request n)) (commandBytes allow deny) out process x by-texts
 
-      pub command-holds : (o : List ℕ) → o ≡ lentAfter out (expand c (some (requestAt names q)) process (length out)) → o
-          ≡ gateCommand allow deny n process out .out
+      pub command-kept : (g : Refusal) → x .ruling ≡ Ver.Refused g → out ≡ gateCommand allow deny n process out .out
       unfolding commanded
-      command-holds = written-holds (decide allow deny (request n)) (commandBytes allow deny) out process x by-texts b e c is-c
+      command-kept = refusal-kept (decide allow deny (request n)) (lookedOver [] allow deny (request n)) (commandBytes allow deny) out process x by-texts
 
-  module _ (sheet out : List ℕ) (process : ℕ) (x : VerdictRuling) (is-x : x ≡ Search.verdictRuling (decideSheet sheet (some (requestAt names q)))) where
-    by-sheet : x ≡ Search.verdictRuling (decideSheet sheet (request n))
-    by-sheet = is-x ∙ ap Search.verdictRuling (sheet-read sheet)
+      module _ (b : Answer) (e : x .ruling ≡ Ver.Answered b) (c : List ℕ) (is-c : c ≡ commandBytes allow deny b) where
+        pub command-answer : (w : Written) → w ≡ writtenOf (expand c (some (requestAt names q)) process (length out))
+            → (a : GateCommand) → a ≡ commandWritten b (x .looked) w → a ≡ gateCommand allow deny n process out .answer
+        unfolding commanded
+        command-answer = written-answer (decide allow deny (request n)) (lookedOver [] allow deny (request n)) (commandBytes allow deny) out process x by-texts b e c is-c
 
-    pub sheet-command-refused : (g : Refusal) → x ≡ Ver.Refused g → (a : GateCommand) → a ≡ withCount (refusalAnswer g) 0 → a
-        ≡ gateSheetCommand sheet n process out .answer
-    unfolding commanded
-    sheet-command-refused = refusal-answer (decideSheet sheet (request n)) (λ a. bytesAt sheet (a .command)) out process x by-sheet
+        pub command-holds : (o : List ℕ) → o ≡ lentAfter out (expand c (some (requestAt names q)) process (length out)) → o
+            ≡ gateCommand allow deny n process out .out
+        unfolding commanded
+        command-holds = written-holds (decide allow deny (request n)) (lookedOver [] allow deny (request n)) (commandBytes allow deny) out process x by-texts b e c is-c
 
-    pub sheet-command-kept : (g : Refusal) → x ≡ Ver.Refused g → out ≡ gateSheetCommand sheet n process out .out
-    unfolding commanded
-    sheet-command-kept = refusal-kept (decideSheet sheet (request n)) (λ a. bytesAt sheet (a .command)) out process x by-sheet
+  module _ (sheet out : List ℕ) (process : ℕ) (x : Reported)
+      (is-x : x ≡ reported (decideSheet sheet (some (requestAt names q))) (lookedSheet sheet (some (requestAt names q))))
+    where
+      by-sheet : x ≡ reported (decideSheet sheet (request n)) (lookedSheet sheet (request n))
+      by-sheet = is-x ∙ ap₂ reported (sheet-read sheet) (sheet-looked-read sheet)
 
-    module _ (b : Answer) (e : x ≡ Ver.Answered b) (c : List ℕ) (is-c : c ≡ bytesAt sheet (b .command)) where
-      pub sheet-command-answer : (w : Written) → w ≡ writtenOf (expand c (some (requestAt names q)) process (length out))
-          → (a : GateCommand) → a ≡ commandWritten b w → a ≡ gateSheetCommand sheet n process out .answer
+      pub sheet-command-refused : (g : Refusal) → x .ruling ≡ Ver.Refused g → (a : GateCommand) → a ≡ withCount (refusalAnswer g) 0 → a
+          ≡ gateSheetCommand sheet n process out .answer
       unfolding commanded
-      sheet-command-answer = written-answer (decideSheet sheet (request n)) (λ a. bytesAt sheet (a .command)) out process x by-sheet b e c is-c
+      sheet-command-refused = refusal-answer (decideSheet sheet (request n)) (lookedSheet sheet (request n)) (λ a. bytesAt sheet (a .command)) out process x by-sheet
 
-      pub sheet-command-holds : (o : List ℕ) → o ≡ lentAfter out (expand c (some (requestAt names q)) process (length out))
-          → o ≡ gateSheetCommand sheet n process out .out
+      pub sheet-command-kept : (g : Refusal) → x .ruling ≡ Ver.Refused g → out ≡ gateSheetCommand sheet n process out .out
       unfolding commanded
-      sheet-command-holds = written-holds (decideSheet sheet (request n)) (λ a. bytesAt sheet (a .command)) out process x by-sheet b e c is-c
+      sheet-command-kept = refusal-kept (decideSheet sheet (request n)) (lookedSheet sheet (request n)) (λ a. bytesAt sheet (a .command)) out process x by-sheet
+
+      module _ (b : Answer) (e : x .ruling ≡ Ver.Answered b) (c : List ℕ) (is-c : c ≡ bytesAt sheet (b .command)) where
+        pub sheet-command-answer : (w : Written) → w ≡ writtenOf (expand c (some (requestAt names q)) process (length out))
+            → (a : GateCommand) → a ≡ commandWritten b (x .looked) w → a ≡ gateSheetCommand sheet n process out .answer
+        unfolding commanded
+        sheet-command-answer = written-answer (decideSheet sheet (request n)) (lookedSheet sheet (request n)) (λ a. bytesAt sheet (a .command)) out process x by-sheet b e c is-c
+
+        pub sheet-command-holds : (o : List ℕ) → o ≡ lentAfter out (expand c (some (requestAt names q)) process (length out))
+            → o ≡ gateSheetCommand sheet n process out .out
+        unfolding commanded
+        sheet-command-holds = written-holds (decideSheet sheet (request n)) (lookedSheet sheet (request n)) (λ a. bytesAt sheet (a .command)) out process x by-sheet b e c is-c
 
 -- ## The port decisions
 

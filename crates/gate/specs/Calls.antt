@@ -1,13 +1,16 @@
 -- What each exported call answers, by the bytes and numbers that C hands over: one definition for each, which its promise and the claims cite.
---   wrote out o, wroteCommand out o, wroteNext out o, wroteTwo plain marked o == what a call with the outcome o answers, and what the lent output out holds afterwards
+--   wrote out o, wroteCommand out o k, wroteNext out o, wroteTwo plain marked o == what a call with the outcome o answers, and what the lent
+--     outputs hold afterwards; k: how many elements were looked at
 -- Assumes nothing: these are definitions.
 use Prim.Native.Nat.{ℕ}
-use mathlib.Core.List.{List}
+use mathlib.Core.List.{List, []}
 use lib.ListN.{length}
 use Rattle.section.specs.Refusal.{Outcome, answered, _>>=_, lentAfter}
 use Rattle.section.specs.Section.{bytesAt}
 use Rattle.address.specs.Address.{readAddress}
+use Rattle.tables.specs.Table.{tablesOf}
 use Rattle.rules.specs.Search.{decide, decideTables, commandBytes}
+use Rattle.rules.specs.Looked.{lookedOver}
 use Rattle.expansion.specs.Expand.{expand}
 use Rattle.byuid.specs.Byuid.{decideByuid}
 use Rattle.byuid.specs.Convert.{convert}
@@ -17,7 +20,7 @@ use Rattle.portacl.specs.declared.Settings.{Settings}
 use Rattle.portacl.specs.Portacl.{decidePortacl}
 use Rattle.sheet.specs.Sheet as Sheet
 use Rattle.sheet.specs.Sheet.{Texts}
-use Rattle.station.specs.Station.{decideSheet, decideByuidSheet, decidePortaclSheet}
+use Rattle.station.specs.Station.{decideSheet, lookedSheet, decideByuidSheet, decidePortaclSheet}
 use Rattle.codes.specs.declared.GateAddress.{GateAddress}
 use Rattle.codes.specs.declared.GateAnswer.{GateAnswer}
 use Rattle.codes.specs.declared.GateCheck.{GateCheck}
@@ -32,15 +35,16 @@ use Rattle.codes.specs.Answers.{nextAnswer, carriedAnswer}
 
 -- ## Decisions
 
+-- the verdict, and document 02, request 12: how many elements were looked at for it
 abbrev pub gateVerdict : List ℕ → List ℕ → RequestNumbers → GateAnswer
-gateVerdict allow deny n = verdictAnswer (decide allow deny (request n))
+gateVerdict allow deny n = verdictAnswer (decide allow deny (request n)) (lookedOver [] allow deny (request n))
 
 -- document 02, request 1: by two texts and the text of section five
 abbrev pub gateTablesVerdict : List ℕ → List ℕ → List ℕ → RequestNumbers → GateAnswer
-gateTablesVerdict allow deny tables n = verdictAnswer (decideTables allow deny tables (request n))
+gateTablesVerdict allow deny tables n = verdictAnswer (decideTables allow deny tables (request n)) (lookedOver (tablesOf tables) allow deny (request n))
 
 abbrev pub gateSheetVerdict : List ℕ → RequestNumbers → GateAnswer
-gateSheetVerdict sheet n = verdictAnswer (decideSheet sheet (request n))
+gateSheetVerdict sheet n = verdictAnswer (decideSheet sheet (request n)) (lookedSheet sheet (request n))
 
 abbrev pub gateByuid : List ℕ → ℕ → ℕ → ℕ → ℕ → ℕ → ℕ → GateAnswer
 gateByuid text mark port kind high low uid = byuidAnswer (decideByuid text (byuidFileBind mark port kind high low uid))
@@ -93,16 +97,18 @@ pub record WroteCommand : Type 0 where
   pub answer : GateCommand
   pub out : List ℕ
 
-abbrev pub wroteCommand : List ℕ → Outcome Command → WroteCommand
-wroteCommand out o = record { answer = commandAnswer o; out = lentAfter out (o >>= λ c. answered (c .text)) }
+abbrev pub wroteCommand : List ℕ → Outcome Command → ℕ → WroteCommand
+wroteCommand out o k = record { answer = commandAnswer o k; out = lentAfter out (o >>= λ c. answered (c .text)) }
 
 abbrev pub gateCommand : List ℕ → List ℕ → RequestNumbers → ℕ → List ℕ → WroteCommand
 gateCommand allow deny n process out =
     wroteCommand out (together (decide allow deny (request n)) (λ a. expand (commandBytes allow deny a) (request n) process (length out)))
+    (lookedOver [] allow deny (request n))
 
 abbrev pub gateSheetCommand : List ℕ → RequestNumbers → ℕ → List ℕ → WroteCommand
 gateSheetCommand sheet n process out =
     wroteCommand out (together (decideSheet sheet (request n)) (λ a. expand (bytesAt sheet (a .command)) (request n) process (length out)))
+    (lookedSheet sheet (request n))
 
 abbrev pub gateWriteAddress : ℕ → ℕ → ℕ → List ℕ → Wrote
 gateWriteAddress kind high low out = wrote out (writeBy kind high low (length out))

@@ -431,10 +431,13 @@ pub extern "C" fn gate_command<'a>(
         user,
         user_name,
     );
-    match rules::decide(allow, deny, &names, request) {
+    let report = rules::decide(allow, deny, &names, request);
+    let ruling = report.ruling;
+    match ruling {
         Ruling::Refused(refusal) => codes::answer::no_command(refusal),
         Ruling::Answered(answer) => codes::answer::command_numbers(
             answer,
+            report.looked,
             expansion::expand(
                 out,
                 rules::command_part(allow, deny, answer),
@@ -496,10 +499,13 @@ pub extern "C" fn gate_sheet_command(
         user,
         user_name,
     );
-    match station::decide(sheet, &names, request) {
+    let report = station::decide(sheet, &names, request);
+    let ruling = report.ruling;
+    match ruling {
         Ruling::Refused(refusal) => codes::answer::no_command(refusal),
         Ruling::Answered(answer) => codes::answer::command_numbers(
             answer,
+            report.looked,
             expansion::expand(
                 out,
                 station::command(sheet, answer),

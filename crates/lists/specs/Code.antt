@@ -2,7 +2,7 @@
 -- is stated over Check, Walk and its own definitions alone.
 --   checkedOf o    == o as the code answers it
 --   NoNewline t    == t holds no newline, as a joined line does
---   lineFound v r t == what the rule in the joined line t finds of the request r, by the view v of the tables
+--   lineFound v r t, lineLooked v r t == what the rule in the joined line t finds of the request r, by the view v of the tables, and looks at
 --   judgedFault v o == the lowest fault of the rule o, and else of the tables that it names
 -- Assumes nothing: these are definitions.
 use Prim.Native.Nat.{ℕ}
@@ -25,6 +25,7 @@ use Rattle.lists.specs.declared.Checked.{Checked}
 use Rattle.lists.specs.declared.Checked.the-variants.{Sound, Faulty}
 use Rattle.lists.specs.Check.{ruleFault, ruleNames}
 use Rattle.lists.specs.Walk.{ruleFoundBy}
+use Rattle.lists.specs.Looked.{ruleLookedBy}
 
 abbrev pub checkedOf : Option Fault → Checked
 checkedOf none = Sound
@@ -43,6 +44,17 @@ foundBy v r (some u) = viewFound v r u
 
 unfoldable pub lineFound : View → Request → List ℕ → Found
 lineFound v r t = foundBy v r (parseRule t)
+
+-- what a rule looks at, by a view of the tables
+abbrev pub viewLooked : View → Request → Rule → ℕ
+viewLooked v = ruleLookedBy (v .server) (v .client) (v .serverTried) (v .clientTried)
+
+abbrev pub lookedOf : View → Request → Option Rule → ℕ
+lookedOf v r none = 0
+lookedOf v r (some u) = viewLooked v r u
+
+unfoldable pub lineLooked : View → Request → List ℕ → ℕ
+lineLooked v r t = lookedOf v r (parseRule t)
 
 -- a table may not be named: it is missing, it leads too deep
 abbrev pub isMissingName : Naming → Bool

@@ -1,5 +1,6 @@
 pub mod Check
 pub mod Walk
+pub mod Looked
 pub mod Code
 pub mod ListCode
 pub mod PassCode

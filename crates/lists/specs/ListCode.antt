@@ -8,8 +8,11 @@
 --   lowestOf d c bad         == the lowest fault of a rule with the lists d and c; bad: whether a percent of its command is
 --   restFault v d s          == the same where s follows the first separator
 --   daemonFinds v d s e, clientFinds v c u n e == what the element e of a daemon list, of a client list, finds
+--   daemonCounts v e, clientCounts v e == what it counts
+--   listLooked m c ws, restLooked m c ws == what the list ws finds and looks at, before and after an element of it matched
+--   lookedMore n l           == l, and n elements that were looked at before it
 -- Assumes nothing: these are definitions.
-use Prim.Native.Nat.{ℕ}
+use Prim.Native.Nat.{ℕ, _+_}
 use mathlib.Core.Bool.{Bool, true, false, not, _&&_, _||_}
 use mathlib.Core.List.{List, []}
 use lib.ListN.{take}
@@ -19,17 +22,20 @@ use Rattle.lines.specs.Rule.{isExcept}
 use Rattle.lines.specs.Parts.{separatorIndex, afterSeparator, words, trimBlanks, anyBadPercent}
 use Rattle.elements.specs.declared.Found.{Found}
 use Rattle.elements.specs.declared.Found.the-variants as N
+use Rattle.elements.specs.declared.Looked.{Looked}
 use Rattle.elements.specs.declared.User.{User}
 use Rattle.elements.specs.declared.element.ElementFault.{ElementFault}
 use Rattle.elements.specs.declared.element.ElementFault.the-variants as E
-use Rattle.elements.specs.Code.{View, Kind, clientKind, elementFault, daemonRequest, clientRequest}
+use Rattle.elements.specs.Code.{View, Kind, clientKind, elementFault, daemonRequest, clientRequest, lookedFor}
 use Rattle.patterns.specs.Host.{Endpoint}
-use Rattle.elements.specs.Element.{daemonElement, clientElement, lookAt}
+use Rattle.tables.specs.Tried.{capped}
+use Rattle.elements.specs.Element.{daemonElement, clientElement, lookAt, elementLooked}
 use Rattle.lists.specs.declared.Checked.{Checked}
 use Rattle.lists.specs.declared.Checked.the-variants as C
 use Rattle.lists.specs.declared.check.ListCheck.{ListCheck}
 use Rattle.lists.specs.Check.{exceptMisplaced}
-use Rattle.lists.specs.Walk.{onFound}
+use Rattle.lists.specs.Walk.{onFound, included, excluded}
+use Rattle.lists.specs.Looked.{lookedIncluded, lookedExcluded}
 
 -- ## Checking a list
 
@@ -139,3 +145,21 @@ daemonFinds v daemon server e = lookAt (daemonRequest daemon server) (daemonElem
 
 abbrev pub clientFinds : View → Endpoint → User → List ℕ → List ℕ → Found
 clientFinds v client user name e = lookAt (clientRequest client user name) (clientElement (v .client) e)
+
+abbrev pub daemonCounts : View → List ℕ → ℕ
+daemonCounts v = elementLooked (v .serverTried)
+
+abbrev pub clientCounts : View → List ℕ → ℕ
+clientCounts v = elementLooked (v .clientTried)
+
+unfoldable pub listLooked : (List ℕ → Found) → (List ℕ → ℕ) → List (List ℕ) → Looked
+listLooked m c ws = lookedFor (included m ws) (capped (lookedIncluded m c ws))
+
+unfoldable pub restLooked : (List ℕ → Found) → (List ℕ → ℕ) → List (List ℕ) → Looked
+restLooked m c ws = lookedFor (excluded m ws) (capped (lookedExcluded m c ws))
+
+abbrev pub lookedMore : ℕ → Looked → Looked
+lookedMore n l = lookedFor (l .found) (capped (n + l .looked))
+
+abbrev pub negatedLooked : Looked → Looked
+negatedLooked l = lookedFor (negated (l .found)) (l .looked)

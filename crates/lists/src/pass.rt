@@ -1,5 +1,6 @@
 // One rule, checked and looked at in one pass: each element of its lists is read once.
-//   pass_rule(class, t, search, ..) == the lowest fault of the rule in the joined line t and, if it is searched, what it finds
+//   pass_rule(class, t, search, ..) == the lowest fault of the rule in the joined line t and, if it is searched, what it
+//                                      finds and looks at
 ghost use mathlib.Core.Path.{_≡_};
 ghost use Rattle.lines.specs.Parts.{words};
 ghost use Rattle.patterns.specs.Host.{endpoint};
@@ -7,8 +8,8 @@ ghost use Rattle.classes.specs.Class.{Classes, Describes};
 ghost use Rattle.elements.specs.Code.{viewOf, daemonKind, clientKind};
 ghost use Rattle.elements.specs.Places.{requestAt};
 ghost use Rattle.lists.specs.Code.{NoNewline};
-ghost use Rattle.lists.specs.ListCode.{daemonFinds, clientFinds};
-ghost use Rattle.lists.specs.PassCode.{sideStart, isLooking, sideEnd, sideOf, sideFound, sideMore, sideTurned, sideStep};
+ghost use Rattle.lists.specs.ListCode.{daemonFinds, clientFinds, daemonCounts, clientCounts};
+ghost use Rattle.lists.specs.PassCode.{sideStart, isLooking, sideEnd, sideOf, sideFound, sideMore, sideTurned, sideStep, turnedLooks, stepLooks, turn};
 ghost use Rattle.lists.specs.PassCode.{passStart, passStep, passEnd, listSeen, isYes, thenFound, restSeen, ruleSeen};
 use super::Checked;
 use super::check::ListCheck;
@@ -19,10 +20,12 @@ use super::check::list_start;
 use super::check::lowest_fault;
 use super::walk::clients_included;
 use super::walk::daemons_included;
-use super::walk::negated;
+use super::walk::negated_list;
 use classes::element_at;
 use elements::Found;
+use elements::Looked;
 use elements::User;
+use elements::count;
 use elements::element;
 use elements::request::Request;
 use lines::rule;
@@ -39,23 +42,33 @@ pub enum Side {
     Ask,
 }
 
-// What a pass carries from element to element: what the check found, whether an element stands directly before, and its side.
+// The side after a word, and how many elements were looked at for it.
+pub struct Turn {
+    pub side: Side,
+    pub looked: u64,
+}
+
+// What a pass carries from element to element: what the check found, whether an element stands directly before, its side, and how many
+// elements were looked at.
 pub struct ListPass {
     pub check: ListCheck,
     pub after: bool,
     pub side: Side,
+    pub looked: u64,
 }
 
-// What a list gives: what checking it finds, and what it finds, if it is searched.
+// What a list gives: what checking it finds, and what it finds and looks at, if it is searched.
 pub struct ListSeen {
     pub check: ListCheck,
     pub found: Found,
+    pub looked: u64,
 }
 
-// What a rule gives: its lowest fault, and what it finds, if it is searched.
+// What a rule gives: its lowest fault, and what it finds and looks at, if it is searched.
 pub struct RuleSeen {
     pub check: Checked,
     pub found: Found,
+    pub looked: u64,
 }
 
 // Where a pass starts.
@@ -134,6 +147,25 @@ fn pass_start(search: bool) -> ListPass
         check: list_start(),
         after: false,
         side: side_start(search),
+        looked: 0,
+    }
+}
+
+// A side for which nothing was looked at.
+fn unlooked(side: Side) -> Turn
+    ensures { λ r. ⌜ r ≡ turn side 0 ⌝ }
+{
+    Turn { side, looked: 0 }
+}
+
+// The side that is done with what the list after EXCEPT finds, negated round.
+fn turn_of(l: Looked) -> Turn
+    ensures { λ r. ⌜ r ≡ turn (sideOf (l .found)) (l .looked) ⌝ }
+{
+    let found = l.found;
+    Turn {
+        side: side_of(found),
+        looked: l.looked,
     }
 }
 
@@ -147,18 +179,31 @@ fn daemons_negated(
     daemon: &[u8],
     server: Host,
     server_name: &[u8],
-) -> Side
+) -> Turn
     requires { ⌜ Classes (now class) ⌝ }
-    ensures { λ r. ⌜ r ≡ sideTurned (daemonFinds (viewOf (now (tables .entry)) (now (notes .entry))) (now (daemon .entry)) (endpoint server (now («server_name» .entry)))) side (words (now (s .entry))) ⌝ }
+    ensures { λ r.
+        ⌜ r ≡ turn
+        (sideTurned (daemonFinds (viewOf (now (tables .entry)) (now (notes .entry))) (now (daemon .entry)) (endpoint server (now («server_name» .entry)))) side
+        (words (now (s .entry))))
+        (turnedLooks (daemonFinds (viewOf (now (tables .entry)) (now (notes .entry))) (now (daemon .entry)) (endpoint server (now («server_name» .entry))))
+        (daemonCounts (viewOf (now (tables .entry)) (now (notes .entry)))) side (words (now (s .entry)))) ⌝ }
 {
     match side {
-        Side::Looking => Side::No,
+        Side::Looking => unlooked(Side::No),
         Side::Matched => {
-            side_of(negated(daemons_included(class, tables, notes, s, daemon, server, server_name)))
+            turn_of(negated_list(daemons_included(
+                class,
+                tables,
+                notes,
+                s,
+                daemon,
+                server,
+                server_name,
+            )))
         }
-        Side::No => side,
-        Side::Yes => side,
-        Side::Ask => side,
+        Side::No => unlooked(side),
+        Side::Yes => unlooked(side),
+        Side::Ask => unlooked(side),
     }
 }
 
@@ -173,15 +218,18 @@ fn clients_negated(
     client_name: &[u8],
     user: User,
     user_name: &[u8],
-) -> Side
+) -> Turn
     requires { ⌜ Classes (now class) ⌝ }
     ensures { λ r.
-        ⌜ r ≡ sideTurned (clientFinds (viewOf (now (tables .entry)) (now (notes .entry))) (endpoint client (now («client_name» .entry))) user (now («user_name» .entry))) side
-        (words (now (s .entry))) ⌝ }
+        ⌜ r ≡ turn
+        (sideTurned (clientFinds (viewOf (now (tables .entry)) (now (notes .entry))) (endpoint client (now («client_name» .entry))) user (now («user_name» .entry))) side
+        (words (now (s .entry))))
+        (turnedLooks (clientFinds (viewOf (now (tables .entry)) (now (notes .entry))) (endpoint client (now («client_name» .entry))) user (now («user_name» .entry)))
+        (clientCounts (viewOf (now (tables .entry)) (now (notes .entry)))) side (words (now (s .entry)))) ⌝ }
 {
     match side {
-        Side::Looking => Side::No,
-        Side::Matched => side_of(negated(clients_included(
+        Side::Looking => unlooked(Side::No),
+        Side::Matched => turn_of(negated_list(clients_included(
             class,
             tables,
             notes,
@@ -191,13 +239,14 @@ fn clients_negated(
             user,
             user_name,
         ))),
-        Side::No => side,
-        Side::Yes => side,
-        Side::Ask => side,
+        Side::No => unlooked(side),
+        Side::Yes => unlooked(side),
+        Side::Ask => unlooked(side),
     }
 }
 
-// The side after a word of a daemon list; x: whether it is EXCEPT, f: what it finds if it is looked at, s: what follows it.
+// The side after a word of a daemon list; x: whether it is EXCEPT, f, looked: what it finds and counts if it is looked at,
+// s: what follows it.
 fn daemons_side(
     class: &[u8; 256],
     tables: &[u8],
@@ -205,18 +254,26 @@ fn daemons_side(
     side: Side,
     x: bool,
     f: Found,
+    looked: u64,
     s: &[u8],
     daemon: &[u8],
     server: Host,
     server_name: &[u8],
-) -> Side
+) -> Turn
     requires { ⌜ Classes (now class) ⌝ }
-    ensures { λ r. ⌜ r ≡ sideStep (daemonFinds (viewOf (now (tables .entry)) (now (notes .entry))) (now (daemon .entry)) (endpoint server (now («server_name» .entry)))) side x f (words (now (s .entry))) ⌝ }
+    ensures { λ r.
+        ⌜ r ≡ turn
+        (sideStep (daemonFinds (viewOf (now (tables .entry)) (now (notes .entry))) (now (daemon .entry)) (endpoint server (now («server_name» .entry)))) side x f (words (now (s .entry))))
+        (stepLooks (daemonFinds (viewOf (now (tables .entry)) (now (notes .entry))) (now (daemon .entry)) (endpoint server (now («server_name» .entry))))
+        (daemonCounts (viewOf (now (tables .entry)) (now (notes .entry)))) side x looked (words (now (s .entry)))) ⌝ }
 {
     if x {
         daemons_negated(class, tables, notes, side, s, daemon, server, server_name)
     } else {
-        side_more(side, f)
+        Turn {
+            side: side_more(side, f),
+            looked,
+        }
     }
 }
 
@@ -253,25 +310,30 @@ fn daemon_step(
     );
     let fault = seen.fault;
     let found = seen.found;
+    let turn = daemons_side(
+        class,
+        tables,
+        notes,
+        side,
+        x,
+        found,
+        seen.looked,
+        next,
+        daemon,
+        server,
+        server_name,
+    );
+    let turned = turn.side;
     ListPass {
         check: list_more(p.check, p.after, x, fault),
         after: !x,
-        side: daemons_side(
-            class,
-            tables,
-            notes,
-            side,
-            x,
-            found,
-            next,
-            daemon,
-            server,
-            server_name,
-        ),
+        side: turned,
+        looked: count::add(p.looked, turn.looked),
     }
 }
 
-// The side after a word of a client list; x: whether it is EXCEPT, f: what it finds if it is looked at, s: what follows it.
+// The side after a word of a client list; x: whether it is EXCEPT, f, looked: what it finds and counts if it is looked at,
+// s: what follows it.
 fn clients_side(
     class: &[u8; 256],
     tables: &[u8],
@@ -279,16 +341,19 @@ fn clients_side(
     side: Side,
     x: bool,
     f: Found,
+    looked: u64,
     s: &[u8],
     client: Host,
     client_name: &[u8],
     user: User,
     user_name: &[u8],
-) -> Side
+) -> Turn
     requires { ⌜ Classes (now class) ⌝ }
     ensures { λ r.
-        ⌜ r ≡ sideStep (clientFinds (viewOf (now (tables .entry)) (now (notes .entry))) (endpoint client (now («client_name» .entry))) user (now («user_name» .entry))) side x f
-        (words (now (s .entry))) ⌝ }
+        ⌜ r ≡ turn
+        (sideStep (clientFinds (viewOf (now (tables .entry)) (now (notes .entry))) (endpoint client (now («client_name» .entry))) user (now («user_name» .entry))) side x f (words (now (s .entry))))
+        (stepLooks (clientFinds (viewOf (now (tables .entry)) (now (notes .entry))) (endpoint client (now («client_name» .entry))) user (now («user_name» .entry)))
+        (clientCounts (viewOf (now (tables .entry)) (now (notes .entry)))) side x looked (words (now (s .entry)))) ⌝ }
 {
     if x {
         clients_negated(
@@ -303,7 +368,10 @@ fn clients_side(
             user_name,
         )
     } else {
-        side_more(side, f)
+        Turn {
+            side: side_more(side, f),
+            looked,
+        }
     }
 }
 
@@ -342,22 +410,26 @@ fn client_step(
     );
     let fault = seen.fault;
     let found = seen.found;
+    let turn = clients_side(
+        class,
+        tables,
+        notes,
+        side,
+        x,
+        found,
+        seen.looked,
+        next,
+        client,
+        client_name,
+        user,
+        user_name,
+    );
+    let turned = turn.side;
     ListPass {
         check: list_more(p.check, p.after, x, fault),
         after: !x,
-        side: clients_side(
-            class,
-            tables,
-            notes,
-            side,
-            x,
-            found,
-            next,
-            client,
-            client_name,
-            user,
-            user_name,
-        ),
+        side: turned,
+        looked: count::add(p.looked, turn.looked),
     }
 }
 
@@ -369,6 +441,7 @@ fn pass_end(p: ListPass) -> ListSeen
     ListSeen {
         check: list_end(p.check, p.after),
         found: side_end(side),
+        looked: p.looked,
     }
 }
 
@@ -566,6 +639,7 @@ fn pass_rest(
     RuleSeen {
         check: lowest_fault(d.check, c.check, bad_command(s, j)),
         found: then_found(of_daemons, of_clients),
+        looked: count::add(d.looked, c.looked),
     }
 }
 
@@ -588,6 +662,7 @@ pub fn pass_rule(
         return RuleSeen {
             check: Checked::Faulty(Fault::NoElement),
             found: Found::No,
+            looked: 0,
         };
     }
     let d = daemons_seen(class, tables, notes, &t[..i], search, names, request);

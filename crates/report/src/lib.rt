@@ -38,6 +38,8 @@ pub const TOUCHED: usize = 27;
 
 pub const MALFORMED: usize = 28;
 
+pub const LOOKED: usize = 29;
+
 pub fn text(s: &[u8]) {
     io::write_all(STDOUT_FILENO, s);
 }
@@ -84,7 +86,7 @@ fn nth(texts: &[u8], place: usize) -> &[u8] {
 pub fn word(place: usize) {
     text(nth(
         b"|granted|denied|ask|no line|not ruled|exempt|test|read|, no file|, allow line |, deny line |refused | section | line |sheet ok|\
-          , command:| bytes|, the same|, others|allow at |deny at |byuid at |portacl at |tables at |, | -> |touched: |malformed: ",
+          , command:| bytes|, the same|, others|allow at |deny at |byuid at |portacl at |tables at |, | -> |touched: |malformed: |, looked at ",
         place,
     ));
 }

@@ -17,12 +17,15 @@ use Rattle.lines.specs.Parts.{isSeparator, insideAfter}
 use Rattle.lines.specs.Command.{skipBlanks, trimmed, hasBadPercent}
 use Rattle.lines.proofs.LineLaws.{any-one, join-pair, join-plain, isNoNewline, join-clean}
 use Rattle.lines.proofs.RuleLaws.{rule}
+use Rattle.tables.specs.Tried.{capped}
 use Rattle.elements.specs.declared.Found.the-variants.{No}
+use Rattle.elements.specs.Code.{counted, lookedFor}
 use Rattle.lists.specs.Check.{ruleFault, ruleNames}
 use Rattle.lists.specs.Walk.{ruleFoundBy}
-use Rattle.lists.specs.Code.{NoNewline, lineFound, judgedFault}
+use Rattle.lists.specs.Looked.{ruleLookedBy}
+use Rattle.lists.specs.Code.{NoNewline, lineFound, lineLooked, judgedFault}
 use Rattle.rules.specs.declared.hosts_file.Examined.{Examined}
-use Rattle.rules.specs.FileCode.{Query, queryFound, examinedAs, ruleExamined}
+use Rattle.rules.specs.FileCode.{Query, queryFound, queryLooked, examinedAs, ruleExamined}
 
 -- ## Parting at a separator
 
@@ -138,11 +141,11 @@ ruleBy p o = let q : List ℕ × List ℕ = Option·getD o (p .1, []) in rule (e
 
 module _ (b : Bool) (r : Query) where
   tells : Rule → Examined
-  unfolding ruleFoundBy
-  tells u = examinedAs (judgedFault (r .view) (some u)) (if b then queryFound r u else No)
+  unfolding ruleFoundBy ruleLookedBy
+  tells u = examinedAs (judgedFault (r .view) (some u)) (lookedFor (if b then queryFound r u else No) (counted b (capped (queryLooked r u))))
 
   tells-command : (ds cs : List (List ℕ)) (c : List ℕ) → NoNewline (join c) → tells (rule ds cs (join c)) ≡ tells (rule ds cs c)
-  unfolding tells judgedFault ruleFault ruleNames ruleFoundBy
+  unfolding tells judgedFault ruleFault ruleNames ruleFoundBy ruleLookedBy
   tells-command ds cs c h = rw (hasBadPercent-join c h)
 
   tells-rest : (d t : List ℕ) (o : Option (List ℕ × List ℕ)) → NoNewline (join d) → NoNewline (join t) → AllParts isNoNewline (joinParts o)
@@ -152,7 +155,7 @@ module _ (b : Bool) (r : Query) where
 
   ruleExamined-parts : (s : List ℕ) (o : Option (List ℕ × List ℕ)) → splitSeparator false s ≡ o → AllParts isNoNewline (joinParts o)
       → ruleExamined b r (join s) ≡ ruleExamined b r s
-  unfolding ruleExamined lineFound parseRule tells
+  unfolding ruleExamined lineFound lineLooked parseRule tells
   ruleExamined-parts s none e h = rw (splitSeparator-join false s, e)
   ruleExamined-parts s (some p) e h =
       rw (splitSeparator-join false s, e)

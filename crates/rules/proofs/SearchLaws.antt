@@ -3,7 +3,7 @@
 --   noted-none, noted-view == the notes on no tables, and those that a view gives
 --   found-doubtful, found-answer == what the search finds
 -- Assumes nothing.
-use Prim.Native.Nat.{ℕ, zero, suc, _≤_}
+use Prim.Native.Nat.{ℕ, zero, suc, _+_, _≤_}
 use native.Mathlib.Omega.{arith}
 use mathlib.Core.Bool.{Bool, true, false, not, _&&_, _||_, true≢false, or-false}
 use mathlib.Core.List.{List, [], _∷_}
@@ -12,7 +12,7 @@ use mathlib.Core.Path.{_≡_, refl, sym, ap, ap₂, fun-ext, subst, _∙_}
 use lib.Dec.{eqb, ltb}
 use lib.ListN.{length, drop, drop-of-length-le}
 use borrow.Author.Tests.{eqb-true, lt-ltb, le-ltb, ltb-false}
-use Rattle.text.specs.Basics.{if_then_else_, _>>=_, _orElse_, given, holds, isSome, any, first}
+use Rattle.text.specs.Basics.{if_then_else_, _>>=_, _orElse_, given, holds, isSome, any, first, sumUntil}
 use Rattle.text.specs.Text.{firstAmong}
 use Rattle.text.specs.Number.{fromDigits}
 use Rattle.section.specs.declared.Fault.the-variants as F
@@ -26,33 +26,40 @@ use Rattle.lines.specs.Line.{lines}
 use Rattle.lines.specs.Rule.{Rule}
 use Rattle.tables.specs.declared.check.TablesCheck.{TablesCheck}
 use Rattle.tables.specs.Table.{Table, Matcher, afterCount, tableName, tableNamed, isMissing, patternWith, inTable, leadsPast, matchOf, readTable, tablesOf, tableNameFault, badTableFault}
+use Rattle.tables.specs.Tried.{triedIn, triedOf, capped}
 use Rattle.tables.specs.Code.{entries, tableCount, tablesIn, tablesChecked, placeNamed}
 use Rattle.tables.proofs.TableLaws.{missing-place, refusedBy, names-told, bad-told}
-use Rattle.views.specs.declared.TableBits.{TableBits}
 use Rattle.views.specs.declared.Naming.{Naming}
 use Rattle.views.specs.declared.Naming.the-variants as Naming
-use Rattle.views.specs.View.{Viewed, namingOf, notedMatch, placedNaming, isDeep}
-use Rattle.views.proofs.ViewLaws.{viewNotes, match-client, match-server, view-notes, closed, naming-right}
+use Rattle.views.specs.View.{namingOf, notedMatch, notedTried, placedNaming, isDeep}
+use Rattle.views.specs.Level.{Viewed}
+use Rattle.views.proofs.ViewLaws.{match-client, match-server, tried-client, tried-server, view-notes, closed, naming-right}
 use Rattle.elements.specs.declared.Found.{Found}
 use Rattle.elements.specs.declared.Found.the-variants.{No, Ask}
 use Rattle.elements.specs.declared.request.Request.{Request as Places}
 use Rattle.elements.specs.Request.{Request, userCase}
 use Rattle.elements.specs.Places.{requestAt}
-use Rattle.elements.specs.Element.{halves, daemonName, userHalf, foundIf, daemonParts, clientParts, daemonElement, clientElement, lookAt}
+use Rattle.elements.specs.Element.{halves, daemonName, userHalf, foundIf, daemonParts, clientParts, daemonElement, clientElement, lookAt, elementLooked}
 use Rattle.elements.specs.Code.{View, viewOf, noted}
+use Rattle.elements.proofs.CountLaws.{capped-twice}
 use Rattle.lists.specs.Walk.{onFound, included, ruleFoundBy, ruleFound}
+use Rattle.lists.specs.Looked.{furtherOn, lookedIncluded, ruleLookedBy, ruleLooked}
 use Rattle.lists.specs.Code.{missingBy, deepBy, isMissingName, isDeepName}
 use Rattle.rules.specs.declared.Verdict.the-variants as Ver
 use Rattle.rules.specs.declared.File.the-variants as File
 use Rattle.rules.specs.declared.Answer.{Answer}
 use Rattle.rules.specs.declared.hosts_file.Pass.{Pass}
 use Rattle.rules.specs.declared.hosts_file.Pass.the-variants as P
+use Rattle.rules.specs.declared.hosts_file.Tally.{Tally}
+use Rattle.rules.specs.declared.search.Searched.{Searched}
 use Rattle.rules.specs.declared.search.Finding.{Finding}
 use Rattle.rules.specs.declared.search.Finding.the-variants as Finding
 use Rattle.rules.specs.Check.{hostsFault, namingFault, missingFault, depthFault, tablesFault}
 use Rattle.rules.specs.Search.{answer, lineAnswer, search}
-use Rattle.rules.specs.FileCode.{Query, queryFound, hostsFaultAt, passOf, passBoth}
-use Rattle.rules.specs.Code.{Noted, linesFault, contentsFault, tablesDoubtful, findingOf, findingBy}
+use Rattle.rules.specs.Looked.{fileLooked, looked}
+use Rattle.rules.specs.FileCode.{Query, queryFound, queryLooked, hostsFaultAt, passOf, passBoth, tallied, linesLooked, bothLooked}
+use Rattle.rules.specs.Code.{Noted, linesFault, contentsFault, tablesDoubtful, searched, findingOf, findingBy}
+use Rattle.rules.proofs.NearLaws.{Near, rule-near, total, total-near}
 use Rattle.rules.proofs.NamingLaws.{isSome-orElse, naming-same, judged-some}
 
 -- ## What a rule finds
@@ -127,6 +134,16 @@ view-found s c m r server client =
     ap₂ {C = Rule → Found} (λ (d e : List ℕ → Found) (u : Rule). onFound (included d (u .daemons)) (included e (u .clients)) No)
     (fun-ext (daemon-at s m r server)) (fun-ext (client-at c m r client))
 
+-- what it looks at differs only by what is tried in a table
+pub view-looked : (s c m : Matcher) (x y : List ℕ → ℕ) (r : Request)
+    → ((n : List ℕ) → s n (r .server) ≡ m n (r .server)) → ((n : List ℕ) → c n (r .client) ≡ m n (r .client))
+    → ruleLookedBy s c x y r ≡ ruleLookedBy m m x y r
+unfolding ruleLookedBy
+view-looked s c m x y r server client =
+    ap₂ {C = Rule → ℕ} (λ (d e : List ℕ → Found) (u : Rule). lookedIncluded d (elementLooked x) (u .daemons)
+    + furtherOn (included d (u .daemons)) (lookedIncluded e (elementLooked y) (u .clients)) 0)
+    (fun-ext (daemon-at s m r server)) (fun-ext (client-at c m r client))
+
 -- ## Notes
 
 pub missing-of : (ts : List Table) (notes n : List ℕ) → (length notes ≡ 0 → ⊥) → isMissingName (namingOf ts notes n) ≡ isMissing ts n
@@ -163,12 +180,15 @@ noted-deep-of ts n = by (isMissing ts n) refl
         sound true = refl
         sound false = refl
 
-pub noted-view : (ts : List Table) (r : Request) (v : TableBits) → Viewed ts (r .client) (r .server) v → length ts ≤ 64 → Noted ts r (viewNotes v)
-noted-view ts r v is-v few = record {
-  noted-client = match-client ts (r .client) (r .server) v is-v few;
-  noted-server = match-server ts (r .client) (r .server) v is-v few;
-  noted-missing = λ n. missing-of ts (viewNotes v) n (λ e. omega arith);
-  noted-deep = λ e n. ap isDeepName (naming-right ts (closed ts e) (viewNotes v) (view-notes ts (r .client) (r .server) v is-v few) (λ e. omega arith) n)
+pub noted-view : (ts : List Table) (r : Request) (notes : List ℕ) → Viewed ts (r .client) (r .server) notes → length ts ≤ 64 → (length notes ≡ 0 → ⊥)
+    → Noted ts r notes
+noted-view ts r notes is-v few full = record {
+  noted-client = match-client ts (r .client) (r .server) notes is-v few;
+  noted-server = match-server ts (r .client) (r .server) notes is-v few;
+  noted-client-tried = tried-client ts (r .client) (r .server) notes is-v few;
+  noted-server-tried = tried-server ts (r .client) (r .server) notes is-v few;
+  noted-missing = λ n. missing-of ts notes n full;
+  noted-deep = λ e n. ap isDeepName (naming-right ts (closed ts e) notes (view-notes ts (r .client) (r .server) notes is-v few) full n)
       ∙ noted-deep-of ts n;
 }
 
@@ -182,40 +202,42 @@ unfolding tablesIn
 short-none t h = rw (drop-of-length-le t h) (entries-none (tableCount t))
 
 pub noted-none : (ts : List Table) (r : Request) → ts ≡ [] → Noted ts r (0 ∷ 0 ∷ 0 ∷ [])
-unfolding notedMatch placeNamed inTable leadsPast tableNamed first any namingOf
+unfolding notedMatch notedTried placeNamed inTable triedIn leadsPast tableNamed first any sumUntil namingOf capped
 noted-none ts r e = rw e (record {
   noted-client = λ n. refl;
   noted-server = λ n. refl;
+  noted-client-tried = λ n. refl;
+  noted-server-tried = λ n. refl;
   noted-missing = λ n. refl;
   noted-deep = λ k n. refl;
 })
 
--- what notes_on gives
+-- where there are no tables, and what notes_on gives
 module _ (t : List ℕ) (r : Request) where
   pub notes-none : length t ≤ 2 → Noted (tablesIn t) r (0 ∷ 0 ∷ 0 ∷ [])
   notes-none h = noted-none (tablesIn t) r (short-none t h)
 
-pub notes-view : (t names : List ℕ) (q : Places) (a b : List ℕ) (v : TableBits) → length (tablesIn t) ≤ 64 → a ≡ bytesAt names (q .«client_name»)
-    → b ≡ bytesAt names (q .«server_name») → Viewed (tablesIn t) (endpoint (q .client) a) (endpoint (q .server) b) v
-    → Noted (tablesIn t) (requestAt names q) (v .client ∷ v .server ∷ v .deep ∷ [])
-notes-view t names q a b v few is-a is-b is-v =
-    noted-view (tablesIn t) (requestAt names q) v
-    (subst (λ (x : List ℕ). Viewed (tablesIn t) (endpoint (q .client) x) (endpoint (q .server) (bytesAt names (q .«server_name»))) v) is-a
-    (subst (λ (y : List ℕ). Viewed (tablesIn t) (endpoint (q .client) a) (endpoint (q .server) y) v) is-b is-v)) few
+pub notes-view : (t names : List ℕ) (q : Places) (a b notes : List ℕ) → length (tablesIn t) ≤ 64 → length notes ≡ 131 → a ≡ bytesAt names (q .«client_name»)
+    → b ≡ bytesAt names (q .«server_name») → Viewed (tablesIn t) (endpoint (q .client) a) (endpoint (q .server) b) notes
+    → Noted (tablesIn t) (requestAt names q) notes
+notes-view t names q a b notes few long is-a is-b is-v =
+    noted-view (tablesIn t) (requestAt names q) notes
+    (subst (λ (x : List ℕ). Viewed (tablesIn t) (endpoint (q .client) x) (endpoint (q .server) (bytesAt names (q .«server_name»))) notes) is-a
+    (subst (λ (y : List ℕ). Viewed (tablesIn t) (endpoint (q .client) a) (endpoint (q .server) y) notes) is-b is-v)) few (λ e. omega arith)
 
 -- ## What the search finds
 
-finding-some : (o p : Option Refusal) (a : Answer) → isSome o ≡ isSome p → findingOf o a ≡ findingOf p a
+finding-some : (o p : Option Refusal) (a : Searched) → isSome o ≡ isSome p → findingOf o a ≡ findingOf p a
 finding-some none none a e = refl
 finding-some none (some g) a e = absurd (true≢false (sym e))
 finding-some (some f) none a e = absurd (true≢false e)
 finding-some (some f) (some g) a e = refl
 
-finding-pass : (o : Option Refusal) (x : Option Answer)
-    → findingBy (passOf o x) ≡ findingOf o (Option·getD x (answer Ver.Granted File.Neither 0 (part 0 0)))
-finding-pass (some f) x = refl
-finding-pass none none = refl
-finding-pass none (some a) = refl
+finding-pass : (o : Option Refusal) (x : Option Answer) (n : ℕ)
+    → findingBy (tallied (passOf o x) n) ≡ findingOf o (searched (Option·getD x (answer Ver.Granted File.Neither 0 (part 0 0))) n)
+finding-pass (some f) x n = refl
+finding-pass none none n = refl
+finding-pass none (some a) n = refl
 
 or-order : (a b c d e f : Bool) → ((a || (b || c)) || (d || (e || f))) ≡ ((a || d) || ((((b || e) || false) || c) || f))
 or-order true b c d e f = refl
@@ -247,13 +269,16 @@ none-of none e = refl
 none-of (some f) e = absurd (true≢false e)
 
 module _ (allow deny t : List ℕ) (whole : tablesIn t ≡ tablesOf t) (r : Request) where
+  abbrev found-answered : Searched
+  found-answered = searched (search (matchOf (tablesOf t)) allow deny r) (capped (looked (tablesOf t) allow deny r))
+
   abbrev found : Finding
-  found = findingOf (contentsFault allow deny t) (search (matchOf (tablesOf t)) allow deny r)
+  found = findingOf (contentsFault allow deny t) found-answered
 
   doubt : isSome (contentsFault allow deny t) ≡ true → Finding.Doubtful ≡ found
   doubt e = by (contentsFault allow deny t) e
     where
-      by : (o : Option Refusal) → isSome o ≡ true → Finding.Doubtful ≡ findingOf o (search (matchOf (tablesOf t)) allow deny r)
+      by : (o : Option Refusal) → isSome o ≡ true → Finding.Doubtful ≡ findingOf o found-answered
       by none k = absurd (true≢false (sym k))
       by (some f) k = refl
 
@@ -361,27 +386,54 @@ module _ (allow deny t : List ℕ) (whole : tablesIn t ≡ tablesOf t) (r : Requ
           (λ n. is-noted .noted-server n ∙ ap (λ (y : List Table). matchOf y n (r .server)) whole)
           (λ n. is-noted .noted-client n ∙ ap (λ (y : List Table). matchOf y n (r .client)) whole)
 
-      pub found-answer : (p : Pass) → p ≡ passBoth (record { view = v; request = r }) allow deny → (f : Finding) → f ≡ findingBy p → f ≡ found
+      abbrev query : Query
+      query = record { view = v; request = r }
+
+      -- what is tried in a table, as 64 bits say it
+      server-near : Near (v .serverTried) (λ n. triedOf ts n (r .server))
+      server-near n = ap capped (is-noted .noted-server-tried n) ∙ capped-twice (triedOf (tablesIn t) n (r .server))
+          ∙ ap (λ (y : List Table). capped (triedOf y n (r .server))) whole
+
+      client-near : Near (v .clientTried) (λ n. triedOf ts n (r .client))
+      client-near n = ap capped (is-noted .noted-client-tried n) ∙ capped-twice (triedOf (tablesIn t) n (r .client))
+          ∙ ap (λ (y : List Table). capped (triedOf y n (r .client))) whole
+
+      same-looked : Near (queryLooked query) (ruleLooked ts r)
+      unfolding noted
+      same-looked u =
+          ap (λ (f : Rule → ℕ). capped (f u)) (view-looked (v .server) (v .client) (matchOf ts) (v .serverTried) (v .clientTried) r
+          (λ n. is-noted .noted-server n ∙ ap (λ (y : List Table). matchOf y n (r .server)) whole)
+          (λ n. is-noted .noted-client n ∙ ap (λ (y : List Table). matchOf y n (r .client)) whole))
+          ∙ rule-near (matchOf ts) (matchOf ts) r (v .serverTried) (λ n. triedOf ts n (r .server)) (v .clientTried) (λ n. triedOf ts n (r .client))
+          server-near client-near u
+
+      both-looked : capped (bothLooked query allow deny) ≡ capped (looked ts allow deny r)
+      unfolding bothLooked looked fileLooked linesLooked
+      both-looked = ap (λ (g : Rule → Found). capped (total g (queryLooked query) allow deny)) same-found
+          ∙ total-near (ruleFound (matchOf ts) r) (queryLooked query) (ruleLooked ts r) same-looked allow deny
+
+      pub found-answer : (p : Tally) → p ≡ tallied (passBoth query allow deny) (capped (bothLooked query allow deny))
+          → (f : Finding) → f ≡ findingBy p → f ≡ found
       unfolding passBoth search
       found-answer p is-p f is-f =
           let o : Option Refusal = hostsFaultAt 1 v allow orElse hostsFaultAt 2 v deny in
           let answers : (Rule → Found) → Option Answer = λ g.
           first (lineAnswer Ver.Granted File.Allow g) (lines allow) orElse first (lineAnswer Ver.Denied File.Deny g) (lines deny) in
           let end : Answer = answer Ver.Granted File.Neither 0 (part 0 0) in
-          is-f ∙ ap findingBy is-p ∙ finding-pass o (answers (queryFound (record { view = v; request = r })))
-          ∙ ap (λ (g : Rule → Found). findingOf o (Option·getD (answers g) end)) same-found
-          ∙ finding-some o (contentsFault allow deny t) (Option·getD (answers (ruleFound (matchOf ts) r)) end) both-some
+          is-f ∙ ap findingBy is-p ∙ finding-pass o (answers (queryFound query)) (capped (bothLooked query allow deny))
+          ∙ ap₂ (λ (g : Rule → Found) (n : ℕ). findingOf o (searched (Option·getD (answers g) end) n)) same-found both-looked
+          ∙ finding-some o (contentsFault allow deny t) (searched (Option·getD (answers (ruleFound (matchOf ts) r)) end) (capped (looked ts allow deny r))) both-some
 
 -- ## What a pass, and the tables by themselves, tell
 
-module _ (p : Pass) where
-  pub by-faulty : (g : Refusal) → p ≡ P.Faulty g → Finding.Doubtful ≡ findingBy p
+module _ (p : Tally) where
+  pub by-faulty : (g : Refusal) → p .pass ≡ P.Faulty g → Finding.Doubtful ≡ findingBy p
   by-faulty g e = rw e
 
-  pub by-unmatched : p ≡ P.Unmatched → Finding.Answer (answer Ver.Granted File.Neither 0 (part 0 0)) ≡ findingBy p
+  pub by-unmatched : p .pass ≡ P.Unmatched → Finding.Answer (searched (answer Ver.Granted File.Neither 0 (part 0 0)) (p .looked)) ≡ findingBy p
   by-unmatched e = rw e
 
-  pub by-matched : (a : Answer) → p ≡ P.Matched a → Finding.Answer a ≡ findingBy p
+  pub by-matched : (a : Answer) → p .pass ≡ P.Matched a → Finding.Answer (searched a (p .looked)) ≡ findingBy p
   by-matched a e = rw e
 
 module _ (t : List ℕ) (n : ℕ) (is-n : n ≡ length (tablesIn t)) (y : Bool) (is-y : y ≡ ltb 12288 (length t)) where

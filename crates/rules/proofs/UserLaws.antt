@@ -67,7 +67,7 @@ module _ (m m′ : List ℕ → Found) (agree : (w : List ℕ) → Quiet (m w) �
   mutual
     unfolding included excluded
 
-    included-same : (ws : List (List ℕ)) → Quiet (included m ws) → included m′ ws ≡ included m ws
+    pub included-same : (ws : List (List ℕ)) → Quiet (included m ws) → included m′ ws ≡ included m ws
     included-same [] h = refl
     included-same (w ∷ ws) h =
         if-same (isExcept w) No No (onFound (m w) (excluded m ws) (included m ws)) (onFound (m′ w) (excluded m′ ws) (included m′ ws)) h (λ q. refl)
@@ -81,7 +81,7 @@ module _ (m m′ : List ℕ → Found) (agree : (w : List ℕ) → Quiet (m w) �
         (λ q. onFound-same (included m ws) (included m′ ws) No No Yes Yes q (λ k. included-same ws k) (λ k. refl) (λ k. refl))
         (λ k. excluded-same ws k)
 
-first-same : (f f′ : Line → Option Answer) → ((l : Line) → QuietAnswer (f l) → f′ l ≡ f l) → (ls : List Line) → QuietAnswer (first f ls) → first f′ ls
+pub first-same : (f f′ : Line → Option Answer) → ((l : Line) → QuietAnswer (f l) → f′ l ≡ f l) → (ls : List Line) → QuietAnswer (first f ls) → first f′ ls
     ≡ first f ls
 unfolding first
 first-same f f′ same [] h = refl
@@ -103,7 +103,7 @@ module _ (m : Matcher) (r : Request) (t₀ : List ℕ) (u : User) (t : List ℕ)
   asked = withUser r u t
 
   -- a daemon element knows no user
-  daemon-same : (e : List ℕ) → lookAt asked (daemonElement m e) ≡ lookAt unasked (daemonElement m e)
+  pub daemon-same : (e : List ℕ) → lookAt asked (daemonElement m e) ≡ lookAt unasked (daemonElement m e)
   unfolding daemonElement daemonParts
   daemon-same e = by (halves e)
     where
@@ -124,7 +124,7 @@ module _ (m : Matcher) (r : Request) (t₀ : List ℕ) (u : User) (t : List ℕ)
       by (some p) = half (daemonName (p .0)) (patternWith m (p .1))
 
   -- a client element that does not ask knows none either
-  client-same : (e : List ℕ) → Quiet (lookAt unasked (clientElement m e)) → lookAt asked (clientElement m e) ≡ lookAt unasked (clientElement m e)
+  pub client-same : (e : List ℕ) → Quiet (lookAt unasked (clientElement m e)) → lookAt asked (clientElement m e) ≡ lookAt unasked (clientElement m e)
   unfolding clientElement clientParts
   client-same e = by (halves e)
     where
@@ -159,7 +159,7 @@ module _ (m : Matcher) (r : Request) (t₀ : List ℕ) (u : User) (t : List ℕ)
       (included-same (λ e. lookAt unasked (clientElement m e)) (λ e. lookAt asked (clientElement m e)) client-same (x .clients))
       (λ q. refl)
 
-  line-same : (v : Verdict) (f : File) (l : Line) → QuietAnswer (lineAnswer v f (ruleFound m unasked) l) → lineAnswer v f (ruleFound m asked) l ≡ lineAnswer v f (ruleFound m unasked) l
+  pub line-same : (v : Verdict) (f : File) (l : Line) → QuietAnswer (lineAnswer v f (ruleFound m unasked) l) → lineAnswer v f (ruleFound m asked) l ≡ lineAnswer v f (ruleFound m unasked) l
   unfolding lineAnswer
   line-same v f l = by (isComment l || isBlank l) (parseRule (l .raw))
     where

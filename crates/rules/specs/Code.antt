@@ -3,8 +3,8 @@
 --   linesFaultBy v allow deny  == the same, and by the tables that they name, as the view v has them
 --   contentsFault allow deny t == the refusal of both files and of the tables of t
 --   fromTables, fromDepth      == what is left of tablesFault once no file names a table that is missing, and once no table does
---   Noted ts r notes           == the notes say of each table whether it matches the hosts of r, and whether it may be named
---   findingOf o a, findingBy p == what a search finds
+--   Noted ts r notes           == the notes say of each table whether it matches the hosts of r, what is tried in it, and whether it may be named
+--   findingOf o s, findingBy p == what a search finds
 -- Assumes nothing: these are definitions.
 use Prim.Native.Nat.{ℕ}
 use mathlib.Core.Bool.{Bool, not, _||_}
@@ -20,23 +20,25 @@ use Rattle.section.specs.Refusal.{refusal, placeless}
 use Rattle.section.specs.Section as S
 use Rattle.section.specs.Section.{part}
 use Rattle.tables.specs.Table.{Table, tablesOf, isMissing, leadsPast, depth, matchOf, tableNameFault, badTableFault}
+use Rattle.tables.specs.Tried.{capped, triedOf}
 use Rattle.tables.specs.Code.{tablesIn, tablesChecked}
-use Rattle.views.specs.View.{namingOf, notedMatch}
+use Rattle.views.specs.View.{namingOf, notedMatch, notedTried}
 use Rattle.elements.specs.Request.{Request}
 use Rattle.elements.specs.Code.{View}
 use Rattle.lists.specs.Code.{isMissingName, isDeepName}
 use Rattle.rules.specs.declared.Answer.{Answer}
-use Rattle.rules.specs.declared.Ruling.{Ruling}
-use Rattle.rules.specs.declared.Ruling.the-variants as R
+use Rattle.rules.specs.declared.Reported.{Reported}
 use Rattle.rules.specs.declared.Verdict.the-variants.{Granted}
 use Rattle.rules.specs.declared.File.the-variants.{Neither}
 use Rattle.rules.specs.declared.hosts_file.Pass.{Pass}
 use Rattle.rules.specs.declared.hosts_file.Pass.the-variants as P
+use Rattle.rules.specs.declared.hosts_file.Tally.{Tally}
+use Rattle.rules.specs.declared.search.Searched.{Searched}
 use Rattle.rules.specs.declared.search.Finding.{Finding}
 use Rattle.rules.specs.declared.search.Finding.the-variants as Finding
 use Rattle.rules.specs.Check.{hostsFault, missingFault, depthFault, tablesFault}
 use Rattle.rules.specs.Search.{answer}
-use Rattle.rules.specs.FileCode.{hostsFaultAt}
+use Rattle.rules.specs.FileCode.{hostsFaultAt, refusedReport}
 
 -- ## In order
 
@@ -81,6 +83,8 @@ pub record Named (allow deny t : List ℕ) : Type 0 where
 pub record Noted (ts : List Table) (r : Request) (notes : List ℕ) : Type 0 where
   pub noted-client : (n : List ℕ) → notedMatch 0 ts notes n ≡ matchOf ts n (r .client)
   pub noted-server : (n : List ℕ) → notedMatch 1 ts notes n ≡ matchOf ts n (r .server)
+  pub noted-client-tried : (n : List ℕ) → notedTried 0 ts notes n ≡ capped (triedOf ts n (r .client))
+  pub noted-server-tried : (n : List ℕ) → notedTried 1 ts notes n ≡ capped (triedOf ts n (r .server))
   pub noted-missing : (n : List ℕ) → isMissingName (namingOf ts notes n) ≡ isMissing ts n
   pub noted-deep : tableNameFault ts ≡ none → (n : List ℕ) → isDeepName (namingOf ts notes n) ≡ leadsPast ts depth n
 
@@ -89,16 +93,22 @@ tablesDoubtful t =
     (ltb 64 (length (tablesIn t)) || ltb (S.tables .limit) (length t))
     || (not (eqb (tablesChecked (tablesIn t) .misnamed) 0) || not (eqb (tablesChecked (tablesIn t) .unsound) 0))
 
-abbrev pub findingOf : Option Refusal → Answer → Finding
-findingOf none a = Finding.Answer a
-findingOf (some f) a = Finding.Doubtful
+abbrev pub searched : Answer → ℕ → Searched
+searched a n = record { answer = a; looked = n }
 
-abbrev pub findingBy : Pass → Finding
-findingBy (P.Faulty g) = Finding.Doubtful
-findingBy P.Unmatched = Finding.Answer (answer Granted Neither 0 (part 0 0))
-findingBy (P.Matched a) = Finding.Answer a
+abbrev pub findingOf : Option Refusal → Searched → Finding
+findingOf none x = Finding.Answer x
+findingOf (some f) x = Finding.Doubtful
 
-abbrev pub refusedBy : Pass → Ruling
-refusedBy (P.Faulty g) = R.Refused g
-refusedBy P.Unmatched = R.Refused (placeless F.BadRequest)
-refusedBy (P.Matched a) = R.Refused (placeless F.BadRequest)
+abbrev pub passFinding : Pass → ℕ → Finding
+passFinding (P.Faulty g) n = Finding.Doubtful
+passFinding P.Unmatched n = Finding.Answer (searched (answer Granted Neither 0 (part 0 0)) n)
+passFinding (P.Matched a) n = Finding.Answer (searched a n)
+
+abbrev pub findingBy : Tally → Finding
+findingBy t = passFinding (t .pass) (t .looked)
+
+abbrev pub refusedBy : Pass → Reported
+refusedBy (P.Faulty g) = refusedReport g
+refusedBy P.Unmatched = refusedReport (placeless F.BadRequest)
+refusedBy (P.Matched a) = refusedReport (placeless F.BadRequest)

@@ -5,9 +5,11 @@
 --   passLine .. l, passText .. t == the same of a line and of a text; the answer is looked for only if search holds
 --   combined p q       == the pass p over some lines, then q over what follows
 --   passBoth r allow deny == the pass over both texts
---   rulingBy p sound == the ruling by that pass, on a request that is sound or not
+--   tallied p n      == the pass p, for which n elements were looked at; a fault counts nothing
+--   refusingRequest sound a n == the report of the answer a and the number n, on a request that is sound or not
 --   lineKind l      == whether the line l is faulty by 4 to 6, passed over, or a rule
---   ruleExamined .. t, lineExamined .. l == the lowest fault of a rule and of a line, else what it finds
+--   ruleExamined .. t, lineExamined .. l == the lowest fault of a rule and of a line, else what it finds and looks at
+--   lineLooks .. l, linesLooked .. ls, bothLooked r allow deny == what a line, lines, and both texts look at
 --   commandPart at s o == the raw command of the rule o, which was read from the line s at a place
 --   ScannedLine s l  == the bytes s are those of a line that was scanned as l
 --   stepOf .. t i n s == what the step over the line of t at i, of number n and scanned as s, answers
@@ -18,7 +20,7 @@ use mathlib.Core.List.{List, [], _∷_}
 use mathlib.Core.Option.{Option, none, some}
 use mathlib.Core.Path.{_≡_}
 use lib.ListN.{length, take, drop}
-use Rattle.text.specs.Basics.{if_then_else_, _orElse_, first}
+use Rattle.text.specs.Basics.{if_then_else_, _orElse_, isSome, first, sumUntil}
 use Rattle.text.specs.Text.{bytes}
 use Rattle.section.specs.declared.Fault.{Fault}
 use Rattle.section.specs.declared.Fault.the-variants as F
@@ -32,20 +34,23 @@ use Rattle.lines.specs.Line.{Line, line, join, lines, isComment, isBlank, hasBa
 use Rattle.lines.specs.Rule.{Rule, parseRule}
 use Rattle.elements.specs.declared.Found.{Found}
 use Rattle.elements.specs.declared.Found.the-variants.{No}
+use Rattle.elements.specs.declared.Looked.{Looked}
 use Rattle.elements.specs.declared.request.Request.{Request as Places}
 use Rattle.elements.specs.Request.{Request}
 use Rattle.elements.specs.Places.{requestAt}
-use Rattle.elements.specs.Code.{View, viewOf}
-use Rattle.lists.specs.Code.{NoNewline, viewFound, lineFound, judgedFault}
+use Rattle.elements.specs.Code.{View, viewOf, counted, lookedFor}
+use Rattle.tables.specs.Tried.{capped}
+use Rattle.lists.specs.Code.{NoNewline, viewFound, lineFound, viewLooked, lineLooked, judgedFault}
 use Rattle.rules.specs.declared.Verdict.{Verdict}
 use Rattle.rules.specs.declared.Verdict.the-variants.{Granted, Denied, Ask}
 use Rattle.rules.specs.declared.File.{File}
 use Rattle.rules.specs.declared.File.the-variants.{Neither, Allow, Deny}
 use Rattle.rules.specs.declared.Answer.{Answer}
-use Rattle.rules.specs.declared.Ruling.{Ruling}
+use Rattle.rules.specs.declared.Reported.{Reported}
 use Rattle.rules.specs.declared.Ruling.the-variants as R
 use Rattle.rules.specs.declared.hosts_file.Pass.{Pass}
 use Rattle.rules.specs.declared.hosts_file.Pass.the-variants as P
+use Rattle.rules.specs.declared.hosts_file.Tally.{Tally}
 use Rattle.rules.specs.declared.hosts_file.LineKind.{LineKind}
 use Rattle.rules.specs.declared.hosts_file.LineKind.the-variants as Kind
 use Rattle.rules.specs.declared.hosts_file.Examined.{Examined}
@@ -53,6 +58,7 @@ use Rattle.rules.specs.declared.hosts_file.Examined.the-variants as T
 use Rattle.rules.specs.declared.hosts_file.Step.{Step}
 use Rattle.rules.specs.Check.{lineFaultBy}
 use Rattle.rules.specs.Search.{answer, rawCommand, lineAnswer}
+use Rattle.rules.specs.Looked.{lineCount}
 
 -- the paper's words; no promise cites them
 abbrev pub verdictWord : Verdict → List ℕ
@@ -112,14 +118,32 @@ passBoth r allow deny = passOf
     (hostsFaultAt 1 (r .view) allow orElse hostsFaultAt 2 (r .view) deny)
     (first (lineAnswer Granted Allow (queryFound r)) (lines allow) orElse first (lineAnswer Denied Deny (queryFound r)) (lines deny))
 
-abbrev pub refusingRequest : Bool → Answer → Ruling
-refusingRequest true a = R.Answered a
-refusingRequest false a = R.Refused (placeless F.BadRequest)
+-- a fault counts nothing
+abbrev pub tallied : Pass → ℕ → Tally
+tallied (P.Faulty g) n = record { pass = P.Faulty g; looked = 0 }
+tallied P.Unmatched n = record { pass = P.Unmatched; looked = n }
+tallied (P.Matched a) n = record { pass = P.Matched a; looked = n }
 
-abbrev pub rulingBy : Pass → Bool → Ruling
-rulingBy (P.Faulty g) sound = R.Refused g
-rulingBy P.Unmatched sound = refusingRequest sound (answer Granted Neither 0 (part 0 0))
-rulingBy (P.Matched a) sound = refusingRequest sound a
+abbrev pub queryLooked : Query → Rule → ℕ
+queryLooked q = viewLooked (q .view) (q .request)
+
+abbrev pub lineLooks : Bool → Query → Line → ℕ
+lineLooks search r l = counted search (lineCount (queryLooked r) l)
+
+unfoldable pub linesLooked : Verdict → File → Bool → Query → List Line → ℕ
+linesLooked v f search r ls = counted search (sumUntil (λ l. isSome (lineAnswer v f (queryFound r) l)) (lineCount (queryLooked r)) ls)
+
+unfoldable pub bothLooked : Query → List ℕ → List ℕ → ℕ
+bothLooked r allow deny =
+    linesLooked Granted Allow true r (lines allow)
+    + (if isSome (first (lineAnswer Granted Allow (queryFound r)) (lines allow)) then 0 else linesLooked Denied Deny true r (lines deny))
+
+abbrev pub refusedReport : Refusal → Reported
+refusedReport g = record { ruling = R.Refused g; looked = 0 }
+
+abbrev pub refusingRequest : Bool → Answer → ℕ → Reported
+refusingRequest true a n = record { ruling = R.Answered a; looked = n }
+refusingRequest false a n = refusedReport (placeless F.BadRequest)
 
 -- ## A line
 
@@ -138,16 +162,20 @@ kindAs none false = Kind.HasRule
 unfoldable pub lineKind : Line → LineKind
 lineKind l = kindAs (layoutFault l) (isComment l || isBlank l)
 
-abbrev pub examinedAs : Option Fault → Found → Examined
+abbrev pub examinedAs : Option Fault → Looked → Examined
 examinedAs (some f) x = T.Faulty f
 examinedAs none x = T.Finds x
 
+-- what the rule in t finds and looks at, if it is searched
+abbrev pub soughtIn : Bool → Query → List ℕ → Looked
+soughtIn search r t =
+    lookedFor (if search then lineFound (r .view) (r .request) t else No) (counted search (capped (lineLooked (r .view) (r .request) t)))
+
 unfoldable pub ruleExamined : Bool → Query → List ℕ → Examined
-ruleExamined search r t = examinedAs (judgedFault (r .view) (parseRule t)) (if search then lineFound (r .view) (r .request) t else No)
+ruleExamined search r t = examinedAs (judgedFault (r .view) (parseRule t)) (soughtIn search r t)
 
 unfoldable pub lineExamined : Bool → Query → Line → Examined
-lineExamined search r l = examinedAs (judgedLine (r .view) l)
-    (if isComment l || isBlank l then No else if search then lineFound (r .view) (r .request) (l .raw) else No)
+lineExamined search r l = examinedAs (judgedLine (r .view) l) (if isComment l || isBlank l then lookedFor No 0 else soughtIn search r (l .raw))
 
 unfoldable pub commandPart : ℕ → List ℕ → Option Rule → Part
 commandPart at s none = part (at + length s) 0
@@ -162,5 +190,7 @@ abbrev pub stepOf : ℕ → Verdict → File → Bool → Query → List ℕ →
 stepOf s v f search r t i n l = record {
   next = l .end + 1;
   number = n + l .joins + 1;
-  pass = passLine s v f search r (line n i (take (l .end - i) (drop i t)) (l .ended));
+  tally =
+      tallied (passLine s v f search r (line n i (take (l .end - i) (drop i t)) (l .ended)))
+      (capped (lineLooks search r (line n i (take (l .end - i) (drop i t)) (l .ended))));
 }

@@ -2,7 +2,6 @@
 --   search m allow deny r == the answer on a request by two sound texts, where m says what a named table matches
 --   decide allow deny o == the call without tables: every check, then the search for the request in o
 --   decideTables allow deny t o == the call with the tables of t
---   verdictRuling o          == the outcome o as the call answers it
 --   commandBytes allow deny a == the bytes of the raw command of the answer a
 -- Assumes nothing: these are definitions.
 use Prim.Native.Nat.{ℕ, _+_, _-_}
@@ -12,7 +11,7 @@ use mathlib.Core.Option.{Option, none, some, Option·getD}
 use lib.ListN.{length}
 use Rattle.text.specs.Basics.{if_then_else_, _>>=_, _orElse_, isEmpty, first}
 use Rattle.section.specs.declared.Part.{Part}
-use Rattle.section.specs.Refusal.{Outcome, refused, answered, _before_, fitting}
+use Rattle.section.specs.Refusal.{Outcome, answered, _before_, fitting}
 use Rattle.section.specs.Section as S
 use Rattle.section.specs.Section.{part, bytesAt, overLimit}
 use Rattle.lines.specs.Line.{Line, lines, isComment, isBlank}
@@ -28,8 +27,6 @@ use Rattle.rules.specs.declared.Verdict.the-variants.{Granted, Denied, A
 use Rattle.rules.specs.declared.File.{File}
 use Rattle.rules.specs.declared.File.the-variants.{Neither, Allow, Deny}
 use Rattle.rules.specs.declared.Answer.{Answer}
-use Rattle.rules.specs.declared.Ruling.{Ruling}
-use Rattle.rules.specs.declared.Ruling.the-variants as Ruling
 use Rattle.rules.specs.Check.{hostsFault, tablesFault}
 
 -- the section of a file
@@ -82,10 +79,6 @@ decideTables allow deny t o =
     (overLimit S.allow allow orElse overLimit S.deny deny orElse tablesFrame t
     orElse hostsFault S.allow allow orElse hostsFault S.deny deny orElse tablesFault allow deny t)
     before decideOver (tablesOf t) allow deny o
-
-abbrev pub verdictRuling : Outcome Answer → Ruling
-verdictRuling (refused f) = Ruling.Refused f
-verdictRuling (answered a) = Ruling.Answered a
 
 -- "The verdict hands back the raw command as a part of the allow file or of the deny file"
 abbrev pub commandBytes : List ℕ → List ℕ → Answer → List ℕ

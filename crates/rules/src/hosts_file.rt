@@ -1,6 +1,7 @@
 // One pass over an allow or deny text: its lowest fault, and its first matching rule.
 //   check_file(tables, notes, text, order) == the refusal of a text, if it has one
-//   pass_file(tables, notes, text, ..) == the refusal of a text, else its first match, which is looked for only if search holds
+//   pass_file(tables, notes, text, ..) == the refusal of a text, else its first match, which is looked for only if search holds, and how
+//                                         many elements were looked at for it
 ghost use mathlib.Core.Path.{_≡_};
 ghost use Prim.Native.Nat.{_+_, _≤_, _<_};
 ghost use lib.ListN.{length, drop};
@@ -10,14 +11,19 @@ ghost use Rattle.lines.specs.Scan.{spanAt, scanLine};
 ghost use Rattle.elements.specs.Code.{viewOf};
 ghost use Rattle.classes.specs.Class.{Classes};
 ghost use Rattle.lists.specs.Code.{NoNewline};
+ghost use Rattle.lines.specs.Line.{lines};
+ghost use Rattle.tables.specs.Tried.{capped};
 ghost use Rattle.rules.specs.FileCode.{queryAt, ScannedLine, lineKind, ruleExamined, lineExamined, commandPart, passLine, stepOf, passText, passOf, hostsFaultAt};
+ghost use Rattle.rules.specs.FileCode.{tallied, lineLooks, linesLooked};
 ghost use mathlib.Core.Option.{none};
 use super::Answer;
 use super::File;
 use super::Verdict;
 use address::Addr;
 use elements::Found;
+use elements::Looked;
 use elements::User;
+use elements::count;
 use elements::request::Request;
 use lines::line;
 use lines::line::LineSpan;
@@ -36,6 +42,12 @@ pub enum Pass {
     Matched(Answer),
 }
 
+// A pass, and how many elements were looked at for it: none where there is a fault.
+pub struct Tally {
+    pub pass: Pass,
+    pub looked: u64,
+}
+
 // What a line is before its rule is read: faulty, a comment or blank, or a rule.
 pub enum LineKind {
     Faulty(Fault),
@@ -43,17 +55,37 @@ pub enum LineKind {
     HasRule,
 }
 
-// What a line tells: its lowest fault, else what it finds of the request.
+// What a line tells: its lowest fault, else what it finds of the request and looks at.
 pub enum Examined {
     Faulty(Fault),
-    Finds(Found),
+    Finds(Looked),
 }
 
 // Where the next line starts, its number, and what this one gives.
 pub struct Step {
     pub next: usize,
     pub number: usize,
-    pub pass: Pass,
+    pub tally: Tally,
+}
+
+// A pass with its number.
+pub fn tallied(pass: Pass, looked: u64) -> Tally
+    ensures { λ r. ⌜ r ≡ tallied pass looked ⌝ }
+{
+    match pass {
+        Pass::Faulty(f) => Tally {
+            pass: Pass::Faulty(f),
+            looked: 0,
+        },
+        Pass::Unmatched => Tally {
+            pass: Pass::Unmatched,
+            looked,
+        },
+        Pass::Matched(a) => Tally {
+            pass: Pass::Matched(a),
+            looked,
+        },
+    }
 }
 
 // The kind of a line that was scanned.
@@ -104,7 +136,10 @@ fn examine_rule(
     let found = seen.found;
     match check {
         Checked::Faulty(f) => Examined::Faulty(f),
-        Checked::Sound => Examined::Finds(found),
+        Checked::Sound => Examined::Finds(Looked {
+            found,
+            looked: seen.looked,
+        }),
     }
 }
 
@@ -152,7 +187,10 @@ fn examine_line(
 {
     match kind_of_line(raw, span) {
         LineKind::Faulty(f) => Examined::Faulty(f),
-        LineKind::Skipped => Examined::Finds(Found::No),
+        LineKind::Skipped => Examined::Finds(Looked {
+            found: Found::No,
+            looked: 0,
+        }),
         LineKind::HasRule => {
             if span.joins == 0 {
                 examine_rule(class, tables, notes, raw, search, names, request)
@@ -198,36 +236,53 @@ fn pass_line(
     search: bool,
     names: &[u8],
     request: Request,
-) -> Pass
+) -> Tally
     requires { ⌜ Classes (now class) ⌝ }
     requires { ⌜ (ScannedLine (now raw) span) × (at + length (now raw) < 18446744073709551616) ⌝ }
     ensures { λ r.
         ⌜ r
-        ≡ passLine order verdict file search
-        (queryAt (now (tables .entry)) (now (notes .entry)) (now (names .entry)) request)
-        (line n at (now (raw .entry)) (span .ended)) ⌝ }
+        ≡ tallied
+        (passLine order verdict file search (queryAt (now (tables .entry)) (now (notes .entry)) (now (names .entry)) request)
+        (line n at (now (raw .entry)) (span .ended)))
+        (capped (lineLooks search (queryAt (now (tables .entry)) (now (notes .entry)) (now (names .entry)) request)
+        (line n at (now (raw .entry)) (span .ended)))) ⌝ }
 {
     match examine_line(class, tables, notes, raw, span, search, names, request) {
-        Examined::Faulty(f) => Pass::Faulty(Refusal {
-            fault: f,
-            section: order,
-            line: n,
-        }),
-        Examined::Finds(found) => match found {
-            Found::No => Pass::Unmatched,
-            Found::Ask => Pass::Matched(Answer {
-                verdict: Verdict::Ask,
-                file,
+        Examined::Faulty(f) => Tally {
+            pass: Pass::Faulty(Refusal {
+                fault: f,
+                section: order,
                 line: n,
-                command: Part { place: 0, len: 0 },
             }),
-            Found::Yes => Pass::Matched(Answer {
-                verdict,
-                file,
-                line: n,
-                command: command_of(raw, at),
-            }),
+            looked: 0,
         },
+        Examined::Finds(seen) => {
+            let found = seen.found;
+            match found {
+                Found::No => Tally {
+                    pass: Pass::Unmatched,
+                    looked: seen.looked,
+                },
+                Found::Ask => Tally {
+                    pass: Pass::Matched(Answer {
+                        verdict: Verdict::Ask,
+                        file,
+                        line: n,
+                        command: Part { place: 0, len: 0 },
+                    }),
+                    looked: seen.looked,
+                },
+                Found::Yes => Tally {
+                    pass: Pass::Matched(Answer {
+                        verdict,
+                        file,
+                        line: n,
+                        command: command_of(raw, at),
+                    }),
+                    looked: seen.looked,
+                },
+            }
+        }
     }
 }
 
@@ -256,7 +311,7 @@ fn step_over(
 {
     let span = line::scan_line(text, i);
     let e = span.end;
-    let pass = pass_line(
+    let tally = pass_line(
         class,
         tables,
         notes,
@@ -274,7 +329,7 @@ fn step_over(
     Step {
         next: e + 1,
         number: n + span.joins + 1,
-        pass,
+        tally,
     }
 }
 
@@ -291,18 +346,19 @@ fn pass_lines(
     search: bool,
     names: &[u8],
     request: Request,
-) -> Pass
+) -> Tally
     requires { ⌜ Classes (now class) ⌝ }
     ensures { λ r.
         ⌜ r
-        ≡ passText order verdict file search
-        (queryAt (now (tables .entry)) (now (notes .entry)) (now (names .entry)) request)
-        (now (text .entry)) ⌝ }
+        ≡ tallied
+        (passText order verdict file search (queryAt (now (tables .entry)) (now (notes .entry)) (now (names .entry)) request) (now (text .entry)))
+        (capped (linesLooked verdict file search (queryAt (now (tables .entry)) (now (notes .entry)) (now (names .entry)) request) (lines (now (text .entry))))) ⌝ }
 {
     let mut i = 0;
     let mut n = 1;
     let mut searching = search;
     let mut found = Pass::Unmatched;
+    let mut looked = 0;
     while i < text.len() {
         let step = step_over(
             class,
@@ -318,10 +374,15 @@ fn pass_lines(
             names,
             request,
         );
-        let pass = step.pass;
+        let tally = step.tally;
+        let so_far = count::add(looked, tally.looked);
+        let pass = tally.pass;
         match pass {
             Pass::Faulty(f) => {
-                return Pass::Faulty(f);
+                return Tally {
+                    pass: Pass::Faulty(f),
+                    looked: 0,
+                };
             }
             Pass::Unmatched => {}
             Pass::Matched(a) => {
@@ -329,10 +390,14 @@ fn pass_lines(
                 searching = false;
             }
         }
+        looked = so_far;
         i = step.next;
         n = step.number;
     }
-    found
+    Tally {
+        pass: found,
+        looked,
+    }
 }
 
 // What a text gives. The classes of bytes are made once for all of its lines.
@@ -346,15 +411,18 @@ pub fn pass_file(
     search: bool,
     names: &[u8],
     request: Request,
-) -> Pass
+) -> Tally
     ensures { λ r.
         ⌜ r
-        ≡ passText order verdict file search
-        (queryAt (now (tables .entry)) (now (notes .entry)) (now (names .entry)) request)
-        (now (text .entry)) ⌝ }
+        ≡ tallied
+        (passText order verdict file search (queryAt (now (tables .entry)) (now (notes .entry)) (now (names .entry)) request) (now (text .entry)))
+        (capped (linesLooked verdict file search (queryAt (now (tables .entry)) (now (notes .entry)) (now (names .entry)) request) (lines (now (text .entry))))) ⌝ }
 {
     if text.len() == 0 {
-        return Pass::Unmatched;
+        return Tally {
+            pass: Pass::Unmatched,
+            looked: 0,
+        };
     }
     let class = classes::classes();
     pass_lines(
@@ -389,7 +457,7 @@ pub fn check_file(tables: &[u8], notes: &[u64], text: &[u8], order: u8) -> Pass
         user: User::NotFetched,
         user_name: none,
     };
-    pass_file(
+    let tally = pass_file(
         tables,
         notes,
         text,
@@ -399,5 +467,7 @@ pub fn check_file(tables: &[u8], notes: &[u64], text: &[u8], order: u8) -> Pass
         false,
         &text[..0],
         nobody,
-    )
+    );
+    let pass = tally.pass;
+    pass
 }

@@ -1,5 +1,5 @@
 // The checks of the allow and deny files, and the verdict on a request.
-//   decide(allow, deny, ..)  == the verdict, or the refusal of a text or of the request
+//   decide(allow, deny, ..)  == the verdict and how many elements were looked at for it, or the refusal of a text or of the request
 //   decide_tables(allow, deny, tables, ..) == the same over tables
 //   find(allow, deny, tables, ..) == the answer by sound texts; where they are not, that there is a doubt
 //   naming::check_contents(..) == the refusal of texts, in the order of document 02
@@ -18,12 +18,18 @@ ghost use Rattle.section.specs.Refusal.{_before_};
 ghost use Rattle.text.specs.Basics.{_orElse_};
 ghost use Rattle.tables.specs.Table.{tablesOf, tablesFrame};
 ghost use Rattle.tables.specs.Code.{tablesIn};
-ghost use Rattle.rules.specs.Search.{decide as decideBy, decideOver, decideTables, verdictRuling, commandBytes};
-ghost use Rattle.rules.specs.FileCode.{isUnmatched, combined, queryAt, passBoth, refusingRequest};
+ghost use Rattle.tables.specs.Tried.{capped};
+ghost use Rattle.rules.specs.Search.{decide as decideBy, decideOver, decideTables, commandBytes};
+ghost use Rattle.rules.specs.Looked.{lookedOver, reported};
+ghost use Rattle.rules.specs.FileCode.{isUnmatched, combined, queryAt, passBoth, bothLooked, tallied as talliedBy, refusedReport, refusingRequest};
+ghost use mathlib.Core.List.{[]};
 ghost use Rattle.rules.specs.Code.{contentsFault, refusedBy};
+use elements::count;
 use elements::request::Request;
 use elements::request::held;
 use hosts_file::Pass;
+use hosts_file::Tally;
+use hosts_file::tallied;
 use search::Finding;
 use search::find;
 use section::Fault;
@@ -60,6 +66,12 @@ pub enum Ruling {
     Answered(Answer),
 }
 
+// A ruling, and how many elements were looked at for it: 0 at a refusal.
+pub struct Reported {
+    pub ruling: Ruling,
+    pub looked: u64,
+}
+
 fn is_unmatched(pass: Pass) -> bool
     ensures { λ r. ⌜ r ≡ isUnmatched pass ⌝ }
 {
@@ -93,12 +105,12 @@ pub fn pass_both(
     deny: &[u8],
     names: &[u8],
     request: Request,
-) -> Pass
+) -> Tally
     ensures { λ r.
         ⌜ r
-        ≡ passBoth
-        (queryAt (now (tables .entry)) (now (notes .entry)) (now (names .entry)) request)
-        (now (allow .entry)) (now (deny .entry)) ⌝ }
+        ≡ talliedBy
+        (passBoth (queryAt (now (tables .entry)) (now (notes .entry)) (now (names .entry)) request) (now (allow .entry)) (now (deny .entry)))
+        (capped (bothLooked (queryAt (now (tables .entry)) (now (notes .entry)) (now (names .entry)) request) (now (allow .entry)) (now (deny .entry)))) ⌝ }
 {
     let first = hosts_file::pass_file(
         tables,
@@ -111,6 +123,7 @@ pub fn pass_both(
         names,
         request,
     );
+    let of_allow = first.pass;
     let rest = hosts_file::pass_file(
         tables,
         notes,
@@ -118,79 +131,101 @@ pub fn pass_both(
         section::Deny::ORDER,
         Verdict::Denied,
         File::Deny,
-        is_unmatched(first),
+        is_unmatched(of_allow),
         names,
         request,
     );
-    combine(first, rest)
+    let of_deny = rest.pass;
+    tallied(
+        combine(of_allow, of_deny),
+        count::add(first.looked, rest.looked),
+    )
 }
 
-// The answer, on a request that is sound or not.
-pub fn answered(answer: Answer, sound: bool) -> Ruling
-    ensures { λ r. ⌜ r ≡ refusingRequest sound answer ⌝ }
+// A refusal: nothing was looked at for it.
+pub fn refused(refusal: Refusal) -> Reported
+    ensures { λ r. ⌜ r ≡ refusedReport refusal ⌝ }
+{
+    Reported {
+        ruling: Ruling::Refused(refusal),
+        looked: 0,
+    }
+}
+
+// The answer and its number, on a request that is sound or not.
+pub fn answered(answer: Answer, looked: u64, sound: bool) -> Reported
+    ensures { λ r. ⌜ r ≡ refusingRequest sound answer looked ⌝ }
 {
     if sound {
-        Ruling::Answered(answer)
+        Reported {
+            ruling: Ruling::Answered(answer),
+            looked,
+        }
     } else {
-        Ruling::Refused(section::placeless(Fault::BadRequest))
+        refused(section::placeless(Fault::BadRequest))
     }
 }
 
 // The refusal that a check found.
-fn refuse(check: Pass) -> Ruling
+fn refuse(check: Pass) -> Reported
     ensures { λ r. ⌜ r ≡ refusedBy check ⌝ }
 {
     match check {
-        Pass::Faulty(f) => Ruling::Refused(f),
-        Pass::Unmatched => Ruling::Refused(section::placeless(Fault::BadRequest)),
-        Pass::Matched(_) => Ruling::Refused(section::placeless(Fault::BadRequest)),
+        Pass::Faulty(f) => refused(f),
+        Pass::Unmatched => refused(section::placeless(Fault::BadRequest)),
+        Pass::Matched(_) => refused(section::placeless(Fault::BadRequest)),
     }
 }
 
 // The ruling by two texts within their limits, and the tables of a section five whose frame is sound, or of none.
-fn rule_texts(allow: &[u8], deny: &[u8], tables: &[u8], names: &[u8], request: Request) -> Ruling
+fn rule_texts(allow: &[u8], deny: &[u8], tables: &[u8], names: &[u8], request: Request) -> Reported
     requires { ⌜ tablesIn (now tables) ≡ tablesOf (now tables) ⌝ }
     ensures { λ r.
         ⌜ r
-        ≡ verdictRuling
+        ≡ reported
         (contentsFault (now (allow .entry)) (now (deny .entry)) (now (tables .entry))
-        before decideOver (tablesOf (now (tables .entry))) (now (allow .entry)) (now (deny .entry)) (some (requestAt (now (names .entry)) request))) ⌝ }
+        before decideOver (tablesOf (now (tables .entry))) (now (allow .entry)) (now (deny .entry)) (some (requestAt (now (names .entry)) request)))
+        (lookedOver (tablesOf (now (tables .entry))) (now (allow .entry)) (now (deny .entry)) (some (requestAt (now (names .entry)) request))) ⌝ }
 {
     let holding = held(request);
     match find(allow, deny, tables, names, holding) {
-        Finding::Answer(answer) => answered(answer, elements::request::fits(names, holding)),
+        Finding::Answer(found) => answered(
+            found.answer,
+            found.looked,
+            elements::request::fits(names, holding),
+        ),
         Finding::Doubtful => refuse(naming::check_contents(allow, deny, tables)),
     }
 }
 
 // The verdict on a request by the allow and deny files, or the refusal of a file or of the request. There are no tables.
-pub fn decide(allow: &[u8], deny: &[u8], names: &[u8], request: Request) -> Ruling
+pub fn decide(allow: &[u8], deny: &[u8], names: &[u8], request: Request) -> Reported
     ensures { λ r.
         ⌜ r
-        ≡ verdictRuling
-        (decideBy (now (allow .entry)) (now (deny .entry))
-        (some (requestAt (now (names .entry)) request))) ⌝ }
+        ≡ reported (decideBy (now (allow .entry)) (now (deny .entry)) (some (requestAt (now (names .entry)) request)))
+        (lookedOver [] (now (allow .entry)) (now (deny .entry)) (some (requestAt (now (names .entry)) request))) ⌝ }
 {
     if section::Allow::over(allow.len()) {
-        return Ruling::Refused(section::Allow::refusal(Fault::OverLimit, 0));
+        return refused(section::Allow::refusal(Fault::OverLimit, 0));
     }
     if section::Deny::over(deny.len()) {
-        return Ruling::Refused(section::Deny::refusal(Fault::OverLimit, 0));
+        return refused(section::Deny::refusal(Fault::OverLimit, 0));
     }
     rule_texts(allow, deny, &allow[..0], names, request)
 }
 
 // The ruling by two texts within their limits and a section five: its frame, then the contents.
-fn rule_framed(allow: &[u8], deny: &[u8], tables: &[u8], names: &[u8], request: Request) -> Ruling
+fn rule_framed(allow: &[u8], deny: &[u8], tables: &[u8], names: &[u8], request: Request) -> Reported
     ensures { λ r.
         ⌜ r
-        ≡ verdictRuling
+        ≡ reported
         ((tablesFrame (now (tables .entry)) orElse contentsFault (now (allow .entry)) (now (deny .entry)) (now (tables .entry)))
-        before decideOver (tablesOf (now (tables .entry))) (now (allow .entry)) (now (deny .entry)) (some (requestAt (now (names .entry)) request))) ⌝ }
+        before decideOver (tablesOf (now (tables .entry))) (now (allow .entry)) (now (deny .entry)) (some (requestAt (now (names .entry)) request)))
+        (lookedOver (tablesOf (now (tables .entry))) (now (allow .entry)) (now (deny .entry)) (some (requestAt (now (names .entry)) request))) ⌝ }
 {
     match tables::entry::frame(tables) {
-        Framing::Cut => Ruling::Refused(section::Tables::refusal(Fault::CutShort, 0)),
-        Framing::Trailing => Ruling::Refused(section::placeless(Fault::TrailingBytes)),
+        Framing::Cut => refused(section::Tables::refusal(Fault::CutShort, 0)),
+        Framing::Trailing => refused(section::placeless(Fault::TrailingBytes)),
         Framing::Sound => rule_texts(allow, deny, tables, names, request),
     }
 }
@@ -202,18 +237,17 @@ pub fn decide_tables(
     tables: &[u8],
     names: &[u8],
     request: Request,
-) -> Ruling
+) -> Reported
     ensures { λ r.
         ⌜ r
-        ≡ verdictRuling
-        (decideTables (now (allow .entry)) (now (deny .entry)) (now (tables .entry))
-        (some (requestAt (now (names .entry)) request))) ⌝ }
+        ≡ reported (decideTables (now (allow .entry)) (now (deny .entry)) (now (tables .entry)) (some (requestAt (now (names .entry)) request)))
+        (lookedOver (tablesOf (now (tables .entry))) (now (allow .entry)) (now (deny .entry)) (some (requestAt (now (names .entry)) request))) ⌝ }
 {
     if section::Allow::over(allow.len()) {
-        return Ruling::Refused(section::Allow::refusal(Fault::OverLimit, 0));
+        return refused(section::Allow::refusal(Fault::OverLimit, 0));
     }
     if section::Deny::over(deny.len()) {
-        return Ruling::Refused(section::Deny::refusal(Fault::OverLimit, 0));
+        return refused(section::Deny::refusal(Fault::OverLimit, 0));
     }
     rule_framed(allow, deny, tables, names, request)
 }

@@ -1,5 +1,5 @@
 // The search of both files for what decides, in one pass that also judges their lines and the tables that they name.
-//   find(allow, deny, tables, ..) == the answer where nothing is faulty; else that there is a doubt
+//   find(allow, deny, tables, ..) == the answer where nothing is faulty, and how many elements were looked at for it; else that there is a doubt
 ghost use mathlib.Core.Path.{_≡_};
 ghost use Prim.Native.Nat.{_≤_};
 ghost use lib.ListN.{length};
@@ -8,11 +8,14 @@ ghost use Rattle.tables.specs.Code.{tablesIn};
 ghost use Rattle.elements.specs.Places.{requestAt};
 ghost use Rattle.rules.specs.Search.{search as searchBy};
 ghost use Rattle.rules.specs.FileCode.{passBoth, queryAt};
-ghost use Rattle.rules.specs.Code.{contentsFault, Noted, findingOf, findingBy, tablesDoubtful};
+ghost use Rattle.tables.specs.Tried.{capped};
+ghost use Rattle.rules.specs.Looked.{looked as lookedBy};
+ghost use Rattle.rules.specs.Code.{contentsFault, Noted, searched, findingOf, findingBy, tablesDoubtful};
 use super::Answer;
 use super::File;
 use super::Verdict;
 use super::hosts_file::Pass;
+use super::hosts_file::Tally;
 use super::pass_both;
 use elements::request::Request;
 use section::Part;
@@ -20,45 +23,54 @@ use section::part_of;
 use tables::check::check_tables;
 use tables::entry::count;
 
+// An answer, and how many elements were looked at for it.
+pub struct Searched {
+    pub answer: Answer,
+    pub looked: u64,
+}
+
 // What a search finds: an answer, or a fault, which is not told.
 pub enum Finding {
-    Answer(Answer),
+    Answer(Searched),
     Doubtful,
 }
 
-// Notes on at most 64 tables for a request; where there are none, there is nothing to go over.
-fn notes_on(tables: &[u8], names: &[u8], request: Request) -> [u64; 3]
+// Notes on at most 64 tables for a request.
+fn notes_on(tables: &[u8], names: &[u8], request: Request) -> [u64; 131]
     requires { ⌜ length (tablesIn (now tables)) ≤ 64 ⌝ }
     ensures { λ r. ⌜ Noted (tablesIn (now (tables .entry))) (requestAt (now (names .entry)) request) r ⌝ }
 {
-    if tables.len() <= 2 {
-        return [0, 0, 0];
-    }
     let client = request.client;
     let server = request.server;
-    let bits = views::view(
+    views::view(
         tables,
         client,
         part_of(names, request.client_name),
         server,
         part_of(names, request.server_name),
-    );
-    [bits.client, bits.server, bits.deep]
+    )
 }
 
 // What a pass finds.
-fn found_by(pass: Pass) -> Finding
-    ensures { λ r. ⌜ r ≡ findingBy pass ⌝ }
+fn found_by(tally: Tally) -> Finding
+    ensures { λ r. ⌜ r ≡ findingBy tally ⌝ }
 {
+    let pass = tally.pass;
     match pass {
         Pass::Faulty(_) => Finding::Doubtful,
-        Pass::Unmatched => Finding::Answer(Answer {
-            verdict: Verdict::Granted,
-            file: File::Neither,
-            line: 0,
-            command: Part { place: 0, len: 0 },
+        Pass::Unmatched => Finding::Answer(Searched {
+            answer: Answer {
+                verdict: Verdict::Granted,
+                file: File::Neither,
+                line: 0,
+                command: Part { place: 0, len: 0 },
+            },
+            looked: tally.looked,
         }),
-        Pass::Matched(a) => Finding::Answer(a),
+        Pass::Matched(a) => Finding::Answer(Searched {
+            answer: a,
+            looked: tally.looked,
+        }),
     }
 }
 
@@ -79,10 +91,15 @@ pub fn find(allow: &[u8], deny: &[u8], tables: &[u8], names: &[u8], request: Req
     ensures { λ r.
         ⌜ r
         ≡ findingOf (contentsFault (now (allow .entry)) (now (deny .entry)) (now (tables .entry)))
-        (searchBy (matchOf (tablesOf (now (tables .entry)))) (now (allow .entry)) (now (deny .entry)) (requestAt (now (names .entry)) request)) ⌝ }
+        (searched
+        (searchBy (matchOf (tablesOf (now (tables .entry)))) (now (allow .entry)) (now (deny .entry)) (requestAt (now (names .entry)) request))
+        (capped (lookedBy (tablesOf (now (tables .entry))) (now (allow .entry)) (now (deny .entry)) (requestAt (now (names .entry)) request)))) ⌝ }
 {
     if are_doubtful(tables) {
         return Finding::Doubtful;
+    }
+    if tables.len() <= 2 {
+        return found_by(pass_both(tables, &[0u64; 3], allow, deny, names, request));
     }
     let notes = notes_on(tables, names, request);
     found_by(pass_both(tables, &notes, allow, deny, names, request))

@@ -22,6 +22,7 @@ use Rattle.tables.specs.declared.entry.Framing.{Framing}
 use Rattle.tables.specs.declared.entry.Framing.the-variants as Framing
 use Rattle.tables.specs.Table.{Table, readTables, tablesOf, matchOf}
 use Rattle.tables.specs.Code.{tablesIn, frameOf}
+use Rattle.tables.specs.Tried.{capped}
 use Rattle.tables.proofs.TableLaws.{tables-in-of, frame-sound, frame-cut, frame-trailing}
 use Rattle.elements.specs.declared.request.Request.{Request as Places}
 use Rattle.elements.specs.Request.{Request, wellFormed, held}
@@ -31,14 +32,15 @@ use Rattle.elements.proofs.HeldLaws.{held-at, held-fits}
 use Rattle.rules.specs.declared.File.{File}
 use Rattle.rules.specs.declared.File.the-variants.{Neither, Allow, Deny}
 use Rattle.rules.specs.declared.Answer.{Answer}
-use Rattle.rules.specs.declared.Ruling.{Ruling}
-use Rattle.rules.specs.declared.Ruling.the-variants as Rul
+use Rattle.rules.specs.declared.Reported.{Reported}
+use Rattle.rules.specs.declared.search.Searched.{Searched}
 use Rattle.rules.specs.declared.search.Finding.{Finding}
 use Rattle.rules.specs.declared.search.Finding.the-variants as Finding
 use Rattle.rules.specs.Check.{tablesFault}
-use Rattle.rules.specs.Search.{answer, search, decideOver, verdictRuling, commandBytes}
-use Rattle.rules.specs.FileCode.{refusingRequest}
-use Rattle.rules.specs.Code.{linesFault, findingOf}
+use Rattle.rules.specs.Search.{answer, search, decideOver, commandBytes}
+use Rattle.rules.specs.Looked.{looked, numberOf, lookedOver, reported}
+use Rattle.rules.specs.FileCode.{refusedReport, refusingRequest}
+use Rattle.rules.specs.Code.{linesFault, searched, findingOf}
 use Rattle.rules.specs.Code.{contentsFault as textsContents}
 use Rattle.rules.proofs.NamingLaws.{orElse-none}
 use Rattle.rules.proofs.PlaceLaws.{fileLength, search-within}
@@ -62,7 +64,7 @@ use Rattle.sheet.specs.declared.frame.Framed.the-variants as Fr
 use Rattle.sheet.specs.declared.unpack.Unpacked.{Unpacked}
 use Rattle.sheet.specs.declared.unpack.Unpacked.the-variants as Un
 use Rattle.sheet.specs.Sheet.{textsAt, textsFault, frame, unpack, unpackedOf}
-use Rattle.station.specs.Station.{filePlace, inSheet, decideSheet, decideByuidSheet, decidePortaclSheet}
+use Rattle.station.specs.Station.{filePlace, inSheet, decideSheet, lookedSheet, decideByuidSheet, decidePortaclSheet}
 use Rattle.sheet.specs.Code.{framedOf, limitsFault, contentsFault}
 use Rattle.station.specs.Code.{framedFault, refusedBy}
 use Rattle.sheet.proofs.FrameLaws.{SectionAt, frame-answered, refusing-answered, take-drop-take}
@@ -124,15 +126,15 @@ module _ (o : Option Refusal) (c : ByuidChecked) (is-c : c ≡ byuidCheckedOf o)
       by none k = refl
       by (some h) k = let z : _≡_ {A = ℕ} 0 1 = cc in absurd (omega arith)
 
-finds-doubt : (x y z : Option Refusal) (g : Refusal) (b : Answer) → Finding.Doubtful ≡ findingOf (x orElse some g orElse y orElse z) b
+finds-doubt : (x y z : Option Refusal) (g : Refusal) (b : Searched) → Finding.Doubtful ≡ findingOf (x orElse some g orElse y orElse z) b
 finds-doubt none y z g b = refl
 finds-doubt (some f) y z g b = refl
 
-finds-last : (x : Option Refusal) (g : Refusal) (b : Answer) → Finding.Doubtful ≡ findingOf (x orElse some g) b
+finds-last : (x : Option Refusal) (g : Refusal) (b : Searched) → Finding.Doubtful ≡ findingOf (x orElse some g) b
 finds-last none g b = refl
 finds-last (some f) g b = refl
 
-module _ (a d bu po t : List ℕ) (b : Answer) (c : PortaclChecked) (is-c : c ≡ portaclCheckedOf (portaclFault po)) where
+module _ (a d bu po t : List ℕ) (b : Searched) (c : PortaclChecked) (is-c : c ≡ portaclCheckedOf (portaclFault po)) where
   pub find-entry : (g : Refusal) → c ≡ PoC.Refused g → Finding.Doubtful ≡ findingOf (contentsFault a d bu po t) b
   unfolding contentsFault
   find-entry g e = rw (bad-entry (portaclFault po) c is-c g e) (finds-doubt (linesFault a d) (tablesFault a d t) (byuidFault bu) g b)
@@ -152,7 +154,7 @@ module _ (a d bu po t : List ℕ) (b : Answer) (c : PortaclChecked) (is-c : c �
 pub find-whole : (t : List ℕ) (x : Framing) → x ≡ frameOf (readTables t) → x ≡ Framing.Sound → tablesIn t ≡ tablesOf t
 find-whole t x is-x e = tables-in-of t (sym is-x ∙ e)
 
-module _ (a d bu po t : List ℕ) (b : Answer) (x : Framing) (is-x : x ≡ frameOf (readTables t)) where
+module _ (a d bu po t : List ℕ) (b : Searched) (x : Framing) (is-x : x ≡ frameOf (readTables t)) where
   pub find-cut : x ≡ Framing.Cut → Finding.Doubtful ≡ findingOf (framedFault a d bu po t) b
   unfolding framedFault
   find-cut e = rw (frame-cut t x is-x e)
@@ -167,9 +169,10 @@ module _ (a d bu po t : List ℕ) (b : Answer) (x : Framing) (is-x : x ≡ frame
 
 pub find-parts : (sheet : List ℕ) (p : Parts) (a d bu po t : List ℕ) → a ≡ bytesAt sheet (p .allow) → d ≡ bytesAt sheet (p .deny)
     → bu ≡ bytesAt sheet (p .byuid) → po ≡ bytesAt sheet (p .portacl) → t ≡ bytesAt sheet (p .tables) → (r : Request) (f : Finding)
-    → f ≡ findingOf (framedFault a d bu po t) (search (matchOf (tablesOf t)) a d r)
+    → f ≡ findingOf (framedFault a d bu po t) (searched (search (matchOf (tablesOf t)) a d r) (capped (looked (tablesOf t) a d r)))
     → f ≡ findingOf (framedFault (bytesAt sheet (p .allow)) (bytesAt sheet (p .deny)) (bytesAt sheet (p .byuid)) (bytesAt sheet (p .portacl)) (bytesAt sheet (p .tables)))
-    (search (matchOf (tablesOf (bytesAt sheet (p .tables)))) (bytesAt sheet (p .allow)) (bytesAt sheet (p .deny)) r)
+    (searched (search (matchOf (tablesOf (bytesAt sheet (p .tables)))) (bytesAt sheet (p .allow)) (bytesAt sheet (p .deny)) r)
+    (capped (looked (tablesOf (bytesAt sheet (p .tables))) (bytesAt sheet (p .allow)) (bytesAt sheet (p .deny)) r)))
 find-parts sheet p a d bu po t is-a is-d is-bu is-po is-t r f is-f = is-f ∙ rw (is-a, is-d, is-bu, is-po, is-t)
 
 pub placed-in-sheet : (p : Parts) (a : Answer) (n : ℕ) → n ≡ filePlace p (a .file)
@@ -177,11 +180,12 @@ pub placed-in-sheet : (p : Parts) (a : Answer) (n : ℕ) → n ≡ filePlace p (
 placed-in-sheet p a n is-n = rw is-n
 
 module _ (sheet : List ℕ) (x : Unpacked) (is-x : x ≡ unpackedOf (unpack sheet)) where
-  pub refuse-refused : (g : Refusal) → x ≡ Un.Refused g → Rul.Refused g ≡ refusedBy (unpack sheet)
-  refuse-refused g e = rw (unpacked-refused (unpack sheet) g (sym is-x ∙ e))
+  pub refuse-refused : (g : Refusal) → x ≡ Un.Refused g → (y : Reported) → y ≡ refusedReport g → y ≡ refusedBy (unpack sheet)
+  refuse-refused g e y is-y = is-y ∙ rw (unpacked-refused (unpack sheet) g (sym is-x ∙ e))
 
-  pub refuse-parts : (p : Parts) → x ≡ Un.Parts p → (g : Refusal) → g ≡ placeless F.BadRequest → Rul.Refused g ≡ refusedBy (unpack sheet)
-  refuse-parts p e g is-g = rw (unpacked-parts (unpack sheet) p (sym is-x ∙ e), is-g)
+  pub refuse-parts : (p : Parts) → x ≡ Un.Parts p → (g : Refusal) → g ≡ placeless F.BadRequest
+      → (y : Reported) → y ≡ refusedReport g → y ≡ refusedBy (unpack sheet)
+  refuse-parts p e g is-g y is-y = is-y ∙ rw (unpacked-parts (unpack sheet) p (sym is-x ∙ e), is-g)
 
 -- ## The verdict
 
@@ -224,47 +228,52 @@ module _ (sheet : List ℕ) (p : Parts) (framed : frame sheet ≡ answered p) wh
   unpack-framed = rw (framed, fault-framed)
 
   module _ (names : List ℕ) (q h : Places) (is-h : h ≡ heldAt q) where
-    abbrev found : Answer
-    found = search (matchOf (tablesOf t)) a d (requestAt names h)
+    abbrev found : Searched
+    found = searched (search (matchOf (tablesOf t)) a d (requestAt names h)) (capped (looked (tablesOf t) a d (requestAt names h)))
+
+    abbrev decided : Reported
+    decided = reported (decideSheet sheet (some (requestAt names q))) (lookedSheet sheet (some (requestAt names q)))
 
     module _ (f : Finding) (is-f : f ≡ findingOf (framedFault a d bu po t) found) where
-      pub parts-doubtful : f ≡ Finding.Doubtful → (x : Ruling) → x ≡ refusedBy (unpack sheet)
-          → x ≡ verdictRuling (decideSheet sheet (some (requestAt names q)))
+      pub parts-doubtful : f ≡ Finding.Doubtful → (x : Reported) → x ≡ refusedBy (unpack sheet) → x ≡ decided
       unfolding decideSheet
       parts-doubtful e x is-x = is-x ∙ rw unpack-framed (by (framedFault a d bu po t) (sym is-f ∙ e))
         where
           by : (o : Option Refusal) → findingOf o found ≡ Finding.Doubtful
               → refusedBy (refusing o p)
-              ≡ verdictRuling (refusing o p >>= λ p. decideOver (tablesOf (bytesAt sheet (p .tables))) (bytesAt sheet (p .allow)) (bytesAt sheet (p .deny))
-              (some (requestAt names q)) >>= λ a. answered (inSheet p a))
+              ≡ reported (refusing o p >>= λ p. decideOver (tablesOf (bytesAt sheet (p .tables))) (bytesAt sheet (p .allow)) (bytesAt sheet (p .deny))
+              (some (requestAt names q)) >>= λ a. answered (inSheet p a)) (lookedSheet sheet (some (requestAt names q)))
           by none k = let z : _≡_ {A = ℕ} 0 1 = cc in absurd (omega arith)
           by (some g) k = refl
 
-      module _ (b : Answer) (e : f ≡ Finding.Answer b) where
-        answer-found : (framedFault a d bu po t ≡ none) × (found ≡ b)
+      module _ (y : Searched) (e : f ≡ Finding.Answer y) where
+        abbrev b : Answer
+        b = y .answer
+
+        answer-found : (framedFault a d bu po t ≡ none) × (found ≡ y)
         answer-found = by (framedFault a d bu po t) (sym is-f ∙ e)
           where
-            by : (o : Option Refusal) → findingOf o found ≡ Finding.Answer b → (o ≡ none) × (found ≡ b)
+            by : (o : Option Refusal) → findingOf o found ≡ Finding.Answer y → (o ≡ none) × (found ≡ y)
             by none k = (refl, cc)
             by (some g) k = let z : _≡_ {A = ℕ} 0 1 = cc in absurd (omega arith)
 
         pub parts-answered : (c : Answer) → c ≡ inSheet p b → (s : Bool) → s ≡ wellFormed (requestAt names h)
-            → (x : Ruling) → x ≡ refusingRequest s c → x ≡ verdictRuling (decideSheet sheet (some (requestAt names q)))
-        unfolding decideSheet
+            → (x : Reported) → x ≡ refusingRequest s c (y .looked) → x ≡ decided
+        unfolding decideSheet lookedSheet lookedOver
         parts-answered c is-c s is-s x is-x =
             is-x ∙ rw (is-s, is-c, unpack-framed, answer-found .0, ← (answer-found .1), held-at names q h is-h, held-fits (requestAt names q))
-            (by (wellFormed (requestAt names q)))
+            (by (wellFormed (requestAt names q)) (search (matchOf (tablesOf t)) a d (held (requestAt names q))) (capped (looked (tablesOf t) a d (held (requestAt names q)))))
           where
-            by : (y : Bool) → refusingRequest y (inSheet p (search (matchOf (tablesOf t)) a d (held (requestAt names q))))
-                ≡ verdictRuling ((if y then answered (search (matchOf (tablesOf t)) a d (held (requestAt names q))) else refused (placeless F.BadRequest))
-                >>= λ a. answered (inSheet p a))
-            by true = refl
-            by false = refl
+            by : (z : Bool) (w : Answer) (k : ℕ) → refusingRequest z (inSheet p w) k
+                ≡ reported ((if z then answered w else refused (placeless F.BadRequest)) >>= λ a. answered (inSheet p a))
+                (numberOf (if z then answered k else refused (placeless F.BadRequest)))
+            by true w k = refl
+            by false w k = refl
 
         command-place : filePlace p (b .file) + b .command .place ≤ length sheet
         command-place =
             by (b .file)
-            (subst (λ (x : Answer). x .command .place + x .command .len ≤ fileLength a d (x .file)) (answer-found .1)
+            (subst (λ (x : Searched). x .answer .command .place + x .answer .command .len ≤ fileLength a d (x .answer .file)) (answer-found .1)
             (search-within (matchOf (tablesOf t)) a d (requestAt names h)))
           where
             by : (f : File) → b .command .place + b .command .len ≤ fileLength a d f → filePlace p f + b .command .place ≤ length sheet
@@ -304,6 +313,6 @@ command-bytes sheet p framed r b ts e =
         sym (in-part sheet (p .deny) (b .command) (omega (arith, length-text (f .deny))))
 
 pub decide-unframed : (sheet : List ℕ) (x : FramedRead) → x ≡ framedOf (frame sheet) → (r : Request) (g : Refusal) → x ≡ Fr.Refused g
-    → Rul.Refused g ≡ verdictRuling (decideSheet sheet (some r))
+    → (y : Reported) → y ≡ refusedReport g → y ≡ reported (decideSheet sheet (some r)) (lookedSheet sheet (some r))
 unfolding decideSheet unpack
-decide-unframed sheet x is-x r g e = rw (framed-refused (frame sheet) g (sym is-x ∙ e))
+decide-unframed sheet x is-x r g e y is-y = is-y ∙ rw (framed-refused (frame sheet) g (sym is-x ∙ e))

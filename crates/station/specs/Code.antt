@@ -10,14 +10,14 @@ use Rattle.section.specs.declared.Fault.the-variants as F
 use Rattle.section.specs.declared.Refusal.{Refusal}
 use Rattle.section.specs.Refusal.{Outcome, refused, answered, placeless}
 use Rattle.tables.specs.Table.{tablesFrame}
-use Rattle.rules.specs.declared.Ruling.{Ruling}
-use Rattle.rules.specs.declared.Ruling.the-variants as R
+use Rattle.rules.specs.declared.Reported.{Reported}
+use Rattle.rules.specs.FileCode.{refusedReport}
 use Rattle.sheet.specs.declared.Parts.{Parts}
 use Rattle.sheet.specs.Code.{contentsFault}
 
 unfoldable pub framedFault : List ℕ → List ℕ → List ℕ → List ℕ → List ℕ → Option Refusal
 framedFault allow deny byuid portacl t = tablesFrame t orElse contentsFault allow deny byuid portacl t
 
-abbrev pub refusedBy : Outcome Parts → Ruling
-refusedBy (refused g) = R.Refused g
-refusedBy (answered p) = R.Refused (placeless F.BadRequest)
+abbrev pub refusedBy : Outcome Parts → Reported
+refusedBy (refused g) = refusedReport g
+refusedBy (answered p) = refusedReport (placeless F.BadRequest)

@@ -1,10 +1,11 @@
 -- Document 01, "The station sheet" and the order of refusals: the decisions by a whole sheet.
 --   decideSheet, decideByuidSheet, decidePortaclSheet == every check of the sheet, then the decision by its texts
+--   lookedSheet sheet o == how many elements were looked at for decideSheet
 -- Assumes nothing: these are definitions.
 use Prim.Native.Nat.{ℕ, _+_}
 use mathlib.Core.List.{List}
 use mathlib.Core.Option.{Option}
-use Rattle.section.specs.Refusal.{Outcome, answered, _>>=_}
+use Rattle.section.specs.Refusal.{Outcome, refused, answered, _>>=_}
 use Rattle.section.specs.Section.{bytesAt, part}
 use Rattle.elements.specs.Request.{Request}
 use Rattle.rules.specs.declared.Answer.{Answer}
@@ -12,6 +13,7 @@ use Rattle.rules.specs.declared.File.{File}
 use Rattle.rules.specs.declared.File.the-variants.{Neither, Allow, Deny}
 use Rattle.tables.specs.Table.{tablesOf}
 use Rattle.rules.specs.Search.{answer, decideOver}
+use Rattle.rules.specs.Looked.{lookedOver}
 use Rattle.byuid.specs.declared.Decision.{Decision as ByuidDecision}
 use Rattle.byuid.specs.declared.Mark.the-variants.{Plain}
 use Rattle.byuid.specs.Byuid.{Bind as ByuidBind, fromFile, decideByuid}
@@ -36,6 +38,14 @@ decideSheet sheet o = do
   p ← unpack sheet
   a ← decideOver (tablesOf (bytesAt sheet (p .tables))) (bytesAt sheet (p .allow)) (bytesAt sheet (p .deny)) o
   answered (inSheet p a)
+
+-- document 02, request 12: how many elements were looked at, "(0 at a refusal)"
+abbrev pub lookedIn : List ℕ → Option Request → Outcome Parts → ℕ
+lookedIn sheet o (refused f) = 0
+lookedIn sheet o (answered p) = lookedOver (tablesOf (bytesAt sheet (p .tables))) (bytesAt sheet (p .allow)) (bytesAt sheet (p .deny)) o
+
+unfoldable pub lookedSheet : List ℕ → Option Request → ℕ
+lookedSheet sheet o = lookedIn sheet o (unpack sheet)
 
 -- document 02, request 3: "The sheet's byuid section is the plain file."
 unfoldable pub decideByuidSheet : List ℕ → Option ByuidBind → Outcome ByuidDecision

@@ -1,5 +1,5 @@
 // The decisions by a sheet.
-//   decide(sheet, ..)         == the verdict on a request
+//   decide(sheet, ..)         == the verdict on a request, and how many elements were looked at for it
 //   decide_byuid(sheet, ..), decide_portacl(sheet, ..) == the port decisions
 //   command(sheet, answer)    == the bytes of the answer's raw command
 // For a verdict the frame is read, then all is checked and searched in one pass; where there is a doubt, the sheet is unpacked for its refusal.
@@ -11,19 +11,21 @@ ghost use Rattle.section.specs.Section.{bytesAt};
 ghost use Rattle.elements.specs.Places.{requestAt};
 ghost use Rattle.tables.specs.Table.{tablesOf, matchOf};
 ghost use Rattle.tables.specs.Code.{tablesIn};
-ghost use Rattle.rules.specs.Search.{search as searchBy, verdictRuling};
-ghost use Rattle.rules.specs.Code.{findingOf};
+ghost use Rattle.tables.specs.Tried.{capped};
+ghost use Rattle.rules.specs.Search.{search as searchBy};
+ghost use Rattle.rules.specs.Looked.{looked, reported};
+ghost use Rattle.rules.specs.Code.{searched, findingOf};
 ghost use Rattle.byuid.specs.Byuid.{bind as byuidBind, byuidRuling};
 ghost use Rattle.portacl.specs.Portacl.{bind as portaclBind, portaclRuling};
 ghost use Rattle.sheet.specs.Sheet.{frame as frameOf, unpack as unpackOf};
 ghost use Rattle.sheet.specs.Code.{contentsFault};
-ghost use Rattle.station.specs.Station.{filePlace, inSheet, decideSheet, decideByuidSheet, decidePortaclSheet};
+ghost use Rattle.station.specs.Station.{filePlace, inSheet, decideSheet, lookedSheet, decideByuidSheet, decidePortaclSheet};
 ghost use Rattle.station.specs.Code.{framedFault, refusedBy};
 use address::Addr;
 use elements::request::Request;
 use rules::Answer;
 use rules::File;
-use rules::Ruling;
+use rules::Reported;
 use rules::search::Finding;
 use rules::search::find;
 use section::Fault;
@@ -50,7 +52,9 @@ fn find_framed(
     ensures { λ r.
         ⌜ r
         ≡ findingOf (contentsFault (now (allow .entry)) (now (deny .entry)) (now (byuid .entry)) (now (portacl .entry)) (now (tables .entry)))
-        (searchBy (matchOf (tablesOf (now (tables .entry)))) (now (allow .entry)) (now (deny .entry)) (requestAt (now (names .entry)) request)) ⌝ }
+        (searched
+        (searchBy (matchOf (tablesOf (now (tables .entry)))) (now (allow .entry)) (now (deny .entry)) (requestAt (now (names .entry)) request))
+        (capped (looked (tablesOf (now (tables .entry))) (now (allow .entry)) (now (deny .entry)) (requestAt (now (names .entry)) request)))) ⌝ }
 {
     match portacl::check(portacl) {
         portacl::Checked::Refused(_) => Finding::Doubtful,
@@ -74,7 +78,9 @@ fn find_in_texts(
     ensures { λ r.
         ⌜ r
         ≡ findingOf (framedFault (now (allow .entry)) (now (deny .entry)) (now (byuid .entry)) (now (portacl .entry)) (now (tables .entry)))
-        (searchBy (matchOf (tablesOf (now (tables .entry)))) (now (allow .entry)) (now (deny .entry)) (requestAt (now (names .entry)) request)) ⌝ }
+        (searched
+        (searchBy (matchOf (tablesOf (now (tables .entry)))) (now (allow .entry)) (now (deny .entry)) (requestAt (now (names .entry)) request))
+        (capped (looked (tablesOf (now (tables .entry))) (now (allow .entry)) (now (deny .entry)) (requestAt (now (names .entry)) request)))) ⌝ }
 {
     match tables::entry::frame(tables) {
         Framing::Cut => Finding::Doubtful,
@@ -120,8 +126,11 @@ fn find_in_parts(sheet: &[u8], parts: Parts, names: &[u8], request: Request) -> 
         ≡ findingOf
         (framedFault (bytesAt (now (sheet .entry)) (parts .allow)) (bytesAt (now (sheet .entry)) (parts .deny)) (bytesAt (now (sheet .entry)) (parts .byuid))
         (bytesAt (now (sheet .entry)) (parts .portacl)) (bytesAt (now (sheet .entry)) (parts .tables)))
+        (searched
         (searchBy (matchOf (tablesOf (bytesAt (now (sheet .entry)) (parts .tables)))) (bytesAt (now (sheet .entry)) (parts .allow))
-        (bytesAt (now (sheet .entry)) (parts .deny)) (requestAt (now (names .entry)) request)) ⌝ }
+        (bytesAt (now (sheet .entry)) (parts .deny)) (requestAt (now (names .entry)) request))
+        (capped (looked (tablesOf (bytesAt (now (sheet .entry)) (parts .tables))) (bytesAt (now (sheet .entry)) (parts .allow))
+        (bytesAt (now (sheet .entry)) (parts .deny)) (requestAt (now (names .entry)) request)))) ⌝ }
 {
     find_in_texts(
         part_of(sheet, parts.allow),
@@ -135,44 +144,42 @@ fn find_in_parts(sheet: &[u8], parts: Parts, names: &[u8], request: Request) -> 
 }
 
 // The refusal of a sheet in which there is a doubt.
-fn refuse(sheet: &[u8]) -> Ruling
+fn refuse(sheet: &[u8]) -> Reported
     ensures { λ r. ⌜ r ≡ refusedBy (unpackOf (now (sheet .entry))) ⌝ }
 {
     match unpack::unpack(sheet) {
-        Unpacked::Refused(refusal) => Ruling::Refused(refusal),
-        Unpacked::Parts(_) => Ruling::Refused(section::placeless(Fault::BadRequest)),
+        Unpacked::Refused(refusal) => rules::refused(refusal),
+        Unpacked::Parts(_) => rules::refused(section::placeless(Fault::BadRequest)),
     }
 }
 
 // The verdict by the parts of a sheet.
-fn decide_by_parts(sheet: &[u8], parts: Parts, names: &[u8], request: Request) -> Ruling
+fn decide_by_parts(sheet: &[u8], parts: Parts, names: &[u8], request: Request) -> Reported
     requires { ⌜ frameOf (now sheet) ≡ answered parts ⌝ }
     ensures { λ r.
         ⌜ r
-        ≡ verdictRuling
-        (decideSheet (now (sheet .entry))
-        (some (requestAt (now (names .entry)) request))) ⌝ }
+        ≡ reported (decideSheet (now (sheet .entry)) (some (requestAt (now (names .entry)) request)))
+        (lookedSheet (now (sheet .entry)) (some (requestAt (now (names .entry)) request))) ⌝ }
 {
     let holding = elements::request::held(request);
     match find_in_parts(sheet, parts, names, holding) {
         Finding::Doubtful => refuse(sheet),
-        Finding::Answer(answer) => {
+        Finding::Answer(found) => {
             let sound = elements::request::fits(names, holding);
-            rules::answered(in_sheet(parts, answer), sound)
+            rules::answered(in_sheet(parts, found.answer), found.looked, sound)
         }
     }
 }
 
 // The verdict on a request by a sheet, or the refusal of the sheet or of the request.
-pub fn decide(sheet: &[u8], names: &[u8], request: Request) -> Ruling
+pub fn decide(sheet: &[u8], names: &[u8], request: Request) -> Reported
     ensures { λ r.
         ⌜ r
-        ≡ verdictRuling
-        (decideSheet (now (sheet .entry))
-        (some (requestAt (now (names .entry)) request))) ⌝ }
+        ≡ reported (decideSheet (now (sheet .entry)) (some (requestAt (now (names .entry)) request)))
+        (lookedSheet (now (sheet .entry)) (some (requestAt (now (names .entry)) request))) ⌝ }
 {
     match frame::frame(sheet) {
-        Framed::Refused(refusal) => Ruling::Refused(refusal),
+        Framed::Refused(refusal) => rules::refused(refusal),
         Framed::Parts(parts) => decide_by_parts(sheet, parts, names, request),
     }
 }

@@ -1,2 +1,3 @@
 pub mod Table
+pub mod Tried
 pub mod Code

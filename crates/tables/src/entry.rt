@@ -7,6 +7,7 @@ ghost use mathlib.Core.Bool.{false};
 ghost use Prim.Native.Nat.{_≤_};
 ghost use lib.ListN.{length, take, drop};
 ghost use Rattle.text.specs.Number.{fromDigits};
+ghost use Rattle.text.specs.Text.{equalFold};
 ghost use Rattle.tables.specs.Table.{readTables};
 ghost use Rattle.tables.specs.Code.{tableCount, tablesIn, cutEntry, entrySpan, entryTable, afterEntry, frameOf, placeNamed, placeOf};
 use text::equal_fold;
@@ -169,6 +170,23 @@ pub fn count(tables: &[u8]) -> usize
     i
 }
 
+// Whether two names are equal but for case. Those of one length mostly differ in their last byte, of which case changes one bit.
+fn is_named(name: &[u8], other: &[u8]) -> bool
+    ensures { λ r. ⌜ r ≡ equalFold (now (name .entry)) (now (other .entry)) ⌝ }
+{
+    if name.len() != other.len() {
+        return false;
+    }
+    if name.len() == 0 {
+        return true;
+    }
+    let last = name.len() - 1;
+    if name[last] % 32 != other[last] % 32 {
+        return false;
+    }
+    equal_fold(name, other)
+}
+
 // The place of the first table so named.
 pub fn find(tables: &[u8], name: &[u8]) -> Place
     ensures { λ r. ⌜ r ≡ placeOf (placeNamed (tablesIn (now (tables .entry))) (now (name .entry))) ⌝ }
@@ -181,7 +199,7 @@ pub fn find(tables: &[u8], name: &[u8]) -> Place
         if span.cut {
             return Place::Missing;
         }
-        if equal_fold(name, entry_name(rest, span)) {
+        if is_named(name, entry_name(rest, span)) {
             return Place::At(i);
         }
         let next = after_entry(rest, span);

@@ -3,7 +3,10 @@
 --   holds p o   == o is some a, and p holds of a
 --   first f l   == the first answer that f gives along l
 --   each f l    == every answer of f along l, none where one is missing
+--   sum f l     == the sum of f along l
+--   sumUntil p f l == the same up to the first of which p holds, that one included
 -- Assumes nothing: these are definitions.
+use Prim.Native.Nat.{ℕ, _+_}
 use mathlib.Core.Bool.{Bool, true, false, _&&_, _||_}
 use mathlib.Core.List.{List, [], _∷_}
 use mathlib.Core.Option.{Option, none, some}
@@ -41,6 +44,14 @@ module _ {A : Type 0} where
   unfoldable pub all : (A → Bool) → List A → Bool
   all p [] = true
   all p (x ∷ xs) = p x && all p xs
+
+  unfoldable pub sum : (A → ℕ) → List A → ℕ
+  sum f [] = 0
+  sum f (x ∷ xs) = f x + sum f xs
+
+  unfoldable pub sumUntil : (A → Bool) → (A → ℕ) → List A → ℕ
+  sumUntil p f [] = 0
+  sumUntil p f (x ∷ xs) = f x + (if p x then 0 else sumUntil p f xs)
 
   abbrev pub isEmpty : List A → Bool
   isEmpty [] = true

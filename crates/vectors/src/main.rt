@@ -13,13 +13,15 @@ fn decision(a: GateAnswer) {
     report::end_line();
 }
 
-// A verdict, with the file and line of its rule, and the rule's command out of the text where it stands.
+// A verdict, with the file and line of its rule, how many elements were looked at, and the rule's command out of the text where it stands.
 fn ruling(a: GateAnswer, whole: &[u8]) {
     if report::refused(a.number, a.section, a.line) {
         return;
     }
     report::word(a.word as usize);
     rule(a.file, a.line);
+    report::word(report::LOOKED);
+    report::number(a.looked);
     command(part(whole, a.place, a.len));
     report::end_line();
 }

@@ -1,4 +1,4 @@
--- Laws of words whose bits stand for tables, of the loop over the tables of one depth, and of the recursion over the depth.
+-- Laws of words whose bits stand for tables, and of the loop over the tables of one depth.
 -- Assumes nothing.
 use Prim.Native.Nat.{ℕ, zero, suc, _+_, _-_, _*_, _/_, _%_, _^_, _≤_, _<_}
 use native.Mathlib.Nat.{mod-lt, div-eq-of-lt, zero-div, pow-suc}
@@ -11,7 +11,7 @@ use lib.Pow.{pow-pos, pow-lt, pow-add, shl-exact, shl-shr, shr-lt, split, high, 
 use lib.Dec.{eqb, ltb}
 use lib.ListN.{getD}
 use borrow.Author.Tests.{eqb-true, eqb-false, ltb-true, ltb-false, lt-ltb, le-ltb, eq-eqb, ne-eqb}
-use Rattle.views.specs.View.{bitAt, Marks, anyBelow, reached}
+use Rattle.views.specs.View.{bitAt, Marks, anyBelow}
 
 -- ## One bit
 
@@ -196,26 +196,3 @@ pub stepped-end : (names : List ℕ) (own below made i : ℕ) → Stepped names 
     → Marks made 64 (λ k. bitAt k own || anyBelow (λ j. bitAt j (getD names k 0) && bitAt j below) 64)
 unfolding Marks
 stepped-end names own below made i s l k h = s .so-far k h ∙ ap (λ (t : Bool). bitAt k own || (t && namesBelow names below k)) (lt-ltb k i (omega arith))
-
--- ## The recursion over the depth
-
-module _ (names : List ℕ) (own start depth : ℕ) where
-  abbrev deep : ℕ → ℕ → Bool
-  deep = reached (λ i j. bitAt j (getD names i 0)) (λ i. bitAt i own) (λ i. bitAt i start)
-
-  pub reach-start : depth ≡ 0 → Marks start 64 (reached (λ i j. bitAt j (getD names i 0)) (λ i. bitAt i own) (λ i. bitAt i start) depth)
-  unfolding Marks reached
-  reach-start e k h = rw e
-
-  pub reach-more : (depth ≡ 0 → ⊥) → (below r : ℕ)
-      → Marks below 64 (reached (λ i j. bitAt j (getD names i 0)) (λ i. bitAt i own) (λ i. bitAt i start) (depth - 1))
-      → Marks r 64 (λ i. bitAt i own || anyBelow (λ j. bitAt j (getD names i 0) && bitAt j below) 64)
-      → Marks r 64 (reached (λ i j. bitAt j (getD names i 0)) (λ i. bitAt i own) (λ i. bitAt i start) depth)
-  unfolding Marks reached
-  reach-more n below r is-below is-r k h =
-      let e : depth ≡ suc (depth - 1) = omega arith in
-      is-r k h
-      ∙ ap (λ (t : Bool). bitAt k own || t)
-      (any-below-same (λ j. bitAt j (getD names k 0) && bitAt j below) (λ j. bitAt j (getD names k 0) && deep (depth - 1) j) 64
-      (λ j l. ap (λ (t : Bool). bitAt j (getD names k 0) && t) (is-below j l)))
-      ∙ ap (λ (d : ℕ). deep d k) (sym e)

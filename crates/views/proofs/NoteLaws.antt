@@ -1,6 +1,6 @@
 -- Laws of notes: what their words say of a place, and of a name.
 -- Assumes nothing.
-use Prim.Native.Nat.{ℕ, _+_, _-_, _/_, _%_, _≤_, _<_}
+use Prim.Native.Nat.{ℕ, _+_, _-_, _*_, _/_, _%_, _≤_, _<_}
 use native.Mathlib.Omega.{arith}
 use mathlib.Core.Bool.{Bool, true, false, true≢false, and-false}
 use mathlib.Core.List.{List, [], _∷_}
@@ -21,6 +21,7 @@ use Rattle.views.specs.declared.Naming.{Naming}
 use Rattle.views.specs.declared.Naming.the-variants as Naming
 use Rattle.views.specs.declared.Reference.{Reference}
 use Rattle.views.specs.View.{bitAt, isDeep, namingAt, markedAt, placedNaming, namingOf, notedMatch, referenceOf, nameLeads, wordLeads, textLeads}
+use Rattle.views.specs.View.{countedAt, placedCount, notedTried}
 use Rattle.views.proofs.BitLaws.{bit-none}
 
 -- ## At a place
@@ -55,14 +56,35 @@ module _ (notes : List ℕ) (i : ℕ) where
     pub marked-inside : i < 64 → (r : Bool) → r ≡ bitAt i (getD notes k 0) → r ≡ markedAt k notes i
     marked-inside h r e = sym (rw (lt-ltb i 64 h) (sym e))
 
+    pub counted-far : 64 ≤ i → 0 ≡ countedAt k notes i
+    counted-far h = sym (rw (le-ltb i 64 h))
+
+    module _ (h : i < 64) where
+      pub counted-outside : length notes ≤ 3 + 64 * k + i → 0 ≡ countedAt k notes i
+      counted-outside l = sym (rw (lt-ltb i 64 h, List·getD-eq-default notes 0 l))
+
+      pub counted-past : length notes / 64 < k → 0 ≡ countedAt k notes i
+      counted-past l = counted-outside (omega arith)
+
+      pub counted-inside : getD notes (3 + 64 * k + i) 0 ≡ countedAt k notes i
+      counted-inside = sym (rw (lt-ltb i 64 h))
+
 -- ## Of a name
 
-abbrev reference : Naming → Bool → Reference
-reference n m = record { naming = n; matches = m }
+abbrev reference : Naming → Bool → ℕ → Reference
+reference n m t = record { naming = n; matches = m; tried = t }
 
 pub no-match : (k : ℕ) (o : Option ℕ) → holds (markedAt k []) o ≡ false
 no-match k none = refl
 no-match k (some i) = sym (marked-outside [] i k (omega arith))
+
+pub no-count : (k : ℕ) (o : Option ℕ) → placedCount k [] o ≡ 0
+no-count k none = refl
+no-count k (some i) = let l : length {A = ℕ} [] ≤ 3 + 64 * k + i = omega arith in by (ltb i 64) (getD [] (3 + 64 * k + i) 0) (List·getD-eq-default [] 0 l)
+  where
+    by : (b : Bool) (x : ℕ) → x ≡ 0 → (if b then x else 0) ≡ 0
+    by true x e = e
+    by false x e = refl
 
 pub place-none : (o : Option ℕ) → Place.Missing ≡ placeOf o → o ≡ none
 place-none none e = refl
@@ -81,27 +103,31 @@ full-notes [] h = absurd (h refl)
 full-notes (x ∷ l) h = refl
 
 module _ (k : ℕ) (ts : List Table) (notes n : List ℕ) where
-  pub look-unjudged : length notes ≡ 0 → reference Naming.Sound false ≡ referenceOf k ts notes n
-  unfolding referenceOf namingOf notedMatch
+  pub look-unjudged : length notes ≡ 0 → reference Naming.Sound false 0 ≡ referenceOf k ts notes n
+  unfolding referenceOf namingOf notedMatch notedTried
   look-unjudged h = by notes h
     where
       by : (l : List ℕ) → length l ≡ 0
-          → reference Naming.Sound false
+          → reference Naming.Sound false 0
           ≡ reference (if isEmpty l then Naming.Sound else placedNaming l (placeNamed ts n)) (holds (markedAt k l) (placeNamed ts n))
-      by [] h = ap (reference Naming.Sound) (sym (no-match k (placeNamed ts n)))
+          (placedCount k l (placeNamed ts n))
+      by [] h = ap₂ (reference Naming.Sound) (sym (no-match k (placeNamed ts n))) (sym (no-count k (placeNamed ts n)))
       by (x ∷ l) h = absurd (omega arith)
 
   module _ (full : length notes ≡ 0 → ⊥) where
-    judged : (o : Option ℕ) → placeNamed ts n ≡ o → referenceOf k ts notes n ≡ reference (placedNaming notes o) (holds (markedAt k notes) o)
-    unfolding referenceOf namingOf notedMatch
+    judged : (o : Option ℕ) → placeNamed ts n ≡ o
+        → referenceOf k ts notes n ≡ reference (placedNaming notes o) (holds (markedAt k notes) o) (placedCount k notes o)
+    unfolding referenceOf namingOf notedMatch notedTried
     judged o e = rw (full-notes notes full, e)
 
-    pub look-missing : (p : Place) → p ≡ placeOf (placeNamed ts n) → p ≡ Place.Missing → reference Naming.Missing false ≡ referenceOf k ts notes n
+    pub look-missing : (p : Place) → p ≡ placeOf (placeNamed ts n) → p ≡ Place.Missing → reference Naming.Missing false 0 ≡ referenceOf k ts notes n
     look-missing p is-p e = sym (judged none (place-none (placeNamed ts n) (sym e ∙ is-p)))
 
     pub look-found : (p : Place) → p ≡ placeOf (placeNamed ts n) → (i : ℕ) → p ≡ Place.At i → (x : Naming) → x ≡ namingAt notes i
-        → (m : Bool) → m ≡ markedAt k notes i → reference x m ≡ referenceOf k ts notes n
-    look-found p is-p i e x is-x m is-m = ap₂ reference is-x is-m ∙ sym (judged (some i) (place-some i (placeNamed ts n) (sym e ∙ is-p)))
+        → (m : Bool) → m ≡ markedAt k notes i → (c : ℕ) → c ≡ countedAt k notes i → reference x m c ≡ referenceOf k ts notes n
+    look-found p is-p i e x is-x m is-m c is-c =
+        ap₂ (λ (y : Naming) (b : Bool). reference y b c) is-x is-m ∙ ap (reference (namingAt notes i) (markedAt k notes i)) is-c
+        ∙ sym (judged (some i) (place-some i (placeNamed ts n) (sym e ∙ is-p)))
 
 -- ## Of a text
 

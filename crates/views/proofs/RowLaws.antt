@@ -1,17 +1,17 @@
 -- Laws of the rows of tables: what a pattern, a text and all texts name, and what they match.
 -- Assumes nothing.
-use Prim.Native.Nat.{ℕ, zero, suc, _+_, _-_, _≤_, _<_}
+use Prim.Native.Nat.{ℕ, _+_, _-_, _*_, _^_, _≤_, _<_}
 use native.Mathlib.Omega.{arith}
 use mathlib.Core.Bool.{Bool, true, false, _&&_, _||_, or-false, or-assoc}
 use mathlib.Core.List.{List, [], _∷_}
 use mathlib.Core.Option.{Option, none, some}
-use mathlib.Core.Path.{_≡_, refl, sym, ap, ap₂, _∙_}
+use mathlib.Core.Path.{_≡_, refl, sym, ap, subst, _∙_}
 use lib.Bits.{bitOr}
 use lib.Dec.{eqb, ltb}
 use lib.ListN.{length, take, drop, getD, set, replicate, length-set}
 use lib.Seq.{getD-set-same, getD-set-other}
-use borrow.Author.Tests.{eqb-true, eqb-false, ltb-true, ltb-false, lt-ltb, le-ltb, ne-eqb}
-use Rattle.text.specs.Basics.{isSome, holds, any}
+use borrow.Author.Tests.{eqb-true, eqb-false, lt-ltb, le-ltb, ne-eqb}
+use Rattle.text.specs.Basics.{if_then_else_, isSome, holds, any, sumUntil}
 use Rattle.text.specs.Text.{firstAmong}
 use Rattle.patterns.specs.Host.{Endpoint}
 use Rattle.patterns.specs.Pattern.{hostPattern}
@@ -23,13 +23,12 @@ use Rattle.tables.specs.declared.entry.EntrySpan.{EntrySpan}
 use Rattle.tables.specs.declared.entry.Place.{Place}
 use Rattle.tables.specs.declared.entry.Place.the-variants as Place
 use Rattle.tables.proofs.EntryLaws.{Reached, reached-start, reached-cut, reached-end, reached-more, count-all}
-use Rattle.tables.proofs.WordLaws.{words-none, words-more}
+use Rattle.tables.proofs.WordLaws.{words-none, words-more, rest-shorter}
 use Rattle.views.specs.declared.Row.{Row}
 use Rattle.views.specs.declared.Rows.{Rows}
-use Rattle.views.specs.declared.TableBits.{TableBits}
-use Rattle.views.specs.View.{bitAt, Marks, tableAt, isNamed, wordNames, wordsName, textNames, isOwn, ownMatch, reached}
-use Rattle.views.specs.View.{RowOf, RowsOf, Viewed}
-use Rattle.views.proofs.BitLaws.{bit-none, bit-or, bit-ones, next-bit, any-below-same}
+use Rattle.views.specs.View.{bitAt, Marks, tableAt, isNamed, wordNames, wordsName, textNames, isOwn, ownMatch}
+use Rattle.views.specs.View.{WordCount, RowOf, OwnOf, NamesOf, RowsOf}
+use Rattle.views.proofs.BitLaws.{bit-none, bit-or, next-bit}
 use Rattle.views.proofs.NoteLaws.{place-none, place-some, named-word, unnamed-word}
 use Rattle.views.proofs.DeepLaws.{table-here, place-here, place-below}
 
@@ -53,16 +52,26 @@ module _ (ts : List Table) (w : List ℕ) (x : Bool) (is-x : x ≡ isSome (table
   unfolding Marks wordNames
   bit-named e b is-b j h = is-b j h ∙ rw (named-word w x is-x e)
 
-abbrev row : ℕ → Bool → Bool → Row
-row n c s = record { names = n; client = c; server = s }
+abbrev row : ℕ → Bool → Bool → ℕ → ℕ → Row
+row n c s ct st = record { names = n; client = c; server = s; «client_tried» = ct; «server_tried» = st }
+
+one-word : (p : List ℕ → Bool) (w : List ℕ) → WordCount p (w ∷ []) 1
+unfolding sumUntil
+one-word p w = record { count = by (p w); fits = omega arith }
+  where
+    by : (b : Bool) → _≡_ {A = ℕ} 1 (1 + (if b then 0 else 0))
+    by true = refl
+    by false = refl
 
 module _ (ts : List Table) (client server : Endpoint) (w : List ℕ) (x : Bool) (is-x : x ≡ firstAmong "/" w) where
-  pub row-slash : x ≡ true → (b : ℕ) → Marks b 64 (wordNames ts w) → RowOf ts client server (w ∷ []) (row b false false)
+  pub row-slash : x ≡ true → (b : ℕ) → Marks b 64 (wordNames ts w) → RowOf ts client server (w ∷ []) (row b false false 1 1)
   unfolding Marks wordsName any
   row-slash e b is-b = record {
     row-names = λ j h. is-b j h ∙ sym (or-false (wordNames ts w j));
     row-client = rw (← is-x, e);
     row-server = rw (← is-x, e);
+    row-client-tried = one-word (isOwn client) w;
+    row-server-tried = one-word (isOwn server) w;
   }
 
   module _ (e : x ≡ false) where
@@ -75,32 +84,77 @@ module _ (ts : List Table) (client server : Endpoint) (w : List ℕ) (x : Bool) 
     own-seen h c is-c = ap (λ (z : HostSeen). z .matches) is-c ∙ rw (← is-x, e) (sym (or-false (matchesPattern (hostPattern w) h)))
 
     pub row-plain : (c : HostSeen) → c ≡ patternSeen true (hostPattern w) client → (s : HostSeen) → s ≡ patternSeen true (hostPattern w) server
-        → RowOf ts client server (w ∷ []) (row 0 (c .matches) (s .matches))
+        → RowOf ts client server (w ∷ []) (row 0 (c .matches) (s .matches) 1 1)
     unfolding Marks wordsName wordNames any
     row-plain c is-c s is-s = record {
       row-names = λ j h. bit-none j ∙ rw plain-name;
       row-client = own-seen client c is-c;
       row-server = own-seen server s is-s;
+      row-client-tried = one-word (isOwn client) w;
+      row-server-tried = one-word (isOwn server) w;
     }
 
 -- ## A text
 
+module _ (n : ℕ) (ended : Bool) where
+  pub count-ended : ended ≡ true → n ≡ n + (if ended then 0 else 1)
+  count-ended e = let z : n ≡ n + 0 = omega arith in z ∙ sym (ap (λ (b : Bool). n + (if b then 0 else 1)) e)
+
+  pub count-more : ended ≡ false → n + 1 ≡ n + (if ended then 0 else 1)
+  count-more e = sym (ap (λ (b : Bool). n + (if b then 0 else 1)) e)
+
+-- the words counted so far, and those of the rest unless the count has ended
+abbrev running : (List ℕ → Bool) → List (List ℕ) → Bool → ℕ → ℕ
+running p ws ended n = n + (if ended then 0 else sumUntil p (λ w. 1) ws)
+
 -- the loop over the words, at rest
 pub record Rowed (ts : List Table) (client server : Endpoint) (t rest : List ℕ) (r : Row) : Type 0 where
+  pub rowed-short : length t < 2 ^ 64
   pub rowed-names : (j : ℕ) → j < 64 → wordsName ts (words t) j ≡ (bitAt j (r .names) || wordsName ts (words rest) j)
   pub rowed-client : any (isOwn client) (words t) ≡ (r .client || any (isOwn client) (words rest))
   pub rowed-server : any (isOwn server) (words t) ≡ (r .server || any (isOwn server) (words rest))
+  pub rowed-client-tried : sumUntil (isOwn client) (λ w. 1) (words t) ≡ running (isOwn client) (words rest) (r .client) (r .«client_tried»)
+  pub rowed-server-tried : sumUntil (isOwn server) (λ w. 1) (words t) ≡ running (isOwn server) (words rest) (r .server) (r .«server_tried»)
+  pub rowed-client-room : r .«client_tried» + length rest ≤ length t
+  pub rowed-server-room : r .«server_tried» + length rest ≤ length t
 
-pub rowed-start : (ts : List Table) (client server : Endpoint) (t : List ℕ) → Rowed ts client server t t (row 0 false false)
-rowed-start ts client server t = record {
+none-yet : (n : ℕ) → n ≡ 0 + n
+none-yet n = omega arith
+
+pub rowed-start : (ts : List Table) (client server : Endpoint) (t : List ℕ) → length t < 2 ^ 64 → Rowed ts client server t t (row 0 false false 0 0)
+rowed-start ts client server t h = record {
+  rowed-short = h;
   rowed-names = λ j h. sym (ap (λ (b : Bool). b || wordsName ts (words t) j) (bit-none j));
   rowed-client = refl;
   rowed-server = refl;
+  rowed-client-tried = none-yet (sumUntil (isOwn client) (λ w. 1) (words t));
+  rowed-server-tried = none-yet (sumUntil (isOwn server) (λ w. 1) (words t));
+  rowed-client-room = omega arith;
+  rowed-server-room = omega arith;
 }
 
 any-more : (p : List ℕ → Bool) (w : List ℕ) (ws : List (List ℕ)) (a b : Bool) → b ≡ any p (w ∷ []) → (a || any p (w ∷ ws)) ≡ ((a || b) || any p ws)
 unfolding any
 any-more p w ws a b is-b = rw (is-b, or-false (p w)) (sym (or-assoc a (p w) (any p ws)))
+
+running-end : (p : List ℕ → Bool) (ended : Bool) (n : ℕ) → running p [] ended n ≡ n
+unfolding sumUntil
+running-end p true n = omega arith
+running-end p false n = omega arith
+
+running-more : (p : List ℕ → Bool) (w : List ℕ) (ws : List (List ℕ)) (ended b : Bool) (n c : ℕ) → b ≡ any p (w ∷ []) → c ≡ n + (if ended then 0 else 1)
+    → running p (w ∷ ws) ended n ≡ running p ws (ended || b) c
+unfolding any sumUntil
+running-more p w ws true b n c is-b is-c = omega arith
+running-more p w ws false b n c is-b is-c = rw (is-b, or-false (p w), is-c) (by (p w) (sumUntil p (λ w. 1) ws))
+  where
+    by : (b : Bool) (s : ℕ) → n + (1 + (if b then 0 else s)) ≡ n + 1 + (if b then 0 else s)
+    by true s = omega arith
+    by false s = omega arith
+
+room-more : (ended : Bool) (n c rest next t : ℕ) → c ≡ n + (if ended then 0 else 1) → n + rest ≤ t → next < rest → c + next ≤ t
+room-more true n c rest next t e h l = omega arith
+room-more false n c rest next t e h l = omega arith
 
 module _ (ts : List Table) (client server : Endpoint) (t rest : List ℕ) (r : Row) (so-far : Rowed ts client server t rest r)
     (w : List ℕ) (is-w : w ≡ firstWord rest) where
@@ -112,55 +166,167 @@ module _ (ts : List Table) (client server : Endpoint) (t rest : List ℕ) (r : R
         row-names = λ j h. sym (so-far .rowed-names j h ∙ rw e (or-false (bitAt j (r .names))));
         row-client = sym (so-far .rowed-client ∙ rw e (or-false (r .client)));
         row-server = sym (so-far .rowed-server ∙ rw e (or-false (r .server)));
+        row-client-tried = record {
+          count = sym (so-far .rowed-client-tried ∙ rw e (running-end (isOwn client) (r .client) (r .«client_tried»)));
+          fits = omega (arith, so-far .rowed-client-room, so-far .rowed-short);
+        };
+        row-server-tried = record {
+          count = sym (so-far .rowed-server-tried ∙ rw e (running-end (isOwn server) (r .server) (r .«server_tried»)));
+          fits = omega (arith, so-far .rowed-server-room, so-far .rowed-short);
+        };
       }
 
-  pub rowed-more : (length w ≡ 0 → ⊥) → (s : Row) → RowOf ts client server (w ∷ []) s → (next : List ℕ) → next ≡ afterWord rest
-      → Rowed ts client server t next (row (bitOr (r .names) (s .names)) (r .client || s .client) (r .server || s .server))
-  unfolding Marks wordsName
-  rowed-more full s is-s next is-next =
-      let e : words rest ≡ w ∷ words next = words-more rest w next is-w full is-next in
-      record {
-        rowed-names = λ j h. so-far .rowed-names j h
-            ∙ rw (e, bit-or j (r .names) (s .names))
-            (any-more (λ v. wordNames ts v j) w (words next) (bitAt j (r .names)) (bitAt j (s .names)) (is-s .row-names j h));
-        rowed-client = so-far .rowed-client ∙ rw e (any-more (isOwn client) w (words next) (r .client) (s .client) (is-s .row-client));
-        rowed-server = so-far .rowed-server ∙ rw e (any-more (isOwn server) w (words next) (r .server) (s .server) (is-s .row-server));
-      }
+  module _ (full : length w ≡ 0 → ⊥) where
+    pub rowed-client-fits : r .«client_tried» < 18446744073709551615
+    rowed-client-fits = omega (arith, so-far .rowed-client-room, so-far .rowed-short, rest-shorter rest w (afterWord rest) is-w full refl (length rest) refl)
+
+    pub rowed-server-fits : r .«server_tried» < 18446744073709551615
+    rowed-server-fits = omega (arith, so-far .rowed-server-room, so-far .rowed-short, rest-shorter rest w (afterWord rest) is-w full refl (length rest) refl)
+
+    pub rowed-more : (s : Row) → RowOf ts client server (w ∷ []) s → (c : ℕ) → c ≡ r .«client_tried» + (if r .client then 0 else 1)
+        → (d : ℕ) → d ≡ r .«server_tried» + (if r .server then 0 else 1) → (next : List ℕ) → next ≡ afterWord rest
+        → Rowed ts client server t next (row (bitOr (r .names) (s .names)) (r .client || s .client) (r .server || s .server) c d)
+    unfolding Marks wordsName
+    rowed-more s is-s c is-c d is-d next is-next =
+        let e : words rest ≡ w ∷ words next = words-more rest w next is-w full is-next in
+        let l : length next < length rest = rest-shorter rest w next is-w full is-next (length rest) refl in
+        record {
+          rowed-short = so-far .rowed-short;
+          rowed-names = λ j h. so-far .rowed-names j h
+              ∙ rw (e, bit-or j (r .names) (s .names))
+              (any-more (λ v. wordNames ts v j) w (words next) (bitAt j (r .names)) (bitAt j (s .names)) (is-s .row-names j h));
+          rowed-client = so-far .rowed-client ∙ rw e (any-more (isOwn client) w (words next) (r .client) (s .client) (is-s .row-client));
+          rowed-server = so-far .rowed-server ∙ rw e (any-more (isOwn server) w (words next) (r .server) (s .server) (is-s .row-server));
+          rowed-client-tried = so-far .rowed-client-tried
+              ∙ rw e (running-more (isOwn client) w (words next) (r .client) (s .client) (r .«client_tried») c (is-s .row-client) is-c);
+          rowed-server-tried = so-far .rowed-server-tried
+              ∙ rw e (running-more (isOwn server) w (words next) (r .server) (s .server) (r .«server_tried») d (is-s .row-server) is-d);
+          rowed-client-room = room-more (r .client) (r .«client_tried») c (length rest) (length next) (length t) is-c (so-far .rowed-client-room) l;
+          rowed-server-room = room-more (r .server) (r .«server_tried») d (length rest) (length next) (length t) is-d (so-far .rowed-server-room) l;
+        }
 
 -- ## All texts
+
+-- notes with what the table i gives
+module _ (notes : List ℕ) (c s i x y : ℕ) (long : length notes ≡ 131) (l : i < 64) where
+  abbrev pub put : List ℕ
+  put = set (set (set (set notes 0 c) 1 s) (3 + i) x) (67 + i) y
+
+  put-long : length put ≡ 131
+  put-long =
+      length-set (set (set (set notes 0 c) 1 s) (3 + i) x) (67 + i) y ∙ length-set (set (set notes 0 c) 1 s) (3 + i) x
+      ∙ length-set (set notes 0 c) 1 s ∙ length-set notes 0 c ∙ long
+
+  put-first : getD put 0 0 ≡ c
+  put-first =
+      getD-set-other (set (set (set notes 0 c) 1 s) (3 + i) x) (67 + i) 0 y 0 (λ e. omega arith)
+      ∙ getD-set-other (set (set notes 0 c) 1 s) (3 + i) 0 x 0 (λ e. omega arith)
+      ∙ getD-set-other (set notes 0 c) 1 0 s 0 (λ e. omega arith) ∙ getD-set-same notes 0 c 0 (omega arith)
+
+  put-second : getD put 1 0 ≡ s
+  put-second =
+      getD-set-other (set (set (set notes 0 c) 1 s) (3 + i) x) (67 + i) 1 y 0 (λ e. omega arith)
+      ∙ getD-set-other (set (set notes 0 c) 1 s) (3 + i) 1 x 0 (λ e. omega arith)
+      ∙ getD-set-same (set notes 0 c) 1 s 0 (omega (arith, length-set notes 0 c))
+
+  -- the words after the first two
+  put-rest : (m : ℕ) → 3 ≤ m → (m ≡ 3 + i → ⊥) → (m ≡ 67 + i → ⊥) → getD put m 0 ≡ getD notes m 0
+  put-rest m h n k =
+      getD-set-other (set (set (set notes 0 c) 1 s) (3 + i) x) (67 + i) m y 0 k
+      ∙ getD-set-other (set (set notes 0 c) 1 s) (3 + i) m x 0 n
+      ∙ getD-set-other (set notes 0 c) 1 m s 0 (λ e. omega arith) ∙ getD-set-other notes 0 m c 0 (λ e. omega arith)
+
+  put-client : getD put (3 + i) 0 ≡ x
+  put-client =
+      getD-set-other (set (set (set notes 0 c) 1 s) (3 + i) x) (67 + i) (3 + i) y 0 (λ e. omega arith)
+      ∙ getD-set-same (set (set notes 0 c) 1 s) (3 + i) x 0 (omega (arith, length-set notes 0 c, length-set (set notes 0 c) 1 s))
+
+  put-server : getD put (67 + i) 0 ≡ y
+  put-server =
+      getD-set-same (set (set (set notes 0 c) 1 s) (3 + i) x) (67 + i) y 0
+      (omega (arith, length-set notes 0 c, length-set (set notes 0 c) 1 s, length-set (set (set notes 0 c) 1 s) (3 + i) x))
+
+-- what the texts before the table i tell of a host, k its number
+pub record OwnBefore (ts : List Table) (h : Endpoint) (k : ℕ) (notes : List ℕ) (i : ℕ) : Type 0 where
+  pub before-bits : (j : ℕ) → j < 64 → bitAt j (getD notes k 0) ≡ (ltb j i && ownMatch h (tableAt ts j .text))
+  pub before-tried : (j : ℕ) → j < i → WordCount (isOwn h) (words (tableAt ts j .text)) (getD notes (3 + 64 * k + j) 0)
 
 -- the loop over the tables, at i
 pub record Gathered (t : List ℕ) (client server : Endpoint) (n : ℕ) (rest : List ℕ) (r : Rows) (i : ℕ) : Type 0 where
   pub so-far : Reached t n rest i
   pub long : length (r .names) ≡ 64
+  pub notes-long : length (r .notes) ≡ 131
   pub few : length (tablesIn t) ≤ 64
   pub gathered-names : (k : ℕ) → k < i → Marks (getD (r .names) k 0) 64 (textNames (tablesIn t) (tableAt (tablesIn t) k .text))
-  pub gathered-client : (k : ℕ) → k < 64 → bitAt k (r .client) ≡ (ltb k i && ownMatch client (tableAt (tablesIn t) k .text))
-  pub gathered-server : (k : ℕ) → k < 64 → bitAt k (r .server) ≡ (ltb k i && ownMatch server (tableAt (tablesIn t) k .text))
+  pub gathered-client : OwnBefore (tablesIn t) client 0 (r .notes) i
+  pub gathered-server : OwnBefore (tablesIn t) server 1 (r .notes) i
 
-abbrev rows : List ℕ → ℕ → ℕ → Rows
-rows n c s = record { names = n; client = c; server = s }
+abbrev rows : List ℕ → List ℕ → Rows
+rows names notes = record { names = names; notes = notes }
+
+-- notes without a bit
+abbrev blank : List ℕ
+blank = replicate 131 0
+
+own-start : (ts : List Table) (h : Endpoint) (k : ℕ) → getD blank k 0 ≡ 0 → OwnBefore ts h k blank 0
+own-start ts h k e = record {
+  before-bits = λ j l. ap (bitAt j) e ∙ bit-none j ∙ sym (rw (le-ltb j 0 (omega arith)));
+  before-tried = λ j l. absurd (omega arith);
+}
+
+-- one table further
+own-more : (ts : List Table) (h : Endpoint) (k : ℕ) (notes made : List ℕ) (i b : ℕ) (on : Bool) (text : List ℕ) → tableAt ts i .text ≡ text
+    → on ≡ any (isOwn h) (words text) → Marks b 64 (λ j. bitAt j (getD notes k 0) || on && eqb j i) → getD made k 0 ≡ b
+    → WordCount (isOwn h) (words text) (getD made (3 + 64 * k + i) 0)
+    → ((j : ℕ) → j < i → getD made (3 + 64 * k + j) 0 ≡ getD notes (3 + 64 * k + j) 0)
+    → OwnBefore ts h k notes i → OwnBefore ts h k made (i + 1)
+unfolding Marks
+own-more ts h k notes made i b on text here is-on is-b bits tried kept o = record {
+  before-bits = λ j l.
+      ap (bitAt j) bits ∙ is-b j l ∙ ap (λ (z : Bool). z || on && eqb j i) (o .before-bits j l)
+      ∙ next-bit j i false (ownMatch h (tableAt ts j .text)) on
+      (λ e. ap (λ (m : ℕ). ownMatch h (tableAt ts m .text)) e ∙ ap (ownMatch h) here ∙ sym is-on);
+  before-tried = λ j l. by j l (eqb j i) refl;
+}
+  where
+    by : (j : ℕ) → j < i + 1 → (e : Bool) → eqb j i ≡ e → WordCount (isOwn h) (words (tableAt ts j .text)) (getD made (3 + 64 * k + j) 0)
+    by j l true e =
+        subst (λ (m : ℕ). WordCount (isOwn h) (words (tableAt ts m .text)) (getD made (3 + 64 * k + m) 0)) (sym (eqb-true j i e))
+        (subst (λ (u : List ℕ). WordCount (isOwn h) (words u) (getD made (3 + 64 * k + i) 0)) (sym here) tried)
+    by j l false e =
+        let n : j ≡ i → ⊥ = eqb-false j i e in
+        let q : j < i = omega arith in
+        subst (λ (m : ℕ). WordCount (isOwn h) (words (tableAt ts j .text)) m) (sym (kept j q)) (o .before-tried j q)
 
 module _ (t : List ℕ) (client server : Endpoint) (n : ℕ) (rest : List ℕ) where
-  pub gathered-start : length (tablesIn t) ≤ 64 → n ≡ tableCount t → rest ≡ drop 2 t → Gathered t client server n rest (rows (replicate 64 0) 0 0) 0
+  pub gathered-start : length (tablesIn t) ≤ 64 → n ≡ tableCount t → rest ≡ drop 2 t
+      → Gathered t client server n rest (rows (replicate 64 0) (replicate 131 0)) 0
   gathered-start h is-n is-rest = record {
     so-far = reached-start t n is-n rest is-rest;
     long = refl;
+    notes-long = refl;
     few = h;
     gathered-names = λ k l. absurd (omega arith);
-    gathered-client = λ k l. bit-none k ∙ sym (rw (le-ltb k 0 (omega arith)));
-    gathered-server = λ k l. bit-none k ∙ sym (rw (le-ltb k 0 (omega arith)));
+    gathered-client = own-start (tablesIn t) client 0 refl;
+    gathered-server = own-start (tablesIn t) server 1 refl;
   }
 
   module _ (r : Rows) (i : ℕ) (g : Gathered t client server n rest r i) where
-    gathered-all : drop i (tablesIn t) ≡ [] → RowsOf (tablesIn t) client server r
+    own-all : (h : Endpoint) (k : ℕ) → i ≡ length (tablesIn t) → OwnBefore (tablesIn t) h k (r .notes) i → OwnOf (tablesIn t) h k (r .notes)
     unfolding Marks
+    own-all h k z o = record {
+      own-bits = λ j l. o .before-bits j (omega (arith, g .few)) ∙ rw (lt-ltb j i (omega arith));
+      own-tried = λ j l. o .before-tried j (omega arith);
+    }
+
+    gathered-all : drop i (tablesIn t) ≡ [] → RowsOf (tablesIn t) client server r
+    unfolding NamesOf
     gathered-all e =
         let z : i ≡ length (tablesIn t) = count-all t n rest i (g .so-far) e in
         record {
           rows-names = λ k l. g .gathered-names k (omega arith);
-          rows-client = λ k l. g .gathered-client k (omega (arith, g .few)) ∙ rw (lt-ltb k i (omega arith));
-          rows-server = λ k l. g .gathered-server k (omega (arith, g .few)) ∙ rw (lt-ltb k i (omega arith));
+          rows-client = own-all client 0 z (g .gathered-client);
+          rows-server = own-all server 1 z (g .gathered-server);
         }
 
     pub gathered-end : n ≤ i → RowsOf (tablesIn t) client server r
@@ -174,9 +340,15 @@ module _ (t : List ℕ) (client server : Endpoint) (n : ℕ) (rest : List ℕ) w
         pub gathered-place : i < 64
         gathered-place = omega (arith, g .few, place-here t n rest i (g .so-far) more span is-span whole)
 
+        pub client-place : 3 + i < 131
+        client-place = omega (arith, gathered-place)
+
+        pub server-place : 67 + i < 131
+        server-place = omega (arith, gathered-place)
+
         module _ (text : List ℕ) (is-text : text ≡ entryTable rest .text) (s : Row) (is-s : RowOf (tablesIn t) client server (words text) s)
-            (c : ℕ) (is-c : Marks c 64 (λ k. bitAt k (r .client) || s .client && eqb k i))
-            (d : ℕ) (is-d : Marks d 64 (λ k. bitAt k (r .server) || s .server && eqb k i)) where
+            (c : ℕ) (is-c : Marks c 64 (λ k. bitAt k (getD (r .notes) 0 0) || s .client && eqb k i))
+            (d : ℕ) (is-d : Marks d 64 (λ k. bitAt k (getD (r .notes) 1 0) || s .server && eqb k i)) where
           text-here : tableAt (tablesIn t) i .text ≡ text
           text-here = ap (λ (x : Table). x .text) (table-here t n rest i (g .so-far) more span is-span whole) ∙ sym is-text
 
@@ -192,26 +364,43 @@ module _ (t : List ℕ) (client server : Endpoint) (n : ℕ) (rest : List ℕ) w
                   let q : k ≡ i → ⊥ = eqb-false k i e in
                   rw (getD-set-other (r .names) i k (s .names) 0 q) (g .gathered-names k (omega arith) j h)
 
-          own-next : (h : Endpoint) (m b : ℕ) (on : Bool) → ((k : ℕ) → k < 64 → bitAt k m ≡ (ltb k i && ownMatch h (tableAt (tablesIn t) k .text)))
-              → on ≡ any (isOwn h) (words text) → Marks b 64 (λ k. bitAt k m || on && eqb k i)
-              → (k : ℕ) → k < 64 → bitAt k b ≡ (ltb k (i + 1) && ownMatch h (tableAt (tablesIn t) k .text))
-          unfolding Marks
-          own-next h m b on is-m is-on is-b k l =
-              is-b k l ∙ ap (λ (z : Bool). z || on && eqb k i) (is-m k l)
-              ∙ next-bit k i false (ownMatch h (tableAt (tablesIn t) k .text)) on
-              (λ e. ap (λ (j : ℕ). ownMatch h (tableAt (tablesIn t) j .text)) e ∙ ap (ownMatch h) text-here ∙ sym is-on)
+          abbrev made : List ℕ
+          made = put (r .notes) c d i (s .«client_tried») (s .«server_tried») (g .notes-long) gathered-place
 
-          pub gathered-more : (next : List ℕ) → next ≡ afterEntry rest → Gathered t client server n next (rows (set (r .names) i (s .names)) c d) (i + 1)
+          client-next : OwnBefore (tablesIn t) client 0 made (i + 1)
+          client-next =
+              own-more (tablesIn t) client 0 (r .notes) made i c (s .client) text text-here (is-s .row-client) is-c
+              (put-first (r .notes) c d i (s .«client_tried») (s .«server_tried») (g .notes-long) gathered-place)
+              (subst (λ (m : ℕ). WordCount (isOwn client) (words text) m)
+              (sym (put-client (r .notes) c d i (s .«client_tried») (s .«server_tried») (g .notes-long) gathered-place)) (is-s .row-client-tried))
+              (λ j l. put-rest (r .notes) c d i (s .«client_tried») (s .«server_tried») (g .notes-long) gathered-place (3 + j)
+              (omega arith) (λ e. omega arith) (λ e. omega (arith, gathered-place)))
+              (g .gathered-client)
+
+          server-next : OwnBefore (tablesIn t) server 1 made (i + 1)
+          server-next =
+              own-more (tablesIn t) server 1 (r .notes) made i d (s .server) text text-here (is-s .row-server) is-d
+              (put-second (r .notes) c d i (s .«client_tried») (s .«server_tried») (g .notes-long) gathered-place)
+              (subst (λ (m : ℕ). WordCount (isOwn server) (words text) m)
+              (sym (put-server (r .notes) c d i (s .«client_tried») (s .«server_tried») (g .notes-long) gathered-place)) (is-s .row-server-tried))
+              (λ j l. put-rest (r .notes) c d i (s .«client_tried») (s .«server_tried») (g .notes-long) gathered-place (67 + j)
+              (omega arith) (λ e. omega (arith, gathered-place)) (λ e. omega arith))
+              (g .gathered-server)
+
+          pub gathered-more : (next : List ℕ) → next ≡ afterEntry rest
+              → Gathered t client server n next
+              (rows (set (r .names) i (s .names)) (set (set (set (set (r .notes) 0 c) 1 d) (3 + i) (s .«client_tried»)) (67 + i) (s .«server_tried»))) (i + 1)
           gathered-more next is-next = record {
             so-far = reached-more t n rest i (g .so-far) more span is-span whole next is-next;
             long = length-set (r .names) i (s .names) ∙ g .long;
+            notes-long = put-long (r .notes) c d i (s .«client_tried») (s .«server_tried») (g .notes-long) gathered-place;
             few = g .few;
             gathered-names = names-next;
-            gathered-client = own-next client (r .client) c (s .client) (g .gathered-client) (is-s .row-client) is-c;
-            gathered-server = own-next server (r .server) d (s .server) (g .gathered-server) (is-s .row-server) is-d;
+            gathered-client = client-next;
+            gathered-server = server-next;
           }
 
--- ## All depths
+-- ## What no table names
 
 module _ (ts : List Table) (j : ℕ) (h : length ts ≤ j) where
   none-named : (n : List ℕ) → isNamed ts n j ≡ false
@@ -230,55 +419,7 @@ module _ (ts : List Table) (j : ℕ) (h : length ts ≤ j) where
       by none = refl
       by (some n) = none-named n
 
-  none-by-words : (ws : List (List ℕ)) → wordsName ts ws j ≡ false
+  pub none-by-words : (ws : List (List ℕ)) → wordsName ts ws j ≡ false
   unfolding wordsName any
   none-by-words [] = refl
   none-by-words (w ∷ ws) = rw (none-by-word w) (none-by-words ws)
-
--- what is reached by rows and by texts is the same at every table
-module _ (ts : List Table) (few : length ts ≤ 64) (names : List ℕ)
-    (is-names : (i : ℕ) → i < length ts → Marks (getD names i 0) 64 (textNames ts (tableAt ts i .text)))
-    (own start : ℕ) (o s : ℕ → Bool) (is-own : (i : ℕ) → i < length ts → bitAt i own ≡ o i) (is-start : (i : ℕ) → i < length ts → bitAt i start ≡ s i) where
-  reached-same : (d i : ℕ) → i < length ts
-      → reached (λ k j. bitAt j (getD names k 0)) (λ k. bitAt k own) (λ k. bitAt k start) d i ≡ reached (λ k j. textNames ts (tableAt ts k .text) j) o s d i
-  unfolding reached Marks
-  reached-same zero i h = is-start i h
-  reached-same (suc d) i h =
-      ap₂ _||_ (is-own i h)
-      (any-below-same
-      (λ j. bitAt j (getD names i 0) && reached (λ k j. bitAt j (getD names k 0)) (λ k. bitAt k own) (λ k. bitAt k start) d j)
-      (λ j. textNames ts (tableAt ts i .text) j && reached (λ k j. textNames ts (tableAt ts k .text) j) o s d j)
-      64
-      (λ j l. ap (λ (b : Bool). b && reached (λ k j. bitAt j (getD names k 0)) (λ k. bitAt k own) (λ k. bitAt k start) d j) (is-names i h j l)
-      ∙ by j (ltb j (length ts)) refl (reached-same d j)))
-    where
-      by : (j : ℕ) (b : Bool) → ltb j (length ts) ≡ b
-          → (j < length ts → reached (λ k j. bitAt j (getD names k 0)) (λ k. bitAt k own) (λ k. bitAt k start) d j
-          ≡ reached (λ k j. textNames ts (tableAt ts k .text) j) o s d j)
-          → (textNames ts (tableAt ts i .text) j && reached (λ k j. bitAt j (getD names k 0)) (λ k. bitAt k own) (λ k. bitAt k start) d j)
-          ≡ (textNames ts (tableAt ts i .text) j && reached (λ k j. textNames ts (tableAt ts k .text) j) o s d j)
-      by j true e ih = ap (λ (b : Bool). textNames ts (tableAt ts i .text) j && b) (ih (ltb-true j (length ts) e))
-      by j false e ih = rw (none-by-words ts j (ltb-false j (length ts) e) (words (tableAt ts i .text)))
-
-  pub reached-marks : (d m : ℕ) → Marks m 64 (reached (λ k j. bitAt j (getD names k 0)) (λ k. bitAt k own) (λ k. bitAt k start) d)
-      → Marks m (length ts) (reached (λ k j. textNames ts (tableAt ts k .text) j) o s d)
-  unfolding Marks
-  reached-marks d m is-m i h = is-m i (omega arith) ∙ reached-same d i h
-
-abbrev bits : ℕ → ℕ → ℕ → TableBits
-bits c s d = record { client = c; server = s; deep = d }
-
-pub view-right : (ts : List Table) (client server : Endpoint) → length ts ≤ 64 → (r : Rows) → RowsOf ts client server r → (c s d : ℕ)
-    → Marks c 64 (reached (λ k j. bitAt j (getD (r .names) k 0)) (λ k. bitAt k (r .client)) (λ k. bitAt k 0) 4)
-    → Marks s 64 (reached (λ k j. bitAt j (getD (r .names) k 0)) (λ k. bitAt k (r .server)) (λ k. bitAt k 0) 4)
-    → Marks d 64 (reached (λ k j. bitAt j (getD (r .names) k 0)) (λ k. bitAt k 0) (λ k. bitAt k 18446744073709551615) 4)
-    → Viewed ts client server (bits c s d)
-unfolding Marks
-view-right ts client server few r is-r c s d is-c is-s is-d = record {
-  view-client = reached-marks ts few (r .names) (is-r .rows-names) (r .client) 0 (λ k. ownMatch client (tableAt ts k .text)) (λ k. false)
-      (is-r .rows-client) (λ k h. bit-none k) 4 c is-c;
-  view-server = reached-marks ts few (r .names) (is-r .rows-names) (r .server) 0 (λ k. ownMatch server (tableAt ts k .text)) (λ k. false)
-      (is-r .rows-server) (λ k h. bit-none k) 4 s is-s;
-  view-deep = reached-marks ts few (r .names) (is-r .rows-names) 0 18446744073709551615 (λ k. false) (λ k. true)
-      (λ k h. bit-none k) (λ k h. bit-ones k (omega arith)) 4 d is-d;
-}

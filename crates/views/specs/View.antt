@@ -1,19 +1,21 @@
 -- What the tables are to one request, as the code finds it: what inner contracts cite. Nothing here needs to be believed for the meaning of
 -- document 02, request 1: laws tie it to inTable and leadsPast.
 --   bitAt i m            == bit i of the word m
---   matchesAt ts h i, deepAt ts i, pastAt ts d i == the table at the place i matches h, leads too deep, leads more than d deep
---   namingOf, notedMatch == what notes say of a named table: whether it may be named, and whether it matches
+--   pastAt ts d i        == the table at the place i leads more than d deep
+--   namingOf, notedMatch, notedTried == what notes say of a named table: whether it may be named, whether it matches, what is tried in it
 -- Notes are words: a bit for each table that matches the client in the first, for each that matches the server in the second, and
--- from the third on for each that leads too deep. Where there are no notes at all, names are not judged and nothing matches.
+-- from the third on for each that leads too deep. Where there are at most 64 tables, the third is the last of these, and after it
+-- stand the counts of what is tried: 64 for the client, 64 for the server. Where there are no notes at all, names are not judged and
+-- nothing matches.
 -- Assumes nothing: these are definitions.
-use Prim.Native.Nat.{ℕ, zero, suc, _+_, _/_, _%_, _^_, _<_}
+use Prim.Native.Nat.{ℕ, zero, suc, _+_, _*_, _/_, _%_, _^_, _<_}
 use mathlib.Core.Bool.{Bool, true, false, not, _&&_, _||_}
 use mathlib.Core.List.{List, []}
 use mathlib.Core.Option.{Option, none, some}
 use mathlib.Core.Path.{_≡_}
 use lib.ListN.{length, getD}
 use lib.Dec.{eqb, ltb}
-use Rattle.text.specs.Basics.{if_then_else_, holds, isEmpty, any}
+use Rattle.text.specs.Basics.{if_then_else_, holds, isEmpty, any, sumUntil}
 use Rattle.text.specs.Text.{firstAmong}
 use Rattle.patterns.specs.Host.{Endpoint}
 use Rattle.patterns.specs.Code.{hostMatches}
@@ -24,7 +26,6 @@ use Rattle.views.specs.declared.Naming.the-variants as Naming
 use Rattle.views.specs.declared.Reference.{Reference}
 use Rattle.views.specs.declared.Row.{Row}
 use Rattle.views.specs.declared.Rows.{Rows}
-use Rattle.views.specs.declared.TableBits.{TableBits}
 
 -- ## Bits
 
@@ -68,34 +69,31 @@ isOwn h w = not (firstAmong "/" w) && hostMatches w h
 abbrev pub ownMatch : Endpoint → List ℕ → Bool
 ownMatch h t = any (isOwn h) (words t)
 
--- what is reached d deep: at the start what start says, then what own says or what a table names that is reached one less deep
-unfoldable pub reached : (ℕ → ℕ → Bool) → (ℕ → Bool) → (ℕ → Bool) → ℕ → ℕ → Bool
-reached names own start zero i = start i
-reached names own start (suc d) i = own i || anyBelow (λ j. names i j && reached names own start d j) 64
-
--- the tables that match a host, and those that lead too deep, by their places
-abbrev pub matchesAt : List Table → Endpoint → ℕ → Bool
-matchesAt ts h i =
-    reached (λ k j. textNames ts (tableAt ts k .text) j) (λ k. ownMatch h (tableAt ts k .text)) (λ k. false) 4 i
-
-abbrev pub deepAt : List Table → ℕ → Bool
-deepAt ts i = reached (λ k j. textNames ts (tableAt ts k .text) j) (λ k. false) (λ k. true) 4 i
+-- how many words stand up to the first of which p holds, that one included: as 64 bits hold it
+pub record WordCount (p : List ℕ → Bool) (ws : List (List ℕ)) (n : ℕ) : Type 0 where
+  pub count : n ≡ sumUntil p (λ w. 1) ws
+  pub fits : n < 2 ^ 64
 
 -- what the words of a text give as a row
 pub record RowOf (ts : List Table) (client server : Endpoint) (ws : List (List ℕ)) (r : Row) : Type 0 where
   pub row-names : Marks (r .names) 64 (wordsName ts ws)
   pub row-client : r .client ≡ any (isOwn client) ws
   pub row-server : r .server ≡ any (isOwn server) ws
+  pub row-client-tried : WordCount (isOwn client) ws (r .«client_tried»)
+  pub row-server-tried : WordCount (isOwn server) ws (r .«server_tried»)
+
+-- what the texts by themselves tell of a host, k its number: a bit for each that matches, and the count of each
+pub record OwnOf (ts : List Table) (h : Endpoint) (k : ℕ) (notes : List ℕ) : Type 0 where
+  pub own-bits : Marks (getD notes k 0) (length ts) (λ i. ownMatch h (tableAt ts i .text))
+  pub own-tried : (i : ℕ) → i < length ts → WordCount (isOwn h) (words (tableAt ts i .text)) (getD notes (3 + 64 * k + i) 0)
+
+unfoldable pub NamesOf : List Table → List ℕ → Type 0
+NamesOf ts names = (i : ℕ) → i < length ts → Marks (getD names i 0) 64 (textNames ts (tableAt ts i .text))
 
 pub record RowsOf (ts : List Table) (client server : Endpoint) (r : Rows) : Type 0 where
-  pub rows-names : (i : ℕ) → i < length ts → Marks (getD (r .names) i 0) 64 (textNames ts (tableAt ts i .text))
-  pub rows-client : Marks (r .client) (length ts) (λ i. ownMatch client (tableAt ts i .text))
-  pub rows-server : Marks (r .server) (length ts) (λ i. ownMatch server (tableAt ts i .text))
-
-pub record Viewed (ts : List Table) (client server : Endpoint) (v : TableBits) : Type 0 where
-  pub view-client : Marks (v .client) (length ts) (matchesAt ts client)
-  pub view-server : Marks (v .server) (length ts) (matchesAt ts server)
-  pub view-deep : Marks (v .deep) (length ts) (deepAt ts)
+  pub rows-names : NamesOf ts (r .names)
+  pub rows-client : OwnOf ts client 0 (r .notes)
+  pub rows-server : OwnOf ts server 1 (r .notes)
 
 -- a name is of a table of which p holds; a pattern, a text, names one
 unfoldable pub nameLeads : List Table → (ℕ → Bool) → List ℕ → Bool
@@ -111,6 +109,20 @@ textLeads ts p t = any (wordLeads ts p) (words t)
 unfoldable pub pastAt : List Table → ℕ → ℕ → Bool
 pastAt ts zero i = true
 pastAt ts (suc d) i = textLeads ts (pastAt ts d) (tableAt ts i .text)
+
+-- ## Notes of a place
+
+-- the word k of the notes marks the table at the place i
+abbrev pub markedAt : ℕ → List ℕ → ℕ → Bool
+markedAt k notes i = ltb i 64 && bitAt i (getD notes k 0)
+
+-- how many patterns the notes say are tried in the table at the place i
+abbrev pub countedAt : ℕ → List ℕ → ℕ → ℕ
+countedAt k notes i = if ltb i 64 then getD notes (3 + 64 * k + i) 0 else 0
+
+abbrev pub placedCount : ℕ → List ℕ → Option ℕ → ℕ
+placedCount k notes none = 0
+placedCount k notes (some i) = countedAt k notes i
 
 -- ## Notes
 
@@ -137,12 +149,13 @@ placedNaming notes (some i) = namingAt notes i
 unfoldable pub namingOf : List Table → List ℕ → List ℕ → Naming
 namingOf ts notes n = if isEmpty notes then Naming.Sound else placedNaming notes (placeNamed ts n)
 
--- the word k of the notes marks the table at the place i
-abbrev pub markedAt : ℕ → List ℕ → ℕ → Bool
-markedAt k notes i = ltb i 64 && bitAt i (getD notes k 0)
-
+-- what the notes say of a named table: whether it matches
 unfoldable pub notedMatch : ℕ → List Table → List ℕ → List ℕ → Bool
 notedMatch k ts notes n = holds (markedAt k notes) (placeNamed ts n)
 
+-- how many patterns the notes say are tried in a named table; k: 0 for the client, 1 for the server; 0 where there is no such table, or its place is 64 or more
+unfoldable pub notedTried : ℕ → List Table → List ℕ → List ℕ → ℕ
+notedTried k ts notes n = placedCount k notes (placeNamed ts n)
+
 unfoldable pub referenceOf : ℕ → List Table → List ℕ → List ℕ → Reference
-referenceOf k ts notes n = record { naming = namingOf ts notes n; matches = notedMatch k ts notes n }
+referenceOf k ts notes n = record { naming = namingOf ts notes n; matches = notedMatch k ts notes n; tried = notedTried k ts notes n }

@@ -1,19 +1,21 @@
 // What the tables are to one request: which match its hosts, and which lead too deep.
-//   view(tables, client, .., server, ..) == which of at most 64 tables match, and which lead too deep
+//   view(tables, client, .., server, ..) == which of at most 64 tables match, which lead too deep, and what is tried in each
 //   deep_notes(tables, depth)            == notes that tell of any number of tables which lead more than depth deep
 //   look_up(tables, notes, k, name)      == what the notes say of a named table
-// Each text is gone over once: what it names becomes a word with a bit for each table, and a table is then matched by the words of the
-// tables that it names, with the remaining depth falling.
+// The patterns of each text are matched once: what it names becomes a word with a bit for each table, and a table is then matched by the words
+// of the tables that it names, with the remaining depth falling. Only the texts of tables that lead on are gone over again, to count.
 ghost use mathlib.Core.Path.{_≡_};
 ghost use mathlib.Core.Bool.{_&&_, _||_};
 ghost use mathlib.Core.List.{[], _∷_};
-ghost use Prim.Native.Nat.{_≤_, _<_};
+ghost use Prim.Native.Nat.{_+_, _≤_, _<_};
 ghost use lib.Dec.{eqb};
 ghost use lib.ListN.{length, getD};
 ghost use Rattle.patterns.specs.Host.{endpoint};
 ghost use Rattle.tables.specs.Code.{tablesIn, words};
-ghost use Rattle.views.specs.View.{bitAt, anyBelow, Marks, isNamed, wordNames, reached, RowOf, RowsOf, Viewed, isDeep, nameLeads, wordLeads, textLeads, Above, Deep};
-ghost use Rattle.views.specs.View.{namingAt, markedAt, referenceOf};
+ghost use Rattle.text.specs.Basics.{if_then_else_};
+ghost use Rattle.views.specs.View.{bitAt, anyBelow, Marks, isNamed, wordNames, RowOf, RowsOf, isDeep, nameLeads, wordLeads, textLeads, Above, Deep};
+ghost use Rattle.views.specs.Level.{Viewed};
+ghost use Rattle.views.specs.View.{namingAt, markedAt, countedAt, referenceOf};
 use patterns::Host;
 use patterns::pattern::host_read;
 use tables::entry::Place;
@@ -29,6 +31,8 @@ use tables::word::names_table;
 use tables::word::word;
 use tables::word::word_span;
 
+pub mod level;
+
 // Whether a table may be named: it is there and leads no more than four deep.
 pub enum Naming {
     Sound,
@@ -40,27 +44,23 @@ pub enum Naming {
 pub struct Reference {
     pub naming: Naming,
     pub matches: bool,
+    pub tried: u64,
 }
 
-// What one text gives: the tables that it names, and whether a pattern of its own matches the client, the server.
+// What one text gives: the tables that it names, whether a pattern of its own matches the client, the server, and how many patterns stand up
+// to the first that does.
 pub struct Row {
     pub names: u64,
     pub client: bool,
     pub server: bool,
+    pub client_tried: u64,
+    pub server_tried: u64,
 }
 
-// The rows of all tables, the last two as a bit for each table.
+// The rows of all tables: what each names, and the rest as notes.
 pub struct Rows {
     pub names: [u64; 64],
-    pub client: u64,
-    pub server: u64,
-}
-
-// A bit for each table that matches the client, that matches the server, that leads too deep.
-pub struct TableBits {
-    pub client: u64,
-    pub server: u64,
-    pub deep: u64,
+    pub notes: [u64; 131],
 }
 
 // The word whose only bit is at i; no bit where i is no place in a word.
@@ -84,7 +84,7 @@ fn mark(m: u64, i: usize, on: bool) -> u64
 }
 
 // Whether bit i of m is set.
-fn has_bit(m: u64, i: usize) -> bool
+pub fn has_bit(m: u64, i: usize) -> bool
     requires { ⌜ i < 64 ⌝ }
     ensures { λ r. ⌜ r ≡ bitAt i m ⌝ }
 {
@@ -129,6 +129,8 @@ fn word_row(
             names: word_bit(tables, w),
             client: false,
             server: false,
+            client_tried: 1,
+            server_tried: 1,
         };
     }
     let c = host_read(w, true, client, client_name);
@@ -137,7 +139,20 @@ fn word_row(
         names: 0,
         client: c.matches,
         server: s.matches,
+        client_tried: 1,
+        server_tried: 1,
     }
+}
+
+// A count, one more unless it has ended.
+fn count_on(count: u64, ended: bool) -> u64
+    requires { ⌜ count < 18446744073709551615 ⌝ }
+    ensures { λ r. ⌜ r ≡ count + (if ended then 0 else 1) ⌝ }
+{
+    if ended {
+        return count;
+    }
+    count + 1
 }
 
 // What a text gives.
@@ -157,6 +172,8 @@ fn text_row(
         names: 0,
         client: false,
         server: false,
+        client_tried: 0,
+        server_tried: 0,
     };
     let mut rest = text;
     loop {
@@ -170,6 +187,8 @@ fn text_row(
             names: row.names | seen.names,
             client: row.client | seen.client,
             server: row.server | seen.server,
+            client_tried: count_on(row.client_tried, row.client),
+            server_tried: count_on(row.server_tried, row.server),
         };
         let next = after_word(rest, at);
         rest = next;
@@ -192,8 +211,7 @@ fn all_rows(
     let mut rest = after_count(tables);
     let mut rows = Rows {
         names: [0u64; 64],
-        client: 0,
-        server: 0,
+        notes: [0u64; 131],
     };
     let mut i = 0;
     while i < n {
@@ -209,9 +227,13 @@ fn all_rows(
             server,
             server_name,
         );
+        let client_bits = mark(rows.notes[0], i, row.client);
+        let server_bits = mark(rows.notes[1], i, row.server);
         rows.names[i] = row.names;
-        rows.client = mark(rows.client, i, row.client);
-        rows.server = mark(rows.server, i, row.server);
+        rows.notes[0] = client_bits;
+        rows.notes[1] = server_bits;
+        rows.notes[3 + i] = row.client_tried;
+        rows.notes[67 + i] = row.server_tried;
         let next = after_entry(rest, span);
         rest = next;
         i += 1;
@@ -220,7 +242,7 @@ fn all_rows(
 }
 
 // What own marks, and every table that names one of those below.
-fn step(names: &[u64; 64], own: u64, below: u64) -> u64
+pub fn step(names: &[u64; 64], own: u64, below: u64) -> u64
     ensures { λ r.
         ⌜ Marks r 64 (λ i. bitAt i own || anyBelow (λ j. bitAt j (getD (now (names .entry)) i 0) && bitAt j below) 64) ⌝ }
 {
@@ -233,37 +255,23 @@ fn step(names: &[u64; 64], own: u64, below: u64) -> u64
     made
 }
 
-// What is reached depth deep: tables that own marks, and those that name one that is reached one less deep.
-fn reach(names: &[u64; 64], own: u64, start: u64, depth: u32) -> u64
-    ensures { λ r.
-        ⌜ Marks r 64 (reached (λ i j. bitAt j (getD (now (names .entry)) i 0)) (λ i. bitAt i own) (λ i. bitAt i start) depth) ⌝ }
-{
-    if depth == 0 {
-        return start;
-    }
-    let below = reach(names, own, start, depth - 1);
-    step(names, own, below)
-}
-
-// Which tables match the hosts of a request, and which lead more than four deep.
+// Notes on at most 64 tables for the hosts of a request: which match, which lead more than four deep, and what is tried in each.
 pub fn view(
     tables: &[u8],
     client: Host,
     client_name: &[u8],
     server: Host,
     server_name: &[u8],
-) -> TableBits
+) -> [u64; 131]
     requires { ⌜ length (tablesIn (now tables)) ≤ 64 ⌝ }
     ensures { λ r.
         ⌜ Viewed (tablesIn (now (tables .entry))) (endpoint client (now («client_name» .entry))) (endpoint server (now («server_name» .entry))) r ⌝ }
 {
     let rows = all_rows(tables, client, client_name, server, server_name);
     let names = rows.names;
-    TableBits {
-        client: reach(&names, rows.client, 0, 4),
-        server: reach(&names, rows.server, 0, 4),
-        deep: reach(&names, 0, 18446744073709551615, 4),
-    }
+    let mut first = rows.notes;
+    first[2] = step(&names, 0, 18446744073709551615);
+    level::raised(tables, &names, &first, 3)
 }
 
 // Whether the table at the place i is marked in the notes as too deep.
@@ -288,7 +296,7 @@ fn naming_at(notes: &[u64], i: usize) -> Naming
 }
 
 // Whether the word k of the notes marks the table at the place i.
-fn is_marked(notes: &[u64], k: usize, i: usize) -> bool
+pub fn is_marked(notes: &[u64], k: usize, i: usize) -> bool
     ensures { λ r. ⌜ r ≡ markedAt k (now (notes .entry)) i ⌝ }
 {
     if 64 <= i {
@@ -300,6 +308,23 @@ fn is_marked(notes: &[u64], k: usize, i: usize) -> bool
     has_bit(notes[k], i)
 }
 
+// How many patterns the notes say are tried in the table at the place i.
+pub fn counted_at(notes: &[u64], k: usize, i: usize) -> u64
+    ensures { λ r. ⌜ r ≡ countedAt k (now (notes .entry)) i ⌝ }
+{
+    if 64 <= i {
+        return 0;
+    }
+    if notes.len() / 64 < k {
+        return 0;
+    }
+    let at = 3 + 64 * k + i;
+    if notes.len() <= at {
+        return 0;
+    }
+    notes[at]
+}
+
 // What the notes say of the table of that name; k: 0 for the client, 1 for the server.
 pub fn look_up(tables: &[u8], notes: &[u64], k: usize, name: &[u8]) -> Reference
     ensures { λ r. ⌜ r ≡ referenceOf k (tablesIn (now (tables .entry))) (now (notes .entry)) (now (name .entry)) ⌝ }
@@ -308,16 +333,19 @@ pub fn look_up(tables: &[u8], notes: &[u64], k: usize, name: &[u8]) -> Reference
         return Reference {
             naming: Naming::Sound,
             matches: false,
+            tried: 0,
         };
     }
     match find(tables, name) {
         Place::Missing => Reference {
             naming: Naming::Missing,
             matches: false,
+            tried: 0,
         },
         Place::At(i) => Reference {
             naming: naming_at(notes, i),
             matches: is_marked(notes, k, i),
+            tried: counted_at(notes, k, i),
         },
     }
 }

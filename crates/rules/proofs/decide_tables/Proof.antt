@@ -9,7 +9,9 @@ decide-tables-spec =
     let facts = tie.spec
     (λ c κs. search needs)
     (λ c κs. search needs)
+    (λ c κs. search needs)
     (λ c. search (tabled-allow, needs))
+    (λ c κs. search needs)
     (λ c κs. search needs)
     (λ c κs. search needs)
     (λ c. search (tabled-deny, needs))

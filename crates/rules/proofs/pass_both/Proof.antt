@@ -10,5 +10,12 @@ returns c = search (both-pass, needs)
 
 pub pass-both-spec : {M : Type 1} → statement M
 pass-both-spec =
-    let facts = tie.spec (λ c κs. search needs) (λ c κs. search needs) (λ c κs. search needs) (λ c κs. search needs) returns in
+    let facts = tie.spec
+    (λ c κs. search needs)
+    (λ c κs. search needs)
+    (λ c κs. search needs)
+    (λ c κs. search needs)
+    (λ c κs. search needs)
+    (λ c κs. search needs)
+    returns in
     tie.close facts

@@ -8,9 +8,12 @@ pub refuse-spec : {M : Type 1} → statement M
 refuse-spec =
     let facts = tie.spec
     (λ c. search needs)
-    (λ c. search needs)
     (λ c κs. search needs)
     (λ c. search needs)
+    (λ c κs. search needs)
+    (λ c κs. search needs)
+    (λ c. search needs)
+    (λ c κs. search needs)
     (λ c κs. search needs)
     (λ c. search (refuse-faulty, needs))
     (λ c. search (refuse-unmatched, needs))

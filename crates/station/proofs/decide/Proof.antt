@@ -11,6 +11,7 @@ decide-spec =
     let facts = tie.spec
     (λ c κs. search needs)
     (λ c. search needs)
+    (λ c κs. search needs)
     (λ c. search needs)
     (λ c κs. search (is-framed, needs))
     (λ c. search (decide-unframed, needs))

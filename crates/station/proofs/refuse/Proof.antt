@@ -9,7 +9,9 @@ refuse-spec =
     let facts = tie.spec
     (λ c κs. search needs)
     (λ c. search needs)
+    (λ c κs. search needs)
     (λ c. search needs)
+    (λ c κs. search needs)
     (λ c κs. search needs)
     (λ c. search (refuse-refused, needs))
     (λ c. search (refuse-parts, needs)) in

@@ -3,7 +3,7 @@
 use borrow.Author.Needs.{needs}
 use Prim.Native.Nat.{_-_}
 use Rattle.patterns.specs.Host.{endpoint}
-use Rattle.views.proofs.RowLaws.{Gathered, gathered-start, gathered-end, gathered-cut, gathered-place, gathered-more}
+use Rattle.views.proofs.RowLaws.{Gathered, gathered-start, gathered-end, gathered-cut, gathered-place, client-place, server-place, gathered-more}
 use Rattle.views.proofs.all_rows.Statement.{statement}
 use Rattle.views.proofs.all_rows.Tie as tie
 
@@ -27,16 +27,22 @@ all-rows-spec =
     (λ c κs. search needs)
     (λ c κs. search needs)
     (λ c. search needs)
+    (λ c κs. search needs)
+    (λ c. search needs)
+    (λ c κs. search needs)
+    (λ c. search needs)
     (λ c. search (gathered-place, needs))
-    (λ c κs. search needs)
-    (λ c κs. search needs)
+    (λ c. search needs)
+    (λ c. search needs)
+    (λ c. search needs)
+    (λ c. search needs)
+    (λ c. search (client-place, needs))
+    (λ c. search needs)
+    (λ c. search needs)
+    (λ c. search (server-place, needs))
     (λ c κs. search needs)
     (λ c. search needs)
     (λ c. search needs)
-    (λ c.
-    let b = c .before .before .before in
-    let e = b .before .before in
-    gathered-more _ _ _ _ _ _ _ (e .before .before .before .loop .inv) (e .before .before .loop-test .taken) _ (e .before .entry-span .ensures) (e .if1 .left)
-    _ (b .before .entry-text .ensures) _ (b .text-row .ensures) _ (c .before .before .mark .ensures) _ (c .before .mark2 .ensures) _ (c .after-entry .ensures))
+    (λ c. search (gathered-more, needs))
     (λ c. search (gathered-end, needs)) in
     tie.close facts

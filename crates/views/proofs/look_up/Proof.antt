@@ -13,6 +13,7 @@ look-up-spec =
     (λ c. search needs)
     (λ c κs. search needs)
     (λ c κs. search needs)
+    (λ c κs. search needs)
     (λ c. search (look-missing, needs))
     (λ c. search (look-found, needs)) in
     tie.close facts

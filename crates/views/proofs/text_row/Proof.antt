@@ -4,7 +4,7 @@ use lib.ListN.{length}
 use Rattle.patterns.specs.Host.{endpoint}
 use Rattle.tables.specs.Code.{tablesIn}
 use Rattle.tables.proofs.WordLaws.{rest-shorter}
-use Rattle.views.proofs.RowLaws.{Rowed, rowed-start, rowed-end, rowed-more}
+use Rattle.views.proofs.RowLaws.{Rowed, rowed-start, rowed-end, rowed-client-fits, rowed-server-fits, rowed-more}
 use Rattle.views.proofs.text_row.Statement.{statement}
 use Rattle.views.proofs.text_row.Tie as tie
 
@@ -25,6 +25,8 @@ text-row-spec =
     (λ c κs. search needs)
     (λ c. search (rowed-end, needs))
     (λ c κs. search needs)
+    (λ c κs. search (rowed-client-fits, needs))
+    (λ c κs. search (rowed-server-fits, needs))
     (λ c κs. search needs)
     (λ c. search (rest-shorter, needs))
     (λ c. search (rowed-more, needs)) in

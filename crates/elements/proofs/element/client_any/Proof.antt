@@ -1,7 +1,6 @@
 -- `element::client_any` meets its contract. Assumes nothing.
 use borrow.Author.Needs.{needs}
-use Rattle.elements.specs.Element.{clientElement}
-use Rattle.elements.proofs.SeenLaws.{elementSeen-is}
+use Rattle.elements.proofs.SeenLaws.{client-any-is}
 use Rattle.elements.proofs.element.client_any.Statement.{statement}
 use Rattle.elements.proofs.element.client_any.Tie as tie
 
@@ -13,5 +12,6 @@ client-any-spec =
     (λ c κs. search needs)
     (λ c κs. search needs)
     (λ c κs. search needs)
-    (λ c. search (elementSeen-is, needs)) in
+    (λ c κs. search needs)
+    (λ c. search (client-any-is, needs)) in
     tie.close facts

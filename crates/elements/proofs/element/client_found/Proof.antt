@@ -1,6 +1,6 @@
 -- `element::client_found` meets its contract. Assumes nothing.
 use borrow.Author.Needs.{needs}
-use Rattle.elements.proofs.SeenLaws.{found-kind}
+use Rattle.elements.proofs.SeenLaws.{client-found-is}
 use Rattle.elements.proofs.element.client_found.Statement.{statement}
 use Rattle.elements.proofs.element.client_found.Tie as tie
 
@@ -9,5 +9,7 @@ client-found-spec =
     let facts = tie.spec
     (λ c κs. search needs)
     (λ c κs. search needs)
-    (λ c. search (found-kind, needs)) in
+    (λ c κs. search needs)
+    (λ c κs. search needs)
+    (λ c. search (client-found-is, needs)) in
     tie.close facts

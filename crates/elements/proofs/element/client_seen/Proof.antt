@@ -11,6 +11,7 @@ client-seen-spec =
     (λ c κs. search (named-described, needs))
     (λ c κs. search needs)
     (λ c κs. search needs)
+    (λ c κs. search needs)
     (λ c. search (named-client, named-described, needs))
     (λ c κs. search needs)
     (λ c. search needs) in

@@ -1,7 +1,6 @@
 -- `element::daemon_any` meets its contract. Assumes nothing.
 use borrow.Author.Needs.{needs}
-use Rattle.elements.specs.Element.{daemonElement}
-use Rattle.elements.proofs.SeenLaws.{elementSeen-is}
+use Rattle.elements.proofs.SeenLaws.{daemon-any-is}
 use Rattle.elements.proofs.element.daemon_any.Statement.{statement}
 use Rattle.elements.proofs.element.daemon_any.Tie as tie
 
@@ -13,5 +12,6 @@ daemon-any-spec =
     (λ c κs. search needs)
     (λ c κs. search needs)
     (λ c κs. search needs)
-    (λ c. search (elementSeen-is, needs)) in
+    (λ c κs. search needs)
+    (λ c. search (daemon-any-is, needs)) in
     tie.close facts

@@ -11,6 +11,7 @@ daemon-seen-spec =
     (λ c κs. search (names-described, needs))
     (λ c κs. search needs)
     (λ c κs. search needs)
+    (λ c κs. search needs)
     (λ c. search (named-daemon, needs))
     (λ c κs. search needs)
     (λ c. search needs) in

@@ -1,7 +1,7 @@
 -- `element::table_seen` meets its contract. Assumes nothing.
 use borrow.Author.Needs.{needs}
 use Rattle.elements.proofs.ElementLaws.{slash-some}
-use Rattle.elements.proofs.SeenLaws.{table-looked, table-passed}
+use Rattle.elements.proofs.SeenLaws.{table-is}
 use Rattle.elements.proofs.element.table_seen.Statement.{statement}
 use Rattle.elements.proofs.element.table_seen.Tie as tie
 
@@ -12,7 +12,5 @@ table-seen-spec =
     (λ c. search (slash-some, needs))
     (λ c. search needs)
     (λ c κs. search needs)
-    (λ c κs. search needs)
-    (λ c. search (table-looked, needs))
-    (λ c. search (table-passed, needs)) in
+    (λ c. search (table-is, needs)) in
     tie.close facts

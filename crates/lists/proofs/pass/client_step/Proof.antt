@@ -12,5 +12,6 @@ client-step-spec =
     (λ c κs. search needs)
     (λ c κs. search needs)
     (λ c κs. search needs)
+    (λ c κs. search needs)
     (λ c. search (client-step-is, needs)) in
     tie.close facts

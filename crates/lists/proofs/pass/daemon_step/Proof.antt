@@ -12,5 +12,6 @@ daemon-step-spec =
     (λ c κs. search needs)
     (λ c κs. search needs)
     (λ c κs. search needs)
+    (λ c κs. search needs)
     (λ c. search (daemon-step-is, needs)) in
     tie.close facts

@@ -8,13 +8,17 @@ pub daemons-negated-spec : {M : Type 1} → statement M
 daemons-negated-spec =
     let facts = tie.spec
     (λ c. search needs)
+    (λ c κs. search needs)
     (λ c. search needs)
     (λ c κs. search needs)
     (λ c κs. search needs)
     (λ c κs. search needs)
     (λ c. search needs)
+    (λ c κs. search needs)
     (λ c. search needs)
+    (λ c κs. search needs)
     (λ c. search needs)
+    (λ c κs. search needs)
     (λ c. search (negated-looking, needs))
     (λ c. search (negated-matched, needs))
     (λ c. search (negated-no, needs))

@@ -1,23 +1,19 @@
 -- `pass::pass_daemons` meets its contract. The invariant: what the list gives is what the pass gives at the end of the rest.
 -- The measure is the length of the rest. Assumes nothing.
-use mathlib.Core.Path.{_≡_}
 use lib.ListN.{length}
 use borrow.Author.Needs.{needs}
-use Rattle.lines.specs.Parts.{words}
 use Rattle.lines.proofs.RuleLaws.{rest-shorter}
 use Rattle.patterns.specs.Host.{endpoint}
 use Rattle.classes.proofs.ClassLaws.{element-place, element-described}
 use Rattle.elements.specs.Code.{viewOf, daemonKind}
 use Rattle.lists.specs.ListCode.{daemonFinds}
-use Rattle.lists.specs.PassCode.{listSeen, passFrom}
-use Rattle.lists.proofs.PassLaws.{pass-start, pass-end, pass-more}
+use Rattle.lists.proofs.PassLaws.{Passing, pass-start, pass-end, pass-more}
 use Rattle.lists.proofs.pass.pass_daemons.Statement.{statement}
 use Rattle.lists.proofs.pass.pass_daemons.Tie as tie
 
 abbrev Inv-loop : tie.InvT-loop
 Inv-loop class tables notes s search daemon server server-name p₀ rest₀ p rest =
-    listSeen (daemonKind (viewOf tables notes)) (daemonFinds (viewOf tables notes) daemon (endpoint server server-name)) search (words s)
-    ≡ passFrom (daemonKind (viewOf tables notes)) (daemonFinds (viewOf tables notes) daemon (endpoint server server-name)) p (words rest)
+    Passing (daemonKind (viewOf tables notes)) (daemonFinds (viewOf tables notes) daemon (endpoint server server-name)) search s rest p
 
 abbrev μ-loop : tie.MeasureT-loop
 μ-loop class tables notes s search daemon server server-name p₀ rest₀ p rest = length rest

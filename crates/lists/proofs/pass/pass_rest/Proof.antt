@@ -16,5 +16,6 @@ pass-rest-spec =
     (λ c κs. search needs)
     (λ c κs. search needs)
     (λ c κs. search needs)
+    (λ c κs. search needs)
     (λ c. search (restSeen-is, needs)) in
     tie.close facts

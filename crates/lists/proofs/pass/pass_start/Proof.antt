@@ -11,5 +11,5 @@ pass-start-spec =
     let facts = tie.spec
     (λ c κs. search needs)
     (λ c κs. search needs)
-    (λ c. ap₂ (λ x y. listPass x false y) (search needs) (search needs)) in
+    (λ c. ap₂ (λ x y. listPass x false y 0) (search needs) (search needs)) in
     tie.close facts

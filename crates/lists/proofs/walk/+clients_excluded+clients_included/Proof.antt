@@ -1,5 +1,6 @@
 -- The sides of EXCEPT in a client list, `walk::clients_included` and `walk::clients_excluded`, meet their contracts, by the laws of the walk at what a
--- client element finds. The invariant of each side's loop is `Walked`: the list finds what its rest finds. The measure of both functions is the
+-- client element finds. The invariant of each side's loop, `Walked` or `Passed`: the list finds
+-- what its rest finds, and counts what was looked at besides. The measure of both functions is the
 -- length of the list, that of both loops the length of the rest. Assumes nothing.
 use Prim.Native.Nat.{ℕ, _<_}
 use borrow.Author.Needs.{needs}
@@ -15,12 +16,14 @@ use Rattle.classes.proofs.ClassLaws.{element-place, element-described}
 use Rattle.classes.proofs.element_at.Reads as element-at
 use Rattle.elements.proofs.element.client_found.Reads as client-found
 use Rattle.elements.specs.Code.{viewOf}
-use Rattle.lists.specs.Walk.{included, excluded}
-use Rattle.lists.specs.ListCode.{clientFinds}
-use Rattle.lists.proofs.WalkLaws.{Walked, walked-none, walked-shorter}
+use Rattle.lists.specs.ListCode.{clientFinds, clientCounts, listLooked, restLooked}
+use Rattle.lists.proofs.WalkLaws.{Passed, passed-none, passed-shorter, Walked, walked-none, walked-shorter}
 use Rattle.lists.proofs.WalkLaws.{included-none, included-except, included-yes, included-no, included-ask}
 use Rattle.lists.proofs.WalkLaws.{excluded-none, excluded-except, excluded-more}
-use Rattle.lists.proofs.walk.negated.Reads as negated
+use Rattle.elements.proofs.count.add.Reads as add
+use Rattle.lists.proofs.walk.after_others.Reads as after-others
+use Rattle.lists.proofs.walk.missed.Reads as missed
+use Rattle.lists.proofs.walk.negated_list.Reads as negated-list
 use Rattle.lists.proofs.walk.clients_excluded.Reads as clients-excluded
 use Rattle.lists.proofs.walk.clients_excluded.Kinds as clients-excluded-kinds
 use Rattle.lists.proofs.walk.+clients_excluded+clients_included.Lts-clients_excluded as clients-excluded-lts
@@ -49,18 +52,18 @@ abbrev clients-included-below : ℕ → In 6 clients-included-kinds.ps
 clients-included-below t = and 6 clients-included-kinds.ps (falls 6 clients-included-kinds.ps _<_ μ-clients-included t) clients-included.Pre
 
 abbrev clients-excluded-Inv-loop : clients-excluded-lts.InvT-loop
-clients-excluded-Inv-loop class tables notes s client client-name user user-name rest₀ rest = Walked
-    (excluded (clientFinds (viewOf tables notes) (endpoint client client-name) user user-name)) s rest
+clients-excluded-Inv-loop class tables notes s client client-name user user-name rest₀ rest = Passed
+    (restLooked (clientFinds (viewOf tables notes) (endpoint client client-name) user user-name) (clientCounts (viewOf tables notes))) s rest
 
 abbrev clients-excluded-μ-loop : clients-excluded-lts.MeasureT-loop
 clients-excluded-μ-loop class tables notes s client client-name user user-name rest₀ rest = length rest
 
 abbrev clients-included-Inv-loop : clients-included-lts.InvT-loop
-clients-included-Inv-loop class tables notes s client client-name user user-name rest₀ rest = Walked
-    (included (clientFinds (viewOf tables notes) (endpoint client client-name) user user-name)) s rest
+clients-included-Inv-loop class tables notes s client client-name user user-name looked₀ rest₀ looked rest = Walked
+    (listLooked (clientFinds (viewOf tables notes) (endpoint client client-name) user user-name) (clientCounts (viewOf tables notes))) s rest looked
 
 abbrev clients-included-μ-loop : clients-included-lts.MeasureT-loop
-clients-included-μ-loop class tables notes s client client-name user user-name rest₀ rest = length rest
+clients-included-μ-loop class tables notes s client client-name user user-name looked₀ rest₀ looked rest = length rest
 
 pub +clients-excluded+clients-included-spec : {M : Type 1} → statement M
 +clients-excluded+clients-included-spec =
@@ -75,20 +78,20 @@ pub +clients-excluded+clients-included-spec : {M : Type 1} → statement M
       is-except.Learnt,
       clients-included-below t,
       clients-included.Post,
-      negated.Asked,
-      negated.Learnt,
+      negated-list.Asked,
+      negated-list.Learnt,
     )
     (clients-excluded-at t)
     clients-excluded.Post
     clients-excluded-Inv-loop
     clients-excluded-μ-loop
-    (λ c. search (walked-none, needs))
+    (λ c. search (passed-none, needs))
     (λ c κs. search needs)
     (λ c κs. search (element-place, needs))
     (λ c. search (excluded-none, needs))
     (λ c κs. search (element-place, needs))
     (λ c κs. search needs)
-    (λ c κs. (search (walked-shorter, needs), search needs))
+    (λ c κs. (search (passed-shorter, needs), search needs))
     (λ c κs. search needs)
     (λ c. search (excluded-except, needs))
     (λ c. search (rest-shorter, needs))
@@ -98,14 +101,20 @@ pub +clients-excluded+clients-included-spec : {M : Type 1} → statement M
       element-at.Learnt,
       element.Asked,
       element.Learnt,
+      missed.Asked,
+      missed.Learnt,
       is-except.Asked,
       is-except.Learnt,
       after-element.Asked,
       after-element.Learnt,
       client-found.Asked,
       client-found.Learnt,
+      add.Asked,
+      add.Learnt,
       clients-excluded-below t,
       clients-excluded.Post,
+      after-others.Asked,
+      after-others.Learnt,
     )
     (clients-included-at t)
     clients-included.Post
@@ -114,13 +123,17 @@ pub +clients-excluded+clients-included-spec : {M : Type 1} → statement M
     (λ c. search (walked-none, needs))
     (λ c κs. search needs)
     (λ c κs. search (element-place, needs))
+    (λ c κs. search needs)
     (λ c. search (included-none, needs))
+    (λ c κs. search needs)
     (λ c κs. search needs)
     (λ c. search (included-except, needs))
     (λ c κs. search (element-place, needs))
     (λ c κs. search (element-described, needs))
+    (λ c κs. search needs)
     (λ c. search needs)
     (λ c κs. (search (walked-shorter, needs), search needs))
+    (λ c κs. search needs)
     (λ c. search (included-yes, needs))
     (λ c. search needs)
     (λ c. search needs)

@@ -1,20 +1,21 @@
--- `rules::hosts_file::pass_lines` meets its contract. The invariant: the pass over the text is what was found, then the pass over the lines from i on; no answer
--- is found while one is looked for; n is at most i + 1. The measure is what is left of the text. Assumes nothing.
+-- `rules::hosts_file::pass_lines` meets its contract. The invariant: the pass over the text is what was found, then the pass over the lines from i on, and so is
+-- the number of elements looked at; no answer is found while one is looked for; n is at most i + 1. The measure is what is left of the text. Assumes nothing.
 use borrow.Author.Needs.{needs}
 use Prim.Native.Nat.{_-_}
 use lib.ListN.{length}
-use Rattle.rules.specs.FileCode.{Query, queryAt, passText}
+use Rattle.lines.specs.Line.{lines}
+use Rattle.rules.specs.FileCode.{Query, queryAt, passText, linesLooked}
 use Rattle.rules.proofs.FileLaws.{Passing, passing-start, passing-more, passing-found, passing-end, pass-stop, step-less}
 use Rattle.rules.proofs.hosts_file.pass_lines.Statement.{statement}
 use Rattle.rules.proofs.hosts_file.pass_lines.Tie as tie
 
 abbrev Inv-loop : tie.InvT-loop
-Inv-loop class tables notes text order verdict file search names request i₀ n₀ searching₀ found₀ i n searching found =
+Inv-loop class tables notes text order verdict file search names request i₀ n₀ searching₀ found₀ looked₀ i n searching found looked =
     let r : Query = queryAt tables notes names request in
-    Passing order verdict file r (passText order verdict file search r text) text i n searching found
+    Passing order verdict file r (passText order verdict file search r text) (linesLooked verdict file search r (lines text)) text i n searching found looked
 
 abbrev μ-loop : tie.MeasureT-loop
-μ-loop class tables notes text order verdict file search names request i₀ n₀ searching₀ found₀ i n searching found =
+μ-loop class tables notes text order verdict file search names request i₀ n₀ searching₀ found₀ looked₀ i n searching found looked =
     length text - i
 
 loop-holds : tie.Need-loop-holds Inv-loop μ-loop
@@ -44,6 +45,7 @@ pass-lines-spec =
     Inv-loop
     μ-loop
     loop-holds
+    (λ c κs. search needs)
     (λ c κs. search needs)
     (λ c. search needs)
     returns

@@ -1,13 +1,12 @@
 -- `search::notes_on` meets its contract. Assumes nothing.
 use borrow.Author.Needs.{needs}
-use Rattle.rules.proofs.SearchLaws.{notes-none, notes-view}
+use Rattle.rules.proofs.SearchLaws.{notes-view}
 use Rattle.rules.proofs.search.notes_on.Statement.{statement}
 use Rattle.rules.proofs.search.notes_on.Tie as tie
 
 pub notes-on-spec : {M : Type 1} → statement M
 notes-on-spec =
     let facts = tie.spec
-    (λ c. search (notes-none, needs))
     (λ c κs. search needs)
     (λ c κs. search needs)
     (λ c κs. search needs)
