@@ -28,7 +28,7 @@ struct recipe {
 #define PLAIN "sshd: .depot%u.example, van%u.x.example, 10.%u.%u.\n"
 #define BRACKETED "sshd: [2001:db8:%x::]/48, [2001:db8:1:%x::2], [fe80::%x:0:%x]/64\n"
 #define PREFIXES "sshd: [2001:db8:ffff:%x::]/64, [2001:db8:ffff::%x]/127, [2001:db8:ffff:0:1:%x::]/96\n" /* each differs in its last word */
-#define BYUID_FORMS "10.%u.0.0/16,80\n10.1.0.0-10.1.%u.255,1-1023\n10.0.%u.0/24,1-1023\n2001:db8:%x::/48,80\n"
+#define BYUID_FORMS "10.%u.0.0/16,80\n10.1.0.0-10.1.%u.255,1-1023\n10.0.%u.0/24:1,1023\n2001:db8:%x::/48,80\n"
 #define PORTACL_ENTRY "gid:%u:tcp:10001,"
 #define NAMING "sshd: /a, /a, /a, /a, /a, /a, /a, /a, /a, /a, /a, /a, /a, /a, /a, /a, /a, /a, /a, /a\n"
 

@@ -114,9 +114,7 @@ static enum status decide_by_file(const struct arguments *arguments, const char 
     if (!read_file(path, GATE_BYUID_LIMIT, &text))
         return STATUS_FAILED;
     struct gate_answer answer = ask_byuid(text.bytes, text.len, bind);
-    if (answer.number == GATE_RETIRED_FORM)
-        complain_of_retired("gate", path, &text);
-    else if (answer.number != GATE_ANSWERED)
+    if (answer.number != GATE_ANSWERED && !complain_of_retired("gate", path, &text))
         complain("gate", "%s: refused: %s [%u]", shown(path), gate_number_text(answer.number), (unsigned)answer.number);
     else if (answer.word == GATE_GRANTED)
         show_line(arguments, path, &text, bind);

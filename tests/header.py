@@ -33,7 +33,7 @@ SIZES = {"u32": 4, "u64": 8}
 TAGS = {"GateCheck": "gate_checked", "GateCommand": "gate_command_answer"}
 # numbers that the definitions write as themselves
 ZEROS = ["GATE_ANSWERED", "GATE_NO_SECTION", "GATE_NO_WORD"]
-NEEDED = {"memcpy", "memmove", "memset"}
+NEEDED = {"memcpy", "memset"}
 WARNINGS = ["-Wall", "-Wextra", "-Wpedantic", "-Wconversion", "-Werror"]
 # what the declarations say, and all that is warned of when code is made
 DECLARATIONS, CODE = ["-fsyntax-only"], ["-c", "-o", "/dev/null"]
@@ -273,6 +273,12 @@ PLANTED = [
     (ORDER, "given (eqb n 2) Other", "given (eqb n 3) Other"),
     (ANSWERS, 'word "read" 8', 'word "read" 9'),
     (HEADER, "GATE_ASK = 3,", "GATE_ASK = 7,"),
+    (HEADER, "GATE_NAME_MATTERS = 9 ", "GATE_NAME_MATTERS = 10 "),
+    (HEADER, "GATE_NAME_MATTERS: return \"name matters\"", "GATE_NAME_MATTERS: return \"ask\""),
+    (HEADER, "struct gate_answer gate_name_matters(", "struct gate_checked gate_name_matters("),
+    (HEADER, "struct gate_answer gate_sheet_name_matters(", "struct gate_answer gate_sheet_user_matters("),
+    (ANSWERS, 'word "name matters" 9', 'word "name matters" 3'),
+    (EXPORTS, "pub extern \"C\" fn gate_tables_name_matters", "pub extern \"C\" fn gate_tables_matters"),
     (HEADER, "GATE_UDP = 17", "GATE_UDP = 16"),
     (HEADER, "GATE_MARKED_FILE = 1", "GATE_MARKED_FILE = 2"),
     (HEADER, "uint32_t mark, uint32_t port, uint32_t kind", "uint32_t port, uint32_t mark, uint32_t kind"),

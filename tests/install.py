@@ -11,7 +11,7 @@ import tempfile
 
 top = pathlib.Path(__file__).resolve().parent.parent
 FILES = {"lib/libgate.a": 0o644, "lib/pkgconfig/libgate.pc": 0o644, "include/gate.h": 0o644, "bin/gate": 0o755, "bin/checker": 0o755,
-         "bin/upgrader": 0o755, "bin/converter": 0o755, "share/man/man1/converter.1": 0o644, "share/man/man1/gate.1": 0o644, "share/man/man1/checker.1": 0o644, "share/man/man1/upgrader.1": 0o644,
+         "bin/upgrader": 0o755, "share/man/man1/gate.1": 0o644, "share/man/man1/checker.1": 0o644, "share/man/man1/upgrader.1": 0o644,
          "share/man/man3/libgate.3": 0o644, "share/man/man5/station-sheet.5": 0o644}
 PROGRAM = """#include <gate.h>
 #include <stdio.h>
@@ -67,9 +67,6 @@ def one(folder, name, arguments, prefix):
     (destdir / "sheet").write_bytes(bytes(16))
     if run(str(root / "bin/upgrader"), str(destdir / "sheet")) != "\0" * 18:
         fail("the upgrader")
-    (destdir / "byuid").write_bytes(b"10.0.0.0/8:80,90\n")
-    if run(str(root / "bin/converter"), str(destdir / "byuid")) != "10.0.0.0/8,80-90\n":
-        fail("the converter")
     run(str(root / "bin/gate"), "--version")
 
 

@@ -34,7 +34,7 @@ TEXTS = [(TOP / "sample" / name).read_bytes() for name in NAMES]
 SHEET_LIMIT = 57360
 SHEET = ref.pack(TEXTS + [ref.NO_TABLES], SHEET_LIMIT)
 OLD_SHEET = SHEET[:-2]
-COMMANDS = ("check", "match", "byuid", "portacl", "authbind", "pack", "unpack", "fleet", "upgrade", "convert", "carry", "explain", "test")
+COMMANDS = ("check", "match", "byuid", "portacl", "authbind", "pack", "unpack", "fleet", "upgrade", "carry", "explain", "test")
 PAGE = os.sysconf("SC_PAGE_SIZE")
 runs, failures, statuses, skipped = 0, [], set(), []
 
@@ -132,10 +132,10 @@ def test_misread():
     for case in ([], ["portacl"], ["portacl", "432", "p"], ["portacl", "www", "p", "m"], ["portacl", "0432", "p", "m"], ["portacl", "4294967296", "p", "m"],
                  ["portacl", "432", "p", "m", "x"], ["portacl", "432", "p", ""], ["portacl", "432", "p", "p"], ["portacl", "432", "p", "./p"], ["portacl", "432", ".", "m"]):
         expect(f"carry {case} is an error", gate("carry", *case), 2, b"", "gate: ")
-    for case in (["20"], ["21"], ["23"], ["x"], ["-1"], ["010"], [""], ["1", "2"], ["4294967306"]):
+    for case in (["20"], ["x"], ["-1"], ["010"], [""], ["1", "2"], ["4294967306"]):
         expect(f"explain {case} is an error", gate("explain", *case), 2, b"", "gate: ")
     for case in ([], ["chek"], [""], ["-q"], ["--Version"], ["--version", "x"], ["check"], ["check", SAMPLE, SAMPLE], ["pack", SAMPLE], ["unpack", "x"],
-                 ["test", SAMPLE], ["fleet", SAMPLE], ["upgrade", "x"], ["convert", "x"], ["fleet", FLEET, "--tables", FLEET + "/tables"], ["check", "--warning", SAMPLE], ["check", "-q", "-q", SAMPLE], ["check", "--quiet=1", SAMPLE]):
+                 ["test", SAMPLE], ["fleet", SAMPLE], ["upgrade", "x"], ["fleet", FLEET, "--tables", FLEET + "/tables"], ["check", "--warning", SAMPLE], ["check", "-q", "-q", SAMPLE], ["check", "--quiet=1", SAMPLE]):
         expect(f"gate {case} is an error", gate(*case), 2, b"", "gate: ")
 
 
@@ -177,7 +177,28 @@ def test_read():
 
 # Answers
 
+ASK_AGAIN = "why       this rule looks at the user, who is not fetched: ask again with USER@ or --unknown-user\n"
 VAN = ["sshd@192.0.2.1", "10.20.30.40", "--name", "van7.vans.example"]
+
+
+def test_names(folder):
+    """ask, where every user gets the same answer: that answer and its rule"""
+    for what, allow, deny, answer in (
+            ("every user", b"sshd: ALL@10.\n", b"ALL: ALL\n", "granted, by %s/hosts.allow:1"),
+            ("known or not", b"# x\nsshd: KNOWN@10. UNKNOWN@10.\n", b"ALL: ALL\n", "granted, by %s/hosts.allow:2"),
+            ("taken out again", b"sshd: fitter@10. EXCEPT FITTER@10.\n", b"\n\nALL: ALL\n", "denied, by %s/hosts.deny:3"),
+            ("no rule for any user", b"sshd: fitter@10. EXCEPT fitter@10.\n", b"ALL: x\n", "granted, by no rule")):
+        where = station(folder + "/names", allow, deny)
+        answer = answer % where if "%s" in answer else answer
+        line = f"{ASK_AGAIN}name      does not matter: every user is {answer}\nlooked at "
+        expect("a name that does not matter: " + what, gate("match", where, "sshd", "10.20.30.41"), 3, line, b"")
+        expect("quiet: " + what, gate("match", "-q", where, "sshd", "10.20.30.41"), 3, b"", b"")
+        status = 1 if answer.startswith("denied") else 0
+        for user in ("fitter@10.20.30.41", "x@10.20.30.41"):
+            done = gate("match", where, "sshd", user)
+            expect("its user: " + what, done, status, answer.split(",")[0] + "\n", b"")
+            if b"\nname " in done.stdout:
+                fail("a name is spoken of where none is asked for", done.stdout)
 
 
 def test_answers(folder):
@@ -189,14 +210,19 @@ def test_answers(folder):
         expect("ask by " + what, gate("match", where, "sshd", "10.20.30.41"), 3, "ask\nrule      %s:3\n" % (at % "hosts.allow"), b"")
         expect("denied by " + what, gate("match", where, "sshd", "10.9.30.41", "--paranoid"), 1,
                b"denied\nrule      %s:2\ntext      ALL: ALL: /usr/bin/logger -t gate refused \\\n              %%d to %%a\n"
-               b"command   /usr/bin/logger -t gate refused     %%d to %%a\nexpanded  /usr/bin/logger -t gate refused     sshd to 10.9.30.41\nlooked at 7 elements\n"
-               % (at % "hosts.deny").encode(), b"")
+               b"command   /usr/bin/logger -t gate refused     %%d to %%a\nexpanded  /usr/bin/logger -t gate refused     sshd to 10.9.30.41\n"
+               b"looked at 7 elements\n" % (at % "hosts.deny").encode(), b"")
         expect("byuid by " + what, gate("byuid", where, "432", "10.20.1.2,80"), 0,
                b"granted\nrule      %s:1\ntext      10.20.0.0/16,80\n" % (at % "byuid").encode(), b"")
         expect("portacl by " + what, gate("portacl", where, "5", "udp:123", "--groups", "19,20"), 0,
                b"granted\nrule      %s entry 2\ntext      gid:20:udp:123\n" % (at % "portacl").encode(), b"")
         expect("tested by " + what, gate("test", where, SAMPLE + "/requests"), 0, "13 requests, all as expected", b"")
         expect("checked as " + what, gate("check", "-W", where), 0, "sound, 398 bytes", b"")
+        expect("the name matters by " + what, gate("match", where, "sshd", "10.20.30.41"), 3,
+               ASK_AGAIN + "name      matters: not every user gets the same answer\nlooked at ", b"")
+        expect("only where it is not known, by " + what, gate("match", where, "sshd", "fitter@10.20.30.41"), 0,
+               "from 10.20.30.41\nlooked at ", b"")
+    test_names(folder)
     expect("no rule", gate("match", station(folder + "/none"), *VAN), 0, "granted\nwhy       no rule", b"")
     expect("no line", gate("byuid", SAMPLE, "432", "10.21.1.2,80"), 1, b"no line\n", b"")
     expect("a verdict by standard input", gate("match", "-", *VAN, stdin=SHEET), 0, "granted\nrule      -(hosts.allow):2\n", b"")
@@ -279,11 +305,11 @@ WARNINGS = {
         (b"10.0.0.0/8,80\r", "carriage return"), (b" 10.0.0.0/8,80", "blank"), (b"10.0.0.0/8, 80", "perhaps: 10.0.0.0/8,80"), (b"10.0.0.0/8,http", "no number"),
         (b"3FFE:0505::/32,http", "no number"),
         (b"10.0.0.1/8,80", "perhaps: 10.0.0.0/8,80"), (b"3ffe::1/16,80", "perhaps: 3ffe::/16,80"), (b"10.0.0.9-10.0.0.1,80", "perhaps: 10.0.0.1-10.0.0.9,80"),
-        (b"10.0.0.0/8,90-80", "perhaps: 10.0.0.0/8,80-90"), (b"10.0.0.0/8:90,80", "perhaps: 10.0.0.0/8,80-90"), (b"10.0.0.1/8:80,90", "perhaps: 10.0.0.0/8,80-90"), (b"10.0.0.0/8: 80,90", "blank"), (b"10.0.0.0/8,1024", "not ruled"),
+        (b"10.0.0.0/8,90-80", "perhaps: 10.0.0.0/8,80-90"), (b"10.0.0.0/8:90,80", "perhaps: 10.0.0.0/8:80,90"), (b"10.0.0.0/8,1024", "not ruled"),
         (b"10.0.0.0/8,0", "not ruled"), (b"10.0.0.0/8", "no comma"), (b"10.0.0.0/33,80", "not of the form"), (b"10.0.0,80", "not of the form"),
         (b"10.0.0.0/8,080", "fewest digits"), (b"x" * 300, "no comma"), (b"10.0.0.0/8,80", None), (b"10.0.0.0/8,0-80", None), (b"10.0.0.0/8,511-2000", None),
-        (b"10.0.0.0/8,512", "granted by the marked file only"), (b"10.0.0.0/8,1023-2000", "granted by the marked file only"),
-        (b"::/0,80", None), (b"10.0.0.1-10.0.0.9,80-90", None), (b"# x", None), (b"", None), (b"  \r", None),
+        (b"10.0.0.0/8,512", "granted by the marked file only"), (b"10.0.0.0/8,1023-2000", "granted by the marked file only"), (b"10.0.0.0/8:512,600", "marked"),
+        (b"::/0,80", None), (b"10.0.0.1-10.0.0.9,80-90", None), (b"10.0.0.0/8:80,90", None), (b"# x", None), (b"", None), (b"  \r", None),
         (b"3FFE:0505::/32,80", None), (b"::ffff:10.0.0.0/128,80", None)],
 }
 
@@ -351,8 +377,6 @@ def test_marked(folder):
             ("quiet", ["432", "10.20.1.2,600", "-q", "--marked", marked], 0, b"")):
         expect("byuid: " + what, gate("byuid", both, *arguments), status, out, b"")
     expect("a marked file over its limit", gate("byuid", both, "432", "10.20.1.2,80", "--marked", long), 2, b"", "long: refused: longer than its section may be [2]")
-    pathlib.Path(long).write_bytes(b"x\n10.0.0.0/8:600,700\n")
-    expect("a marked file of the retired form", gate("byuid", both, "432", "10.20.1.2,80", "--marked", long), 2, b"", "long:2: refused: a line of the retired form")
     expect("a marked file that is not there", gate("byuid", both, "432", "10.20.1.2,80", "--marked", folder + "/none"), 2, b"", "No such file")
     requests = folder + "/requests"
     pathlib.Path(requests).write_text(f"byuid 432 10.20.1.2,600 --marked {marked} => granted marked:2\nbyuid 432 10.20.1.2,511 --marked {marked} => granted byuid:1\n"
@@ -392,8 +416,6 @@ def test_authbind(folder):
         expect(what, done, status, out, err)
     (root / "etc/authbind/byuid/432").write_bytes(b"#" * 8193)
     expect("a byuid file over its limit", ask("::1", 80), 2, b"", "432: refused: longer than its section may be [2]")
-    (root / "etc/authbind/byuid/432").write_bytes(b"::/0,80\n10.0.0.0/8:80,90\n")
-    expect("a byuid file of the retired form", ask("::1", 80), 2, b"", "432:2: refused: a line of the retired form that used to grant [22]; gate convert OLD NEW rewrites such lines")
     (root / "etc/authbind/byuid/432").unlink()
     (root / "etc/authbind/byuid/432").mkdir()
     expect("a byuid file that can't be read", ask("::1", 80), 2, b"", "Is a directory")
@@ -402,12 +424,12 @@ def test_authbind(folder):
 
 def test_explain(folder):
     expect("explain lists all", gate("explain"), 0, "\n14  ", b"")
-    expect("explain lists the last", gate("explain"), 0, "\n22  ", b"")
-    for number in [*range(20), 22]:
+    expect("explain lists the last", gate("explain"), 0, "\n19  ", b"")
+    for number in range(20):
         done = gate("explain", str(number))
         expect(f"explain {number}", done, 0, "What to do", b"")
-        example = re.search(rb"Example, in (hosts.allow|portacl|byuid|a table):\n    (.*)\n", done.stdout)
-        if not example or number in (2, 4, 6):
+        example = re.search(rb"Example, in (hosts.allow|portacl|a table):\n    (.*)\n", done.stdout)
+        if not example or number in (4, 6):
             continue
         text = re.sub(rb" \(.*\)", b"", example[2]).replace(b"\\r", b"\r")
         if example[1] == b"a table":
@@ -813,9 +835,9 @@ def test_carry(folder):
     if [plain.read_bytes(), marked.read_bytes()] != ref.carry(longest, 1, 4096, 4096):
         fail("the texts of a list near its limit")
     for what, uid, text, message in (
-            ("root's", "0", both[:-1], "uid 0: byuid never rules root"), ("a bad entry", "0", both, "standard input: entry 9: not a portacl entry [12]"),
+            ("root's", "0", both[:-1], "uid 0: byuid never rules root"), ("a bad entry", "0", both, "standard input: entry 9: a portacl entry not of its form [12]"),
             ("4,097 bytes", "432", b"," * 4097, "4097 bytes, and the most is 4096 [2]"), ("a megabyte", "432", b"," * (1 << 20), "over 65536 bytes, and the most is 4096 [2]"),
-            ("a newline at the end", "432", both[:-1] + b"\n", "entry 8: not a portacl entry [12]")):
+            ("a newline at the end", "432", both[:-1] + b"\n", "entry 8: a portacl entry not of its form [12]")):
         plain.write_bytes(b"old plain"), marked.write_bytes(b"old marked")
         expect("carrying over " + what, gate("carry", "-", uid, plain, marked, stdin=text), 2, b"", message)
         if plain.read_bytes() != b"old plain" or marked.read_bytes() != b"old marked" or left_over(folder):
@@ -825,43 +847,6 @@ def test_carry(folder):
     expect("a folder that is not there", gate("carry", "-", "432", plain, folder + "/none/m", stdin=b""), 2, b"", "none/m: No such file")
     if plain.read_bytes() != b"old plain" or left_over(folder):
         fail("an error of the second file leaves the first as it was")
-
-
-RETIRED = b"# x\n10.0.0.0/8:80,90\n10.0.0.1/8:80,90\n::/0,80\r\n192.0.2.7/32:443,443"
-RENEWED = b"# x\n10.0.0.0/8,80-90\n10.0.0.1/8:80,90\n::/0,80\r\n192.0.2.7/32,443-443"
-
-
-def test_convert(folder):
-    """byuid texts with lines of the retired form"""
-    old, new = pathlib.Path(folder) / "432", pathlib.Path(folder) / "new"
-    old.write_bytes(RETIRED)
-    where = station(folder + "/retired", byuid=RETIRED)
-    shown = (b"%s/byuid:2: a line of the retired form that used to grant [22]\n    2 | 10.0.0.0/8:80,90\n      | ^~~~~~~~~~~~~~~~\n"
-             b"      = write 10.0.0.0/8,80-90, which grants the same; gate convert does it for all such lines of the file\n" % os.fsencode(where))
-    expect("lines of the retired form", gate("check", where), 1, ": 2 faults", shown.decode())
-    expect("the last without a newline", gate("check", where), 1, None, "byuid:5: a line of the retired form that used to grant [22]\n")
-    expect("of a sheet", gate("check", "-", stdin=ref.sheet_of([b"", b"", RETIRED, b"", bytes(2)])), 1, ": 2 faults", "gate convert does it for the text that gate unpack writes")
-    expect("each is a fault, and no warning", gate("check", "-W", where), 1, ": 2 faults, 2 warnings", "byuid:3: warning: grants nothing: its address has bits set beyond its length")
-    expect("no decision by it", gate("byuid", where, "432", "10.20.1.2,80"), 2, b"", "refused: 2 faults")
-    expect("nor a verdict", gate("match", where, "sshd", "10.20.1.2"), 2, b"", "[22]")
-    expect("nor a sheet", gate("pack", where, new), 2, b"", "[22]")
-    expect("converting", gate("convert", old, new), 0, b"%s: %d bytes, 2 lines rewritten\n" % (os.fsencode(new), len(RENEWED)), b"")
-    if new.read_bytes() != RENEWED or old.read_bytes() != RETIRED:
-        fail("a converted text")
-    expect("converting from and to standard streams", gate("convert", "-", "-", stdin=RETIRED), 0, RENEWED, b"")
-    expect("converting again", gate("convert", new, new), 0, b"%s: %d bytes, 0 lines rewritten\n" % (os.fsencode(new), len(RENEWED)), b"")
-    expect("converting in place", gate("convert", "-q", old, old), 0, b"", b"")
-    if old.read_bytes() != RENEWED or new.read_bytes() != RENEWED:
-        fail("a text converted in place")
-    expect("what was converted is sound", gate("check", station(folder + "/retired", byuid=RENEWED)), 0, "sound", b"")
-    expect("an empty text", gate("convert", "-", "-", stdin=b""), 0, b"", b"")
-    new.write_bytes(b"what was there")
-    expect("a text over its limit", gate("convert", "-", new, stdin=b"\n" * 8193), 2, b"", "standard input: refused: longer than its section may be: the most is 8192 bytes [2]")
-    expect("a text of two megabytes", gate("convert", "-", new, stdin=bytes(1 << 21)), 2, b"", "[2]")
-    if new.read_bytes() != b"what was there" or left_over(folder):
-        fail("a refused conversion changes nothing")
-    expect("converting nothing", gate("convert", folder + "/none", new), 2, b"", "none: No such file")
-    expect("converting to a folder", gate("convert", old, folder), 2, b"", "is a folder")
 
 
 def faulty(library, call, turn, **what):
@@ -1057,8 +1042,7 @@ def all_faults(texts):
     tables = ref.Tables(pairs)
     found = hosts_faults(1, texts[0]) + hosts_faults(2, texts[1]) + [(12, 4, i) for i, e in enumerate(ref.entries_of(texts[3]), 1) if e is None]
     found += naming_faults(15, texts, tables) + table_faults(15, pairs, tables, texts[4])
-    found += naming_faults(16, texts, tables) + table_faults(17, pairs, tables, texts[4])
-    return found + [(22, 3, i) for i, line in enumerate(texts[2].split(b"\n"), 1) if ref.retired(line)]
+    return found + naming_faults(16, texts, tables) + table_faults(17, pairs, tables, texts[4])
 
 
 def shown_faults(err):
@@ -1066,7 +1050,7 @@ def shown_faults(err):
     for line in err.split(b"\n"):
         table = re.search(rb": table (\d+): [^\n]*\[(\d+)\]$", line)
         limit = re.search(rb": \d+ (?:tables|bytes with their names and counts), and the most is \d+ \[17\]$", line)
-        own = re.search(rb"\b(hosts\.allow|hosts\.deny|byuid|portacl)\)?(?::(\d+))?: (?:entry (\d+): )?[^\n]*\[(\d+)\]$", line)
+        own = re.search(rb"\b(hosts\.allow|hosts\.deny|portacl)\)?(?::(\d+))?: (?:entry (\d+): )?[^\n]*\[(\d+)\]$", line)
         if table:
             found.append((int(table[2]), 5, int(table[1])))
         elif limit:
@@ -1136,6 +1120,16 @@ def match_answer(texts, r):
     return answer if word == "ask" else answer + b":" + (b" " + expanded if expanded else b"")
 
 
+def name_line(texts, r, where):
+    """what a verdict that asks says of the name"""
+    told = ref.name_matters(texts[0], texts[1], r, texts[4])
+    if told == "name matters":
+        return "name      matters: not every user gets the same answer\n"
+    word, file, line = told
+    path = "" if not file else f"{where}({NAMES[file - 1]})" if where.endswith(".sheet") else f"{where}/{NAMES[file - 1]}"
+    return f"name      does not matter: every user is {word}, by " + (f"{path}:{line}\n" if file else "no rule\n")
+
+
 def byuid_case(rng, texts):
     address = rng.choice([("4", rng.choice(gen.SMALL)), ("6", rng.choice(gen.WIDE)), ("4", 0x0a000000), ("6", 1)])
     port, uid = rng.choice([0, 1, 80, 80, 80, 511, 512, 1023, 1024]), rng.choice([0, 432, 432, 432])
@@ -1160,21 +1154,25 @@ def portacl_case(rng, texts):
     return words, answer.encode()
 
 
-def generated_request(rng):
+def generated_request(rng, make=gen.request):
     while True:
-        r = gen.request(rng)
+        r = make(rng)
         names = [r["client"][0], r["server"][0]]
         if not ref.request_fault(r) and b"unknown" not in names:
             return r
 
 
 def test_generated_answers(folder, rng):
-    path, seen = pathlib.Path(folder) / "requests", set()
+    path, seen, names = pathlib.Path(folder) / "requests", set(), set()
     for turn in range(STATIONS):
-        texts = gen.texts_of(rng)
+        texts, make = gen.texts_of(rng), gen.request
+        if turn % 4 == 0:
+            texts[:2], make = [gen.user_text(rng, [b"10.", b"11.", b"host"]) for _ in range(2)], gen.user_request
         if ref.refused(ref.pack(texts, SHEET_LIMIT)):
             continue
-        cases = [(match_line(r), match_answer(texts, r)) for r in (generated_request(rng) for _ in range(8))]
+        requests = [generated_request(rng, make) for _ in range(8)]
+        cases = [(match_line(r), match_answer(texts, r)) for r in requests]
+        asking = [(words, r) for (words, answer), r in zip(cases, requests) if answer.startswith(b"ask ")]
         cases += [case(rng, texts) for case in (byuid_case, portacl_case) for _ in range(4)]
         path.write_bytes(b"".join(b" ".join(words) + b" => x\n" for words, _ in cases))
         files = as_files(ref.read_tables(texts[4])[0])
@@ -1188,6 +1186,10 @@ def test_generated_answers(folder, rng):
         if done.returncode or done.stdout != expected:
             fail("generated requests", texts, done.stderr, *(pair for pair in zip(done.stdout.split(b"\n"), expected.split(b"\n")) if pair[0] != pair[1]))
         seen |= {answer.split(b" ")[0] for _, answer in cases}
+        for words, r in asking[:1]:
+            line = name_line(texts, r, where)
+            names.add(line.split(":")[0])
+            expect(f"the name: {words}", gate("match", where, *(os.fsdecode(word) for word in words[1:])), 3, line, b"")
         if turn % 10 == 0:
             words, answer = cases[rng.randrange(len(cases))]
             status = {b"granted": 0, b"exempt": 0, b"denied": 1, b"no": 1, b"ask": 3, b"not": 4}[answer.split(b" ")[0]]
@@ -1195,6 +1197,8 @@ def test_generated_answers(folder, rng):
             expect(f"alone: {words}", done, status, answer.split(b" ")[0].decode(), b"")
     if seen != {b"granted", b"denied", b"ask", b"no", b"not", b"exempt"}:
         fail("every answer came up", seen)
+    if len(names) != 2:
+        fail("names that matter and names that do not came up", names)
 
 
 def run_all():
@@ -1202,7 +1206,7 @@ def run_all():
     os.chmod(SCRATCH, 0o755)
     test_misread()
     test_read()
-    for test in (test_answers, test_checks, test_marked, test_authbind, test_carry, test_explain, test_requests, test_reading, test_pack, test_unpack, test_tables, test_fleet, test_convert,
+    for test in (test_answers, test_checks, test_marked, test_authbind, test_carry, test_explain, test_requests, test_reading, test_pack, test_unpack, test_tables, test_fleet,
                  test_upgrade, test_faults, test_full_disk):
         with tempfile.TemporaryDirectory(dir=SCRATCH) as folder:
             test(folder)

@@ -13,9 +13,9 @@ import subprocess
 import sys
 
 HEADER = (pathlib.Path(__file__).resolve().parent.parent / "include/gate.h").read_text(encoding="utf-8")
-# for the first call of memcpy, memmove or memset through a dynamic linker, and for what a thread keeps on its stack
+# for the first call of memcpy or memset through a dynamic linker, and for what a thread keeps on its stack
 MARGIN = 8192
-OUTSIDE = {"memcpy", "memmove", "memset"}
+OUTSIDE = {"memcpy", "memset"}
 
 
 def macro(name):
@@ -26,7 +26,7 @@ def macro(name):
 LEVELS = 1 + macro("GATE_LINE_LIMIT") // len("a EXCEPT ")
 # one for each depth that a rule may lead to, and one for none
 DEPTHS = 5
-RECURSIVE = {"lists::walk::clients_included": LEVELS, "lists::walk::daemons_included": LEVELS, "views::level::raised": DEPTHS, "views::deep_notes": DEPTHS}
+RECURSIVE = {"lists::walk::clients_included": LEVELS, "lists::walk::daemons_included": LEVELS, "views::reach": DEPTHS, "views::deep_notes": DEPTHS}
 
 
 def fail(what):

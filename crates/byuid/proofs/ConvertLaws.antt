@@ -195,14 +195,8 @@ unfolding intercalate
 lengths-same m [] = refl
 lengths-same m (l ∷ []) = length-convertLine l
 lengths-same m (l ∷ k ∷ ls) =
-    rw (
-      length-append (convertLine l ++ m) (intercalate m (map convertLine (k ∷ ls))),
-      length-append (convertLine l) m,
-      length-convertLine l,
-      lengths-same m (k ∷ ls),
-      length-append (l ++ m) (intercalate m (k ∷ ls)),
-      length-append l m,
-    )
+    rw (length-append (convertLine l ++ m) (intercalate m (map convertLine (k ∷ ls))), length-append (convertLine l) m, length-convertLine l,
+    lengths-same m (k ∷ ls), length-append (l ++ m) (intercalate m (k ∷ ls)), length-append l m)
 
 pub length-convertText : (t : List ℕ) → length (convertText t) ≡ length t
 unfolding convertText
@@ -259,10 +253,9 @@ parts-same : (o : Option (List ℕ × List ℕ)) (a b c d : List ℕ) → o ≡ 
 parts-same none a b c d e k = let z : _≡_ {A = ℕ} 0 1 = cc in absurd (omega arith)
 parts-same (some p) a b c d e k =
     let q : p ≡ (a, b) = cc e in
-    let r : p ≡ (c, d) = cc k in (
-      sym (ap (λ (p : List ℕ × List ℕ). p .0) q) ∙ ap (λ (p : List ℕ × List ℕ). p .0) r,
-      sym (ap (λ (p : List ℕ × List ℕ). p .1) q) ∙ ap (λ (p : List ℕ × List ℕ). p .1) r,
-    )
+    let r : p ≡ (c, d) = cc k in
+    (sym (ap (λ (p : List ℕ × List ℕ). p .0) q) ∙ ap (λ (p : List ℕ × List ℕ). p .0) r,
+    sym (ap (λ (p : List ℕ × List ℕ). p .1) q) ∙ ap (λ (p : List ℕ × List ℕ). p .1) r)
 
 not-none : (o : Option (List ℕ × List ℕ)) (p : List ℕ × List ℕ) → o ≡ none → o ≡ some p → ⊥
 not-none none p e k = let z : _≡_ {A = ℕ} 0 1 = cc in omega arith
@@ -427,7 +420,7 @@ module _ (d t o : List ℕ) (at : ℕ) (w : Converting d t o at) where
           left =
               let j : at + (n + 1) ≡ at + n + 1 = omega arith in
               let q : convertText (drop at t) ≡ (convertLine line ++ 10 ∷ []) ++ convertText (drop (at + n + 1) t)
-              = first-converted (drop at t) n found (rw (length-drop at t) (omega arith)) ∙ rw (drop-drop (n + 1) at t, j) in
+                = first-converted (drop at t) n found (rw (length-drop at t) (omega arith)) ∙ rw (drop-drop (n + 1) at t, j) in
               w .left ∙ ap (λ (s : List ℕ). w .done ++ s) q ∙ simp append-assoc;
         }
 

@@ -258,7 +258,7 @@ form l g e =
     let s : p .0 ≡ x .0 ++ bytes "/" ++ x .1 = around (bytes "/") (p .0) x (n .3) in
     let t : p .1 ≡ q .0 ++ bytes "," ++ q .1 = around (bytes ",") (p .1) q (c .1) in
     let u : splitOnce (bytes ":") l ≡ some (x .0 ++ bytes "/" ++ x .1, q .0 ++ bytes "," ++ q .1) =
-    a .1 ∙ ap₂ (λ (y z : List ℕ). some (y, z)) s t in
+      a .1 ∙ ap₂ (λ (y z : List ℕ). some (y, z)) s t in
     record {
       address = x .0;
       len = x .1;
@@ -340,11 +340,8 @@ module _ (l : List ℕ) (f : Form l) where
     no-comma-form : readCommaForm w g l ≡ none
     unfolding readCommaForm all
     no-comma-form =
-        rw (
-          ap (splitOnce (bytes ",")) line-part ∙ first-mark 44 part (f .high) (free-part 44 refl refl refl refl),
-          alone-range g part (free-part 45 refl refl refl refl) (no-slash part (has-slash (bytes ":" ++ f .low))),
-          part-net,
-        )
+        rw (ap (splitOnce (bytes ",")) line-part ∙ first-mark 44 part (f .high) (free-part 44 refl refl refl refl),
+        alone-range g part (free-part 45 refl refl refl refl) (no-slash part (has-slash (bytes ":" ++ f .low))), part-net)
 
   -- the new form is read as the retired one was
   new-ports : readRange readPort (f .low ++ bytes "-" ++ f .high) ≡ some (f .from, f .to)
@@ -369,12 +366,9 @@ module _ (l : List ℕ) (f : Form l) where
   pub newForm-v6 : readCommaForm 128 readV6 (newForm f) ≡ none
   unfolding readCommaForm readNet
   newForm-v6 =
-      rw (
-        new-split,
-        no-range readV6 v6-none,
-        first-mark 47 (f .address) (f .len) (v4-free 47 refl refl (f .address) (f .number) (f .reads-address)),
-        v6-colon (f .address) (v4-free 58 refl refl (f .address) (f .number) (f .reads-address)),
-      )
+      rw (new-split, no-range readV6 v6-none,
+      first-mark 47 (f .address) (f .len) (v4-free 47 refl refl (f .address) (f .number) (f .reads-address)),
+      v6-colon (f .address) (v4-free 58 refl refl (f .address) (f .number) (f .reads-address)))
 
 pub retired-no-comma-v4 : (l : List ℕ) → isRetired l ≡ true → readCommaForm 32 readV4 l ≡ none
 retired-no-comma-v4 l e = no-comma-form l (retired-form l e) 32 readV4 (v4-none 47 refl refl)

@@ -168,20 +168,14 @@ module _ (s : List ℕ) (i : ℕ) (is-i : i ≡ indexOf 44 s) where
       pub ports-no-max : y ≡ N.Nothing → false ≡ holds inOrder (portsOf s)
       unfolding portsOf endsOf
       ports-no-max f =
-          rw (
-            splitOnce-mark 44 s i is-i h,
-            asNumber-some (readPort (take i s)) low (sym is-x ∙ e),
-            asNumber-none (readPort (drop (i + 1) s)) (sym after-mark ∙ f),
-          )
+          rw (splitOnce-mark 44 s i is-i h, asNumber-some (readPort (take i s)) low (sym is-x ∙ e),
+          asNumber-none (readPort (drop (i + 1) s)) (sym after-mark ∙ f))
 
       pub ports-two : (high : ℕ) → y ≡ N.Value high → leb low high ≡ holds inOrder (portsOf s)
       unfolding portsOf endsOf inOrder
       ports-two high f =
-          rw (
-            splitOnce-mark 44 s i is-i h,
-            asNumber-some (readPort (take i s)) low (sym is-x ∙ e),
-            asNumber-some (readPort (drop (i + 1) s)) high (sym after-mark ∙ f),
-          )
+          rw (splitOnce-mark 44 s i is-i h, asNumber-some (readPort (take i s)) low (sym is-x ∙ e),
+          asNumber-some (readPort (drop (i + 1) s)) high (sym after-mark ∙ f))
 
 -- a net and the ports after it, in order
 in-order : (o : Option Range) (s : List ℕ)

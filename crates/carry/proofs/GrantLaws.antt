@@ -21,8 +21,7 @@ use Rattle.text.proofs.Numeral.{all-numeral, isDigit-digitByte, readDecimal-dec
 use Rattle.address.specs.declared.Addr.{Addr}
 use Rattle.address.specs.declared.Addr.the-variants as A
 use Rattle.address.specs.Address.{readV4, readV6, readGroup, readGroups, readCompressed, readLastGroup}
-use Rattle.section.specs.declared.Refusal.{Refusal}
-use Rattle.byuid.specs.Byuid.{Range, readRange, readNet, readPort, readCommaForm, readColonForm, lineGrants, isRetired, retiredFault, byuidFault}
+use Rattle.byuid.specs.Byuid.{Range, readRange, readNet, readPort, readCommaForm, readColonForm, lineGrants}
 use Rattle.carry.specs.Carry.{portLines, spanLines}
 
 digits : (q : ℕ) → all isDigit (decimal q) ≡ true
@@ -121,7 +120,7 @@ module _ (p q : ℕ) (h : q ≤ 65535) where
 
   v4-other : (n : ℕ) → lineGrants (A.V4 n) p (lineV6 q) ≡ false
   unfolding lineGrants
-  v4-other n = rw (comma-form-v6 32 readV4 q, v6-line-v4)
+  v4-other n = rw (comma-form-v6 32 readV4 q, v6-line-v4, colon-v6 q)
 
   v6-grants : (high low : ℕ) → high < 2 ^ 64 → low < 2 ^ 64 → lineGrants (A.V6 high low) p (lineV6 q) ≡ eqb q p
   unfolding lineGrants
@@ -137,17 +136,8 @@ module _ (p q : ℕ) (h : q ≤ 65535) where
   both-lines (A.V4 n) (at-v4 m l) = rw (v4-grants n l, v4-other n) (or-false (eqb q p))
   both-lines (A.V6 high low) (at-v6 x y k l) = rw (v6-other high low, v6-grants high low k l)
 
--- so a written text is never refused by 22
-retired-v4 : (q : ℕ) → isRetired (lineV4 q) ≡ false
-unfolding isRetired
-retired-v4 q = rw (colon-v4 q)
-
-retired-v6 : (q : ℕ) → isRetired (lineV6 q) ≡ false
-unfolding isRetired
-retired-v6 q = rw (colon-v6 q)
-
 empty-line : (a : Addr) (p : ℕ) → lineGrants a p [] ≡ false
-unfolding lineGrants readCommaForm splitOnce
+unfolding lineGrants readCommaForm readColonForm splitOnce
 empty-line A.Unknown p = refl
 empty-line (A.V4 n) p = refl
 empty-line (A.V6 high low) p = refl
@@ -215,20 +205,3 @@ has-in f (suc k) q p h l = by (eqb q p) refl (f q) refl (λ n. has-in f k (suc q
 pub span-grants : (f : ℕ → Bool) (k q p : ℕ) (a : Addr) → Somewhere a → q + k ≤ 1024 → q ≤ p → p < q + k
     → any (lineGrants a p) (split "\n" (spanLines f k q)) ≡ f p
 span-grants f k q p a s h l m = span-any f k q p a s (omega arith) ∙ has-in f k q p l m
-
-span-unretired : (f : ℕ → Bool) (k q n : ℕ) → retiredFault n (split "\n" (spanLines f k q)) ≡ none
-unfolding spanLines retiredFault split isRetired readColonForm splitOnce
-span-unretired f zero q n = refl
-span-unretired f (suc k) q n = by (f q) (span-unretired f k (suc q))
-  where
-    by : (b : Bool) → ((n : ℕ) → retiredFault n (split "\n" (spanLines f k (suc q))) ≡ none)
-        → retiredFault n (split "\n" ((if b then portLines q else []) ++ spanLines f k (suc q))) ≡ none
-    by true ih = ap (retiredFault n) (split-lines q (spanLines f k (suc q))) ∙ passed
-      where
-        passed : retiredFault n (lineV4 q ∷ lineV6 q ∷ split "\n" (spanLines f k (suc q))) ≡ none
-        passed = rw (retired-v4 q, retired-v6 q) (ih (n + 1 + 1))
-    by false ih = ih n
-
-pub never-retired : (f : ℕ → Bool) (k q : ℕ) → byuidFault (spanLines f k q) ≡ none
-unfolding byuidFault
-never-retired f k q = span-unretired f k q 1

@@ -34,8 +34,7 @@ use Rattle.station.specs.Station.{decideSheet, lookedSheet, decideByuidSheet, d
 use Rattle.codes.specs.declared.GateCheck.{GateCheck}
 use Rattle.codes.specs.Requests.{request, byuidBind, byuidFileBind, authbindAsked, portaclBind, writeBy}
 use Rattle.codes.specs.Answers.{refusalAnswer, wordAnswer, answerNumbers, accepted, verdictAnswer, byuidAnswer, portaclAnswer, checkAnswer, partsAnswer, writtenAnswer, addressAnswer}
-use Rattle.codes.specs.Answers.{Command, together, commandAnswer, nextAnswer, carriedAnswer}
-use Rattle.carry.specs.Carry.{carry, plainAfter, markedAfter}
+use Rattle.codes.specs.Answers.{Command, together, commandAnswer, nextAnswer}
 use Rattle.gate.specs.Calls.{wrote}
 use Rattle.claims.specs.Claims.{Accepted, front, Decision, by-word, by-refusal, EveryDecision, EveryNumber, RefusalWritesNothing}
 
@@ -180,11 +179,6 @@ unfolding nextAnswer
 next-most (refused r) = fault-most (r .fault)
 next-most (answered s) = omega arith
 
-two-most : (o : Outcome (List ℕ × List ℕ)) → carriedAnswer o .number ≤ 22
-unfolding carriedAnswer
-two-most (refused r) = fault-most (r .fault)
-two-most (answered p) = omega arith
-
 pub every-number : EveryNumber
 every-number = record {
   check-number = λ sheet. check-most (unpack sheet);
@@ -195,7 +189,6 @@ every-number = record {
   expand-number = λ command n process out. written-most (expand command (request n) process (length out));
   write-number = λ kind high low out. written-most (writeBy kind high low (length out));
   authbind-number = λ port kind high low uid answers out. next-most (nextStep (authbindAsked port kind high low uid answers) (length out));
-  carry-number = λ list uid plain marked. two-most (carry list uid (length plain) (length marked));
 }
 
 -- ## A refusal writes nothing
@@ -215,11 +208,6 @@ unfolding nextAnswer
 name-kept out (refused r) h = refl
 name-kept out (answered s) h = absurd (h refl)
 
-two-kept : (plain marked : List ℕ) (o : Outcome (List ℕ × List ℕ)) → (carriedAnswer o .number ≡ 0 → ⊥) → (plainAfter plain o ≡ plain) × (markedAfter marked o ≡ marked)
-unfolding carriedAnswer
-two-kept plain marked (refused r) h = (refl, refl)
-two-kept plain marked (answered p) h = absurd (h refl)
-
 pub refusal-writes-nothing : RefusalWritesNothing
 refusal-writes-nothing = record {
   packing = λ ts out. kept out (pack ts (length out));
@@ -233,5 +221,4 @@ refusal-writes-nothing = record {
       command-kept out (together (decideSheet sheet (request n)) (λ a. expand (bytesAt sheet (a .command)) (request n) process (length out)))
       (lookedSheet sheet (request n));
   naming = λ port kind high low uid answers out. name-kept out (nextStep (authbindAsked port kind high low uid answers) (length out));
-  carrying = λ list uid plain marked. two-kept plain marked (carry list uid (length plain) (length marked));
 }

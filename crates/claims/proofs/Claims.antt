@@ -13,7 +13,6 @@ use Rattle.claims.proofs.LookedClaims.{refusal-looks-at-nothing, looked
 use Rattle.claims.proofs.OrderClaims.{absent-goes-on, answer-settles, names-differ, reads-its-file, manual-example}
 use Rattle.claims.proofs.LimitClaims.{old-boxes}
 use Rattle.claims.proofs.RetiredClaims.{retired-refused, converted, refusal-numbers}
-use Rattle.claims.proofs.CarryClaims.{carried-over}
 
 pub claims : Claims
 claims = record {
@@ -52,5 +51,4 @@ claims = record {
   retired-refused = retired-refused;
   converted = converted;
   refusal-numbers = refusal-numbers;
-  carried-over = carried-over;
 }

@@ -231,7 +231,7 @@ unfolding
     Table.readTables Table.readEach Table.readTable Table.afterCount Table.tablesFrame Table.isTableName Table.tableName Table.tableNamed Table.patterns
     Table.patternWith Table.inTable Table.leadsPast Table.firstTable Table.isMisnamed Table.tableNameFault Table.isBadPattern Table.isUnsound Table.badTableFault
     Expand.inserted Expand.safeByte Expand.pieceText Expand.expansion Expand.expand
-    Byuid.readRange Byuid.readNet Byuid.readCommaForm Byuid.readColonForm Byuid.lineGrants Byuid.isRetired Byuid.retiredFault Byuid.byuidFault Byuid.byuidDecision Byuid.decideByuid
+    Byuid.readRange Byuid.readNet Byuid.readCommaForm Byuid.readColonForm Byuid.lineGrants Byuid.byuidDecision Byuid.decideByuid
     Portacl.readEntry Portacl.entries Portacl.entryFault Portacl.portaclFault Portacl.portaclDecision Portacl.decidePortacl
     Sheet.textsFault Sheet.sectionAt Sheet.frame Sheet.unpack
     Basics.sum Basics.sumUntil Tried.triedIn Tried.capped Element.elementLooked ListLooked.lookedIncluded ListLooked.lookedExcluded ListLooked.ruleLookedBy

@@ -10,5 +10,4 @@ pub mod LookedClaims
 pub mod OrderClaims
 pub mod LimitClaims
 pub mod RetiredClaims
-pub mod CarryClaims
 pub mod Claims

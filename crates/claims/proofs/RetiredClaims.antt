@@ -87,13 +87,13 @@ packed-sound ts out e = let w = written-answered out (pack ts (length out)) e in
 pub retired-refused : RetiredRefused
 unfolding decideSheet decideByuidSheet checkAnswer verdictAnswer byuidAnswer writtenAnswer
 retired-refused = record {
-  lone-refused = λ text r short e mark port kind high low uid. ap byuidAnswer (lone-refused text r short e (byuidFileBind mark port kind high low uid));
-  packing-refused = λ ts r out n short e room.
+  lone = λ text r short e mark port kind high low uid. ap byuidAnswer (lone-refused text r short e (byuidFileBind mark port kind high low uid));
+  packed = λ ts r out n short e room.
       let p = pack-refused ts r (packed-sound (withoutByuid ts) out n) short e (length room) in
       (ap writtenAnswer p, ap (lentAfter room) p);
-  check-refused = λ ts r out n short e. rw (sheet-refused ts r (packed-sound (withoutByuid ts) out n) short e);
-  verdict-refused = λ ts r out n short e q. rw (sheet-refused ts r (packed-sound (withoutByuid ts) out n) short e);
-  byuid-refused = λ ts r out n short e port kind high low uid. rw (sheet-refused ts r (packed-sound (withoutByuid ts) out n) short e);
+  checked = λ ts r out n short e. rw (sheet-refused ts r (packed-sound (withoutByuid ts) out n) short e);
+  verdict = λ ts r out n short e q. rw (sheet-refused ts r (packed-sound (withoutByuid ts) out n) short e);
+  by-sheet = λ ts r out n short e port kind high low uid. rw (sheet-refused ts r (packed-sound (withoutByuid ts) out n) short e);
 }
 
 -- ## Converted
@@ -128,7 +128,7 @@ kept out (answered t) h = absurd (h refl)
 pub converted : Converted
 unfolding writtenAnswer
 converted = record {
-  converts = λ text out h k. rw (convert-fits text out h k, length-convertText text);
+  answers = λ text out h k. rw (convert-fits text out h k, length-convertText text);
   as-many = λ text out e. ap length (written text out e) ∙ length-convertText text;
   not-retired = λ text out e. ap byuidFault (written text out e) ∙ byuidFault-convertText text;
   grants-the-same = λ text out e mark port kind high low uid.

@@ -35,7 +35,7 @@ use Rattle.codes.specs.Answers.{granted, denied, ask, noLine, wordAnswer}
 use Rattle.codes.specs.Answers.{refusalAnswer, refusedCheck, accepted, refusedParts, countWritten, withCount, addressWith}
 use Rattle.gate.specs.Calls.{gateVerdict, gateTablesVerdict, gateSheetVerdict, gateByuid, gateSheetByuid, gatePortacl, gateSheetPortacl}
 use Rattle.gate.specs.Calls.{gateCheck, gateUnpack, gateReadAddress, Wrote, gatePack, gateUpgrade, gateExpand, gateWriteAddress}
-use Rattle.gate.specs.Calls.{WroteCommand, gateCommand, gateSheetCommand, gateAuthbind, gateCarry}
+use Rattle.gate.specs.Calls.{WroteCommand, gateCommand, gateSheetCommand, gateAuthbind}
 use Rattle.claims.specs.Examples.{Examples}
 use Rattle.claims.specs.MaskExamples.{MaskExamples}
 use Rattle.claims.specs.MappedExamples.{MappedExamples}
@@ -43,7 +43,6 @@ use Rattle.claims.specs.TableExamples.{TableExamples}
 use Rattle.claims.specs.OldBoxes.{OldBoxes}
 use Rattle.claims.specs.Retired.{RetiredRefused, Converted, RefusalNumbers}
 use Rattle.claims.specs.LookedExamples.{LookedExamples}
-use Rattle.claims.specs.CarriedOver.{CarriedOver}
 use Rattle.claims.specs.AuthbindOrder.{AbsentGoesOn, AnswerSettles, NamesDiffer, ReadsItsFile, ManualExample}
 
 -- numbers that fit a byte
@@ -101,8 +100,6 @@ pub record RefusalWritesNothing : Type 0 where
       → gateSheetCommand sheet n process out .out ≡ out
   pub naming : (port kind high low uid : ℕ) (answers out : List ℕ) → (gateAuthbind port kind high low uid answers out .answer .number ≡ 0 → ⊥)
       → gateAuthbind port kind high low uid answers out .out ≡ out
-  pub carrying : (list : List ℕ) (uid : ℕ) (plain marked : List ℕ) → (gateCarry list uid plain marked .answer .number ≡ 0 → ⊥)
-      → (gateCarry list uid plain marked .plain ≡ plain) × (gateCarry list uid plain marked .marked ≡ marked)
 
 -- a decision is a word, or a refusal by one of the papers' numbers "and gives no verdict"
 pub data Decision : GateAnswer → Type 0 where
@@ -129,7 +126,6 @@ pub record EveryNumber : Type 0 where
   pub expand-number : (command : List ℕ) (n : RequestNumbers) (process : ℕ) (out : List ℕ) → gateExpand command n process out .answer .number ≤ 22
   pub write-number : (kind high low : ℕ) (out : List ℕ) → gateWriteAddress kind high low out .answer .number ≤ 22
   pub authbind-number : (port kind high low uid : ℕ) (answers out : List ℕ) → gateAuthbind port kind high low uid answers out .answer .number ≤ 22
-  pub carry-number : (list : List ℕ) (uid : ℕ) (plain marked : List ℕ) → gateCarry list uid plain marked .answer .number ≤ 22
 
 -- ## Demand 2
 
@@ -339,6 +335,42 @@ pub record LookedBound : Type 0 where
   pub bound-by-sheet : (sheet : List ℕ) (n : RequestNumbers) → NamesNoTable (textsOf sheet .allow) → NamesNoTable (textsOf sheet .deny)
       → gateSheetVerdict sheet n .looked ≤ fileElements (textsOf sheet .allow) + fileElements (textsOf sheet .deny)
 
+-- request 14: two answers have the same verdict, file and line
+pub record SamePlace (a b : GateAnswer) : Type 0 where
+  pub same-word : a .word ≡ b .word
+  pub same-file : a .file ≡ b .file
+  pub same-line : a .line ≡ b .line
+
+-- "two permitted user states, unknown or any name of 1 to 64 bytes, give the request different verdict, file or line"
+pub record Differ (verdict : RequestNumbers → GateAnswer) (n : RequestNumbers) : Type 0 where
+  pub one-user : ℕ
+  pub one-name : List ℕ
+  pub other-user : ℕ
+  pub other-name : List ℕ
+  pub one-permitted : Permitted one-user one-name
+  pub other-permitted : Permitted other-user other-name
+  pub different : SamePlace (verdict (asUser n one-user one-name)) (verdict (asUser n other-user other-name)) → ⊥
+
+-- what the call answers, beside the verdict
+pub record Tells (verdict matters : RequestNumbers → GateAnswer) (n : RequestNumbers) : Type 0 where
+  -- "Refusals: as for the verdict."
+  pub refuses : (verdict n .number ≡ 0 → ⊥) → matters n ≡ verdict n
+  pub answers : verdict n .number ≡ 0 → matters n .number ≡ 0
+  -- "yes exactly if two permitted user states .. give the request different verdict, file or line"
+  pub yes : matters n .word ≡ nameMatters .number → Differ verdict n
+  pub yes-if : verdict n .number ≡ 0 → Differ verdict n → matters n .word ≡ nameMatters .number
+  -- "When it says no, also give the one verdict, file and line that all names get"
+  pub no : verdict n .number ≡ 0 → (matters n .word ≡ nameMatters .number → ⊥) → (user : ℕ) (name : List ℕ) → Permitted user name
+      → SamePlace (verdict (asUser n user name)) (matters n)
+  -- where the verdict does not ask, the name does not matter
+  pub unasked : n .user ≡ 0 → Decided (verdict n .number) (verdict n .word) → matters n .word ≡ nameMatters .number → ⊥
+
+pub record NameMatters : Type 0 where
+  pub told-by-texts : (allow deny : List ℕ) (n : RequestNumbers) → Tells (gateVerdict allow deny) (gateNameMatters allow deny) n
+  pub told-by-tables : (allow deny tables : List ℕ) (n : RequestNumbers)
+      → Tells (gateTablesVerdict allow deny tables) (gateTablesNameMatters allow deny tables) n
+  pub told-by-sheet : (sheet : List ℕ) (n : RequestNumbers) → Tells (gateSheetVerdict sheet) (gateSheetNameMatters sheet) n
+
 -- ## All
 
 pub record Claims : Type 0 where
@@ -380,5 +412,5 @@ pub record Claims : Type 0 where
   pub retired-refused : RetiredRefused
   pub converted : Converted
   pub refusal-numbers : RefusalNumbers
-  -- document 02, request 13
-  pub carried-over : CarriedOver
+  -- document 02, request 14
+  pub name-matters : NameMatters

@@ -30,21 +30,21 @@ withoutByuid ts = texts (ts .allow) (ts .deny) [] (ts .portacl) (ts .tables)
 -- "22 with section 3 and the first such line": r is that refusal. By a lone text it comes before 13, whatever is asked; a sheet that is
 -- sound but for its byuid text is refused by it in each call
 pub record RetiredRefused : Type 0 where
-  pub lone-refused : (text : List ℕ) (r : Refusal) → length text ≤ 8192 → byuidFault text ≡ some r
+  pub lone : (text : List ℕ) (r : Refusal) → length text ≤ 8192 → byuidFault text ≡ some r
       → (mark port kind high low uid : ℕ) → gateByuid text mark port kind high low uid ≡ refusalAnswer r
-  pub packing-refused : (ts : Texts) (r : Refusal) (out : List ℕ) → gatePack (withoutByuid ts) out .answer .number ≡ 0 → length (ts .byuid) ≤ 8192
+  pub packed : (ts : Texts) (r : Refusal) (out : List ℕ) → gatePack (withoutByuid ts) out .answer .number ≡ 0 → length (ts .byuid) ≤ 8192
       → byuidFault (ts .byuid) ≡ some r → (room : List ℕ) → (gatePack ts room .answer ≡ refusedWritten r) × (gatePack ts room .out ≡ room)
-  pub check-refused : (ts : Texts) (r : Refusal) (out : List ℕ) → gatePack (withoutByuid ts) out .answer .number ≡ 0 → length (ts .byuid) ≤ 8192
+  pub checked : (ts : Texts) (r : Refusal) (out : List ℕ) → gatePack (withoutByuid ts) out .answer .number ≡ 0 → length (ts .byuid) ≤ 8192
       → byuidFault (ts .byuid) ≡ some r → gateCheck (sheetOf ts) ≡ refusedCheck r
-  pub verdict-refused : (ts : Texts) (r : Refusal) (out : List ℕ) → gatePack (withoutByuid ts) out .answer .number ≡ 0 → length (ts .byuid) ≤ 8192
+  pub verdict : (ts : Texts) (r : Refusal) (out : List ℕ) → gatePack (withoutByuid ts) out .answer .number ≡ 0 → length (ts .byuid) ≤ 8192
       → byuidFault (ts .byuid) ≡ some r → (n : RequestNumbers) → gateSheetVerdict (sheetOf ts) n ≡ refusalAnswer r
-  pub byuid-refused : (ts : Texts) (r : Refusal) (out : List ℕ) → gatePack (withoutByuid ts) out .answer .number ≡ 0 → length (ts .byuid) ≤ 8192
+  pub by-sheet : (ts : Texts) (r : Refusal) (out : List ℕ) → gatePack (withoutByuid ts) out .answer .number ≡ 0 → length (ts .byuid) ≤ 8192
       → byuidFault (ts .byuid) ≡ some r → (port kind high low uid : ℕ) → gateSheetByuid (sheetOf ts) port kind high low uid ≡ refusalAnswer r
 
 -- of a text that gate_convert has converted
 pub record Converted : Type 0 where
   -- "refuses by 2, then 14", and for nothing else
-  pub converts : (text out : List ℕ) → length text ≤ 8192 → length text ≤ length out → gateConvert text out .answer ≡ countWritten (length text)
+  pub answers : (text out : List ℕ) → length text ≤ 8192 → length text ≤ length out → gateConvert text out .answer ≡ countWritten (length text)
   -- "in as many bytes"
   pub as-many : (text out : List ℕ) → gateConvert text out .answer .number ≡ 0 → length (front (gateConvert text out)) ≡ length text
   -- no call is refused by 22 for it

@@ -11,6 +11,8 @@ use address::Addr;
 use address::read::AddressRead;
 use authbind::Next;
 use carry::Carried;
+use matters::Matter;
+use matters::Place;
 use section::Refusal;
 use section::Written;
 use sheet::Parts;
@@ -22,8 +24,8 @@ ghost use Rattle.address.specs.declared.read.AddressRead.the-variants as R;
 ghost use Rattle.sheet.specs.declared.unpack.Unpacked.the-variants as Un;
 ghost use Rattle.authbind.specs.declared.Next.the-variants as N;
 ghost use Rattle.carry.specs.declared.Carried.the-variants as C;
-ghost use Rattle.codes.specs.Answers.{verdictWord, byuidWord, portaclWord, refusalAnswer, wordAnswer, answerNumbers, foundParts, withCount, nextWith, addressWith, addressNumbers};
-ghost use Rattle.codes.specs.Code.{byuidNumbers, portaclNumbers, verdictNumbers, checkNumbers, partsNumbers, writtenNumbers, carriedNumbers, commandWritten, nextNumbers, readNumbers};
+ghost use Rattle.codes.specs.Answers.{placeNumbers, verdictWord, byuidWord, portaclWord, refusalAnswer, wordAnswer, answerNumbers, foundParts, withCount, nextWith, addressWith, addressNumbers};
+ghost use Rattle.codes.specs.Code.{matterNumbers, byuidNumbers, portaclNumbers, verdictNumbers, checkNumbers, partsNumbers, writtenNumbers, carriedNumbers, commandWritten, nextNumbers, readNumbers};
 
 // The kind of an address that was not read: no address has it.
 pub const NO_ADDRESS: u32 = 255;
@@ -149,6 +151,34 @@ pub fn verdict_numbers(r: rules::Reported) -> GateAnswer
     }
 }
 
+fn place_word(p: Place) -> GateAnswer
+    ensures { λ r. ⌜ r ≡ placeNumbers p ⌝ }
+{
+    let verdict = p.verdict;
+    let file = p.file;
+    GateAnswer {
+        number: 0,
+        section: 0,
+        line: p.line as u64,
+        word: verdict_code(verdict),
+        file: file_section(file),
+        place: 0,
+        len: 0,
+        looked: 0,
+    }
+}
+
+// Whether the name matters, as numbers.
+pub fn matter_numbers(m: Matter) -> GateAnswer
+    ensures { λ a. ⌜ a ≡ matterNumbers m ⌝ }
+{
+    match m {
+        Matter::Refused(refusal) => refused(refusal),
+        Matter::Matters => word(9),
+        Matter::Settled(place) => place_word(place),
+    }
+}
+
 fn not_accepted(r: Refusal) -> GateCheck
     ensures { λ a. ⌜ a ≡ checkNumbers (Un.Refused r) ⌝ }
 {
@@ -265,8 +295,8 @@ fn not_carried(r: Refusal) -> GateWrittenTwo
         number: section::fault_number(fault) as u32,
         section: r.section as u32,
         line: r.line as u64,
-        count: 0u64,
-        other_count: 0u64,
+        count: 0,
+        other_count: 0,
     }
 }
 
@@ -276,12 +306,12 @@ pub fn carried_numbers(c: Carried) -> GateWrittenTwo
 {
     match c {
         Carried::Refused(refusal) => not_carried(refusal),
-        Carried::Counts(plain, marked) => GateWrittenTwo {
+        Carried::Counts(n, m) => GateWrittenTwo {
             number: 0,
             section: 0,
             line: 0,
-            count: plain as u64,
-            other_count: marked as u64,
+            count: n as u64,
+            other_count: m as u64,
         },
     }
 }

@@ -87,7 +87,13 @@ fn check_byuid(text: &[u8]) -> Checked
 }
 
 // The check of the lines and entries of the rules and of portacl, then of the tables and of what names them, then of the lines of byuid.
-fn check_contents(allow: &[u8], deny: &[u8], byuid: &[u8], portacl: &[u8], tables: &[u8]) -> Checked
+fn check_contents(
+    allow: &[u8],
+    deny: &[u8],
+    byuid: &[u8],
+    portacl: &[u8],
+    tables: &[u8],
+) -> Checked
     requires { ⌜ tablesFrame (now tables) ≡ none ⌝ }
     ensures { λ r. ⌜ r
         ≡ checkedOf (contentsFault (now (allow .entry)) (now (deny .entry)) (now (byuid .entry)) (now (portacl .entry)) (now (tables .entry))) ⌝ }
