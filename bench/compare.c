@@ -31,6 +31,10 @@ struct recipe {
 #define BYUID_FORMS "10.%u.0.0/16,80\n10.1.0.0-10.1.%u.255,1-1023\n10.0.%u.0/24,1-1023\n2001:db8:%x::/48,80\n"
 #define PORTACL_ENTRY "gid:%u:tcp:10001,"
 #define NAMING "sshd: /a, /a, /a, /a, /a, /a, /a, /a, /a, /a, /a, /a, /a, /a, /a, /a, /a, /a, /a, /a\n"
+#define USERS "sshd: u%u@pump.example EXCEPT u%u@pump.example\n" /* passes every user on, but asks */
+#define TEN_USERS "ua@ALL ub@ALL uc@ALL ud@ALL ue@ALL uf@ALL ug@ALL uh@ALL ui@ALL uj@ALL "
+#define FIFTY_USERS TEN_USERS TEN_USERS TEN_USERS TEN_USERS TEN_USERS
+#define USER_LIST "sshd: " FIFTY_USERS FIFTY_USERS FIFTY_USERS FIFTY_USERS FIFTY_USERS "EXCEPT ALL\n" /* the same, in one long list */
 
 static const struct recipe rules = {.form = PLAIN, .lines = 300};
 static const struct recipe rules_after_fault = {.first = "sshd: a*b\n", .form = PLAIN, .lines = 299};
@@ -41,6 +45,8 @@ static const struct recipe plain = {.form = PLAIN, .from = 100, .size = GATE_DEN
 static const struct recipe plain_after_match = {.first = "sshd: pump.example\n", .form = PLAIN, .from = 100, .size = GATE_ALLOW_LIMIT};
 static const struct recipe bracketed = {.form = BRACKETED, .from = 0x100, .size = GATE_DENY_LIMIT};
 static const struct recipe prefixes = {.form = PREFIXES, .from = 0x100, .size = GATE_DENY_LIMIT};
+static const struct recipe users = {.form = USERS, .from = 100, .size = GATE_DENY_LIMIT};
+static const struct recipe user_lists = {.form = USER_LIST, .size = GATE_DENY_LIMIT};
 static const struct recipe all = {.first = "ALL: ALL\n"};
 static const struct recipe byuid_lines = {.form = BYUID_FORMS, .from = 100, .size = GATE_BYUID_LIMIT};
 static const struct recipe portacl_entries = {.form = PORTACL_ENTRY, .from = 1000000000, .lines = 41};
@@ -49,7 +55,7 @@ static const struct recipe expanded = {.first = "/usr/bin/logger -t gate %d %p: 
 static const struct recipe naming = {.form = NAMING, .size = GATE_ALLOW_LIMIT};
 static const struct recipe naming_once = {.first = "sshd: /a\n"};
 
-enum call { VERDICT, TABLES_VERDICT, SHEET_VERDICT, BYUID, PORTACL, CHECK, EXPAND };
+enum call { VERDICT, TABLES_VERDICT, SHEET_VERDICT, NAME_MATTERS, BYUID, PORTACL, CHECK, EXPAND };
 
 /* Tables by their kind: none; the four of 12,288 bytes that make most patterns to try; 64 that each name the last; those that are refused
  * only when all are read: a ring of 20,000, and 65,535 that hold nothing. */
@@ -88,6 +94,11 @@ static const struct test_case cases[] = {
     {"growth: 8 KiB", VERDICT, .deny = &plain_8, NONE_MATCHES},
     {"growth: 16 KiB", VERDICT, .deny = &plain, NONE_MATCHES},
     {"first of 16 KiB matches", VERDICT, .allow = &plain_after_match, .expected = {0, GATE_GRANTED, 1}, .wrappers = true},
+    {"users: the verdict", VERDICT, .allow = &users, .deny = &users, .expected = {0, GATE_ASK, 1}},
+    {"users: do they matter", NAME_MATTERS, .allow = &users, .deny = &users, .expected = {0, GATE_GRANTED, 0}},
+    {"long lists: the verdict", VERDICT, .allow = &user_lists, .deny = &user_lists, .expected = {0, GATE_ASK, 1}},
+    {"long lists: do they matter", NAME_MATTERS, .allow = &user_lists, .deny = &user_lists, .expected = {0, GATE_GRANTED, 0}},
+    {"no users: do they matter", NAME_MATTERS, .deny = &rules, .expected = {0, GATE_GRANTED, 0}},
     {"no rules", VERDICT, NONE_MATCHES},
     {"deny ALL: ALL", VERDICT, .deny = &all, .expected = {0, GATE_DENIED, 1}, .wrappers = true},
     {"refused 13, no rules", VERDICT, .user = 3, .expected = {GATE_BAD_REQUEST, 0, 0}},
@@ -132,6 +143,7 @@ struct library {
     __typeof__(gate_expand) *expand;
     __typeof__(gate_pack) *pack;
     __typeof__(gate_tables_verdict) *tables_verdict; /* null in a build without tables */
+    __typeof__(gate_name_matters) *name_matters; /* null in one that cannot tell */
 };
 
 static struct library libraries[2];
@@ -144,13 +156,13 @@ static void fail(const char *what, const char *why) {
 
 static void load(struct library *build, const char *path) {
     static const char *const names[] = {"gate_verdict", "gate_sheet_verdict", "gate_byuid", "gate_portacl", "gate_check", "gate_expand", "gate_pack",
-                                        "gate_tables_verdict"};
+                                        "gate_tables_verdict", "gate_name_matters"};
     void *symbols[sizeof names / sizeof *names], *handle = dlopen(path, RTLD_NOW | RTLD_LOCAL);
     _Static_assert(sizeof symbols == sizeof *build, "a name for each export");
     if (!handle)
         fail(path, dlerror());
     for (size_t i = 0; i < sizeof names / sizeof *names; i++)
-        if (!(symbols[i] = dlsym(handle, names[i])) && strcmp(names[i], "gate_tables_verdict"))
+        if (!(symbols[i] = dlsym(handle, names[i])) && strcmp(names[i], "gate_tables_verdict") && strcmp(names[i], "gate_name_matters"))
             fail(path, dlerror());
     memcpy(build, symbols, sizeof symbols);
 }
@@ -180,6 +192,8 @@ static struct outcome by_gate(const struct library *g) {
         return outcome_of(g->tables_verdict(TEXT(allow), TEXT(deny), TEXT(tables), FROM(CLIENT_V4)));
     case SHEET_VERDICT:
         return outcome_of(g->sheet_verdict(SHEET_FOR(g), FROM(CLIENT_V4)));
+    case NAME_MATTERS:
+        return outcome_of(g->name_matters(TEXT(allow), TEXT(deny), FROM(CLIENT_V4)));
     case BYUID:
         return outcome_of(g->byuid(TEXT(byuid), GATE_PLAIN_FILE, 80, CLIENT_V4, 1000));
     case PORTACL:
@@ -235,7 +249,8 @@ static bool takes_part(enum who who) {
     case SUM:
         return handed_len > 0;
     default:
-        return (int)who < builds && (current->tables == NO_TABLES || libraries[who].tables_verdict);
+        return (int)who < builds && (current->tables == NO_TABLES || libraries[who].tables_verdict) &&
+               (current->call != NAME_MATTERS || libraries[who].name_matters);
     }
 }
 
@@ -370,7 +385,7 @@ static void write_file(const char *path, const struct text *t) {
 }
 
 static void prepare(const struct test_case *c) {
-    static const struct text *const first[] = {&allow, &allow, &sheet, &byuid, &portacl, &sheet, &command};
+    static const struct text *const first[] = {&allow, &allow, &sheet, &allow, &byuid, &portacl, &sheet, &command};
     current = c;
     make(&allow, c->allow);
     make(&deny, c->deny);
@@ -382,7 +397,7 @@ static void prepare(const struct test_case *c) {
     write_file(allow_path, &allow);
     write_file(deny_path, &deny);
     handed[0] = first[c->call];
-    handed[1] = c->call == VERDICT || c->call == TABLES_VERDICT ? &deny : NULL;
+    handed[1] = c->call == VERDICT || c->call == TABLES_VERDICT || c->call == NAME_MATTERS ? &deny : NULL;
     handed[2] = c->call == TABLES_VERDICT ? &tables : NULL;
     handed_len = handed[0]->len + (handed[1] ? handed[1]->len : 0) + (handed[2] ? handed[2]->len : 0);
     handed_sum = sum_handed();

@@ -2,7 +2,8 @@
  * the gate, tells the client the word, and logs to standard error, with the command of the rule as it would be run. Runs nothing.
  *   inetd [-p PORT] [-i IDENT_PORT] [-t MILLISECONDS] SHEET DAEMON
  * PORT 0 is any free port; the ports are written to standard output. The client's user is asked of its ident server (RFC 1413) only when
- * the gate says "ask", and is unknown where no sound answer comes in time. Names are not looked up, so rules by name match nothing. */
+ * the gate says "ask" and that the name matters, and is unknown where no sound answer comes in time. Names are not looked up, so rules by
+ * name match nothing. */
 #define _GNU_SOURCE
 #include <arpa/inet.h>
 #include <errno.h>
@@ -159,6 +160,15 @@ static void log_verdict(const struct gate_request *request, const struct gate_co
     log_line(request, what);
 }
 
+/* Sets the request's user where the gate asks for him. A lookup makes the client wait, so there is none where every user gets the same
+ * answer: unknown is then as good as any, and is what %u writes. */
+static void settle_user(struct connection *c, struct gate_request *request, const uint8_t *sheet, size_t len, char *name) {
+    if (gate_sheet_name_matters_for(sheet, len, request).word == GATE_NAME_MATTERS)
+        fetch_user(c, request, name);
+    else
+        gate_request_set_user(request, NULL, 0);
+}
+
 /* Is the connection granted? Whatever is not answered "granted" is not. */
 static int granted(struct connection *c) {
     static uint8_t sheet[GATE_SHEET_LIMIT + 1];
@@ -177,7 +187,7 @@ static int granted(struct connection *c) {
     uint32_t process = (uint32_t)getpid();
     struct gate_command_answer a = gate_sheet_command_for(command, sizeof command, sheet, (size_t)len, &request, process);
     if (a.number == GATE_ANSWERED && a.word == GATE_ASK) {
-        fetch_user(c, &request, user);
+        settle_user(c, &request, sheet, (size_t)len, user);
         a = gate_sheet_command_for(command, sizeof command, sheet, (size_t)len, &request, process);
     }
     if (a.number != GATE_ANSWERED) {

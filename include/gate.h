@@ -19,8 +19,8 @@
  * refusals hold, the one given is the first in the order of the papers: those of the sheet, of the texts or of the command, 15 to 17 behind
  * 12 and 22 behind these, then 13, then 14.
  *
- * Requests. The same seventeen arguments describe a request to gate_verdict, gate_tables_verdict, gate_sheet_verdict, gate_command,
- * gate_sheet_command and gate_expand:
+ * Requests. The same seventeen arguments describe a request to gate_verdict, gate_tables_verdict, gate_sheet_verdict, gate_name_matters,
+ * gate_tables_name_matters, gate_sheet_name_matters, gate_command, gate_sheet_command and gate_expand:
  *   daemon         1 to 64 bytes
  *   client_state   enum gate_name; client_name is 1 to 255 bytes where it is known, and not looked at otherwise
  *   client_kind    enum gate_kind, with client_high and client_low (see there)
@@ -38,7 +38,7 @@
 extern "C" {
 #endif
 
-#define GATE_VERSION "4.0.0"
+#define GATE_VERSION "4.1.0"
 
 /* Numbers: of an answer, or of a refusal. */
 enum gate_number {
@@ -117,14 +117,15 @@ enum gate_section {
 /* Words of a decision. */
 enum gate_word {
     GATE_NO_WORD = 0, /* refused */
-    GATE_GRANTED = 1, /* by all three decisions, and by gate_authbind */
-    GATE_DENIED = 2,  /* by a verdict, by portacl and by gate_authbind */
+    GATE_GRANTED = 1, /* by all three decisions, by gate_authbind, and by gate_name_matters where every user is granted */
+    GATE_DENIED = 2,  /* by a verdict, by portacl and by gate_authbind, and by gate_name_matters where every user is denied */
     GATE_ASK = 3,     /* by a verdict: fetch the user, then call again */
     GATE_NO_LINE = 4, /* by byuid: no line grants */
     GATE_NOT_RULED = 5, /* by byuid and portacl, and by gate_authbind */
     GATE_EXEMPT = 6,  /* by portacl */
     GATE_TEST = 7,    /* by gate_authbind: test the file whose name was written */
-    GATE_READ = 8     /* by gate_authbind: read the byuid file whose name was written */
+    GATE_READ = 8,    /* by gate_authbind: read the byuid file whose name was written */
+    GATE_NAME_MATTERS = 9 /* by gate_name_matters and its like: two users get different answers */
 };
 
 /* What is known of a host's name. */
@@ -264,6 +265,39 @@ struct gate_answer gate_sheet_verdict(const uint8_t *sheet, size_t sheet_len,
                                       uint32_t server_state, uint32_t server_kind, uint64_t server_high, uint64_t server_low,
                                       const uint8_t *server_name, size_t server_name_len,
                                       uint32_t user, const uint8_t *user_name, size_t user_name_len);
+
+/* Can the client's user change the verdict: for use before an ident lookup, which makes the client wait. GATE_NAME_MATTERS exactly if two
+ * users, unknown or any name of 1 to 64 bytes, get a different verdict, file or line; then fetch the user and ask gate_verdict. Else the word,
+ * the file and the line are those that every user gets, GATE_GRANTED or GATE_DENIED, and no lookup is needed: gate_verdict may still answer
+ * GATE_ASK there, as it asks at the first element with an @ whose host matches. place, len and looked are 0: for the command, call
+ * gate_verdict with GATE_USER_UNKNOWN. The request's own user is checked, as every field, and otherwise without effect. What gate_verdict
+ * refuses is refused in the same way. */
+struct gate_answer gate_name_matters(const uint8_t *allow, size_t allow_len, const uint8_t *deny, size_t deny_len,
+                                     const uint8_t *daemon, size_t daemon_len,
+                                     uint32_t client_state, uint32_t client_kind, uint64_t client_high, uint64_t client_low,
+                                     const uint8_t *client_name, size_t client_name_len,
+                                     uint32_t server_state, uint32_t server_kind, uint64_t server_high, uint64_t server_low,
+                                     const uint8_t *server_name, size_t server_name_len,
+                                     uint32_t user, const uint8_t *user_name, size_t user_name_len);
+
+/* The same with tables, as gate_tables_verdict. */
+struct gate_answer gate_tables_name_matters(const uint8_t *allow, size_t allow_len, const uint8_t *deny, size_t deny_len,
+                                            const uint8_t *tables, size_t tables_len,
+                                            const uint8_t *daemon, size_t daemon_len,
+                                            uint32_t client_state, uint32_t client_kind, uint64_t client_high, uint64_t client_low,
+                                            const uint8_t *client_name, size_t client_name_len,
+                                            uint32_t server_state, uint32_t server_kind, uint64_t server_high, uint64_t server_low,
+                                            const uint8_t *server_name, size_t server_name_len,
+                                            uint32_t user, const uint8_t *user_name, size_t user_name_len);
+
+/* The same by a sheet, as gate_sheet_verdict. */
+struct gate_answer gate_sheet_name_matters(const uint8_t *sheet, size_t sheet_len,
+                                           const uint8_t *daemon, size_t daemon_len,
+                                           uint32_t client_state, uint32_t client_kind, uint64_t client_high, uint64_t client_low,
+                                           const uint8_t *client_name, size_t client_name_len,
+                                           uint32_t server_state, uint32_t server_kind, uint64_t server_high, uint64_t server_low,
+                                           const uint8_t *server_name, size_t server_name_len,
+                                           uint32_t user, const uint8_t *user_name, size_t user_name_len);
 
 /* gate_verdict, and the command of the rule that decided, written to out as gate_expand writes it for the same request, process being its
  * %p: one call decides and expands. Where the verdict is refused, that is the answer. Where the command has no room in out it is 14, and
@@ -533,6 +567,20 @@ static inline struct gate_answer gate_sheet_verdict_for(const void *sheet, size_
     return gate_sheet_verdict(gate_bytes(sheet, sheet_len), sheet_len, GATE_REQUEST_ARGUMENTS(request));
 }
 
+/* gate_name_matters, gate_tables_name_matters and gate_sheet_name_matters for a request. */
+static inline struct gate_answer gate_name_matters_for(const void *allow, size_t allow_len, const void *deny, size_t deny_len,
+                                                       const struct gate_request *request) {
+    return gate_name_matters(gate_bytes(allow, allow_len), allow_len, gate_bytes(deny, deny_len), deny_len, GATE_REQUEST_ARGUMENTS(request));
+}
+static inline struct gate_answer gate_tables_name_matters_for(const void *allow, size_t allow_len, const void *deny, size_t deny_len,
+                                                              const void *tables, size_t tables_len, const struct gate_request *request) {
+    return gate_tables_name_matters(gate_bytes(allow, allow_len), allow_len, gate_bytes(deny, deny_len), deny_len,
+                                    gate_bytes(tables, tables_len), tables_len, GATE_REQUEST_ARGUMENTS(request));
+}
+static inline struct gate_answer gate_sheet_name_matters_for(const void *sheet, size_t sheet_len, const struct gate_request *request) {
+    return gate_sheet_name_matters(gate_bytes(sheet, sheet_len), sheet_len, GATE_REQUEST_ARGUMENTS(request));
+}
+
 /* gate_command and gate_sheet_command for a request. */
 static inline struct gate_command_answer gate_command_for(void *out, size_t out_len, const void *allow, size_t allow_len,
                                                           const void *deny, size_t deny_len, const struct gate_request *request,
@@ -637,6 +685,7 @@ static inline const char *gate_word_text(uint32_t word) {
     case GATE_EXEMPT: return "exempt";
     case GATE_TEST: return "test";
     case GATE_READ: return "read";
+    case GATE_NAME_MATTERS: return "name matters";
     default: return "no such word";
     }
 }

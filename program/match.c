@@ -15,7 +15,9 @@ static const char help[] =
     "STATION is a sheet, a folder with the four texts, or - for a sheet on standard\n"
     "input. Prints the verdict, the rule's place and text, its command as it stands\n"
     "and as it would be run, and how many elements of rules and tables were looked\n"
-    "at. Nothing is looked up and nothing is run.\n"
+    "at. Where the verdict is ask, prints also whether the user's name matters, and if\n"
+    "not the verdict and the rule that every user gets. Nothing is looked up and\n"
+    "nothing is run.\n"
     "\n"
     "DAEMON   the service's name, 1 to 64 bytes.\n"
     "SERVER   the server's address, or unknown. Left out, it is unknown.\n"
@@ -112,6 +114,14 @@ static void find_rule(struct reply *reply, const struct station *station) {
     reply->len = line.len;
 }
 
+/* Whether the user can change what the answer is, where the gate asks for him. */
+static void ask_name(struct reply *reply, const struct text *sheet, const struct gate_request *request) {
+    struct gate_answer told = gate_sheet_name_matters_for(sheet->bytes, sheet->len, request);
+    reply->name_word = told.word;
+    reply->name_section = told.file;
+    reply->name_line = told.line;
+}
+
 static void ask_match(struct reply *reply, const struct station *station, const struct question *question) {
     const struct text *sheet = &station->sheet;
     struct gate_command_answer answer =
@@ -125,6 +135,9 @@ static void ask_match(struct reply *reply, const struct station *station, const 
     reply->expanded_len = (size_t)answer.count;
     reply->counts = true;
     reply->looked = answer.looked;
+    reply->name_word = GATE_NO_WORD;
+    if (answer.word == GATE_ASK)
+        ask_name(reply, sheet, &question->request);
     if (answer.file)
         find_rule(reply, station);
 }

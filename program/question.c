@@ -66,6 +66,17 @@ static void show_command(const struct station *station, const struct reply *repl
     printf("expanded  %.*s\n", (int)reply->expanded_len, (const char *)reply->expanded);
 }
 
+/* Whether the user's name matters, and if not what every user gets. */
+static void show_name(const struct station *station, const struct reply *reply) {
+    if (reply->name_word == GATE_NAME_MATTERS)
+        printf("name      matters: not every user gets the same answer\n");
+    else if (reply->name_section)
+        printf("name      does not matter: every user is %s, by %s:%llu\n", gate_word_text(reply->name_word),
+               section_path(station, reply->name_section), (unsigned long long)reply->name_line);
+    else
+        printf("name      does not matter: every user is %s, by no rule\n", gate_word_text(reply->name_word));
+}
+
 static void show_reply(const struct query *query, const struct station *station, const struct reply *reply) {
     printf("%s\n", gate_word_text(reply->word));
     if (reply->section)
@@ -75,6 +86,8 @@ static void show_reply(const struct query *query, const struct station *station,
     const char *why = query->why(reply);
     if (why)
         printf("why       %s\n", why);
+    if (reply->name_word)
+        show_name(station, reply);
     if (reply->counts)
         printf("looked at %llu element%s\n", (unsigned long long)reply->looked, reply->looked == 1 ? "" : "s");
 }

@@ -31,6 +31,9 @@ struct reply {
     size_t expanded_len;
     bool counts;           /* of match: how many elements were looked at is told */
     uint64_t looked;
+    uint32_t name_word;    /* of match, where it asks: GATE_NAME_MATTERS, or the verdict that every user gets; else GATE_NO_WORD */
+    uint32_t name_section; /* the rule of that verdict, or 0 where no rule decides */
+    uint64_t name_line;
 };
 
 struct query {

@@ -152,6 +152,9 @@ static void mapped(void) {
     expect("a mapped client", decided(verdict, GATE_GRANTED, GATE_ALLOW, 1, 19, 6));
     expect("a mapped client, by a sheet", decided(gate_sheet_verdict(TEXT(sheet), MAPPED_REQUEST), GATE_GRANTED, GATE_ALLOW, 1, 23, 6));
     expect("its command", commanded(gate_command(OUT(18), TEXT(allow), TEXT(deny), MAPPED_REQUEST, 7), verdict, "10.1.2.3 192.0.2.1", 18));
+    expect("whether its name matters", gate_name_matters(TEXT(allow), TEXT(deny), MAPPED_REQUEST).file == GATE_ALLOW &&
+           gate_tables_name_matters(TEXT(allow), TEXT(deny), TEXT(tables), MAPPED_REQUEST).file == GATE_ALLOW &&
+           gate_sheet_name_matters(TEXT(sheet), MAPPED_REQUEST).file == GATE_ALLOW);
     verdict = gate_sheet_verdict(TEXT(sheet), MAPPED_REQUEST), lend();
     expect("its command, by a sheet", commanded(gate_sheet_command(OUT(18), TEXT(sheet), MAPPED_REQUEST, 7), verdict, "10.1.2.3 192.0.2.1", 18));
     lend();
@@ -192,6 +195,59 @@ static void tables(void) {
     expect("no bytes are a cut", refused(TABLES_VERDICT(3), GATE_CUT_SHORT, GATE_TABLES, 0));
     SET(tables, "\0\0"), lend();
     expect("no tables", decided(TABLES_VERDICT(1), GATE_GRANTED, 0, 0, 0, 0));
+}
+
+/* The verdict, file and line that every user gets, and nothing else. */
+static int settled(struct gate_answer a, uint32_t w, uint32_t file, uint64_t line) {
+    return word(a, w) && a.file == file && a.line == line && a.place == 0 && a.len == 0 && a.looked == 0;
+}
+
+static int matters(struct gate_answer a) {
+    return settled(a, GATE_NAME_MATTERS, 0, 0);
+}
+
+#define NAME_MATTERS(user) gate_name_matters(TEXT(allow), TEXT(deny), REQUEST(user))
+#define TABLES_NAME_MATTERS(user) gate_tables_name_matters(TEXT(allow), TEXT(deny), TEXT(tables), REQUEST(user))
+#define SHEET_NAME_MATTERS(user) gate_sheet_name_matters(TEXT(sheet), REQUEST(user))
+
+/* Does the name matter: each answer, whatever the request's own user is, and refusals as of the verdict. */
+static void names_matter(void) {
+    begin();
+    SET(allow, "\nALL: KNOWN@LOCAL: log %h\n"), lend();
+    for (uint32_t user = GATE_USER_NOT_FETCHED; user <= GATE_USER_KNOWN; user++)
+        expect("a name matters", matters(NAME_MATTERS(user)) && matters(TABLES_NAME_MATTERS(user)));
+    SET(allow, "\nALL: KNOWN@LOCAL UNKNOWN@LOCAL: log %h\n"), lend();
+    for (uint32_t user = GATE_USER_NOT_FETCHED; user <= GATE_USER_KNOWN; user++)
+        expect("each user by the same rule", settled(NAME_MATTERS(user), GATE_GRANTED, GATE_ALLOW, 2) && settled(TABLES_NAME_MATTERS(user), GATE_GRANTED, GATE_ALLOW, 2));
+    expect("where the verdict asks", gate_verdict(TEXT(allow), TEXT(deny), REQUEST(0)).word == GATE_ASK && untouched());
+    SET(allow, "ALL: a@LOCAL EXCEPT A@LOCAL\n"), lend();
+    expect("a name that is taken out again", settled(NAME_MATTERS(0), GATE_DENIED, GATE_DENY, 1));
+    SET(deny, ""), lend();
+    expect("no rule for any user", settled(NAME_MATTERS(2), GATE_GRANTED, 0, 0));
+    SET(allow, "ALL: a@LOCAL\nALL: ALL\n"), lend();
+    expect("the same word by another line", matters(NAME_MATTERS(1)));
+    expect("a user of no state", refused(NAME_MATTERS(3), GATE_BAD_REQUEST, 0, 0) && refused(TABLES_NAME_MATTERS(3), GATE_BAD_REQUEST, 0, 0));
+    SET(user_name, ""), lend();
+    expect("a known user of no bytes", refused(NAME_MATTERS(2), GATE_BAD_REQUEST, 0, 0) && matters(NAME_MATTERS(0)));
+    SET(allow, "ALL: a@/vans\n"), lend();
+    expect("a user before a table", matters(TABLES_NAME_MATTERS(0)));
+    expect("without tables its name is missing", refused(NAME_MATTERS(3), GATE_TABLE_NAME, GATE_ALLOW, 1));
+    m.tables.len--, lend();
+    expect("a cut of the tables comes first", refused(TABLES_NAME_MATTERS(3), GATE_CUT_SHORT, GATE_TABLES, 0));
+    SET(allow, "ALL: a@LOCAL\nx\n"), lend();
+    expect("a text's fault comes first", refused(NAME_MATTERS(3), GATE_NO_ELEMENT, GATE_ALLOW, 2));
+}
+
+static void names_matter_by_sheet(void) {
+    begin(), lend();
+    expect("by a sheet without users", settled(SHEET_NAME_MATTERS(0), GATE_GRANTED, GATE_ALLOW, 2));
+    expect("by a sheet, a user of no state", refused(SHEET_NAME_MATTERS(3), GATE_BAD_REQUEST, 0, 0));
+    m.sheet.len--, lend();
+    expect("by a cut sheet", refused(SHEET_NAME_MATTERS(3), GATE_CUT_SHORT, GATE_TABLES, 0));
+    SET(sheet, "\0\0\0\x0d" "ALL: a@/vans\n\0\0\0\x09" "ALL: ALL\n\0\0\0\0\0\0\0\0" VANS_AND_DEPOT), lend();
+    expect("by a sheet with users", matters(SHEET_NAME_MATTERS(0)) && matters(SHEET_NAME_MATTERS(1)) && matters(SHEET_NAME_MATTERS(2)));
+    SET(daemon, ""), lend();
+    expect("by a sheet, no daemon", refused(SHEET_NAME_MATTERS(0), GATE_BAD_REQUEST, 0, 0));
 }
 
 static void upgrades(void) {
@@ -467,6 +523,9 @@ static void no_address(void) {
         expect("a verdict on no address", refused(gate_verdict(TEXT(allow), TEXT(deny), NO_ADDRESS), GATE_BAD_REQUEST, 0, 0));
         expect("the same with tables", refused(gate_tables_verdict(TEXT(allow), TEXT(deny), TEXT(tables), NO_ADDRESS), GATE_BAD_REQUEST, 0, 0));
         expect("the same by a sheet", refused(gate_sheet_verdict(TEXT(sheet), NO_ADDRESS), GATE_BAD_REQUEST, 0, 0));
+        expect("whether its name matters", refused(gate_name_matters(TEXT(allow), TEXT(deny), NO_ADDRESS), GATE_BAD_REQUEST, 0, 0));
+        expect("the same with tables", refused(gate_tables_name_matters(TEXT(allow), TEXT(deny), TEXT(tables), NO_ADDRESS), GATE_BAD_REQUEST, 0, 0));
+        expect("the same by a sheet", refused(gate_sheet_name_matters(TEXT(sheet), NO_ADDRESS), GATE_BAD_REQUEST, 0, 0));
         expect("its command", command_refused(gate_command(OUT(100), TEXT(allow), TEXT(deny), NO_ADDRESS, 7), GATE_BAD_REQUEST, 0, 0));
         expect("its command by a sheet", command_refused(gate_sheet_command(OUT(100), TEXT(sheet), NO_ADDRESS, 7), GATE_BAD_REQUEST, 0, 0));
         expect("its expansion", unwritten(gate_expand(OUT(100), TEXT(command), NO_ADDRESS, 7), GATE_BAD_REQUEST, 0, 0));
@@ -481,7 +540,7 @@ static struct {
 } given[POSITIONS];
 
 static struct answers {
-    struct gate_answer verdict, tables_verdict, sheet_verdict, byuid, sheet_byuid, portacl, sheet_portacl;
+    struct gate_answer verdict, tables_verdict, sheet_verdict, matters, tables_matters, sheet_matters, byuid, sheet_byuid, portacl, sheet_portacl;
     struct gate_command_answer command, sheet_command;
     struct gate_checked check;
     struct gate_parts parts;
@@ -515,6 +574,9 @@ static void call_all(struct answers *a, uint32_t state) {
     a->verdict = gate_verdict(GIVEN(ALLOW), GIVEN(DENY), GIVEN_REQUEST(state));
     a->tables_verdict = gate_tables_verdict(GIVEN(ALLOW), GIVEN(DENY), GIVEN(TABLES), GIVEN_REQUEST(state));
     a->sheet_verdict = gate_sheet_verdict(GIVEN(SHEET), GIVEN_REQUEST(state));
+    a->matters = gate_name_matters(GIVEN(ALLOW), GIVEN(DENY), GIVEN_REQUEST(state));
+    a->tables_matters = gate_tables_name_matters(GIVEN(ALLOW), GIVEN(DENY), GIVEN(TABLES), GIVEN_REQUEST(state));
+    a->sheet_matters = gate_sheet_name_matters(GIVEN(SHEET), GIVEN_REQUEST(state));
     a->command = gate_command(GIVEN_OUT, GIVEN(ALLOW), GIVEN(DENY), GIVEN_REQUEST(state), 7);
     a->sheet_command = gate_sheet_command(GIVEN_OUT, GIVEN(SHEET), GIVEN_REQUEST(state), 7);
     a->byuid = gate_byuid(GIVEN(BYUID), GATE_PLAIN_FILE, 80, GATE_IPV4, 0, 0x0aff0001, 432);
@@ -560,20 +622,22 @@ static const struct answers *without(int position, uint32_t state) {
 
 static void null_answers(void) {
     expect("no allow text", without(ALLOW, 1)->verdict.word == GATE_DENIED && null.command.word == GATE_DENIED &&
-           null.tables_verdict.word == GATE_DENIED);
+           null.tables_verdict.word == GATE_DENIED && null.matters.word == GATE_DENIED && null.tables_matters.word == GATE_DENIED);
     expect("no texts to pack", without(BYUID, 1)->packed.count == m.sheet.len - 13 && without(PORTACL, 1)->packed.count == m.sheet.len - 27);
     expect("no fifth text", without(TABLES, 1)->packed.number == GATE_CUT_SHORT && null.packed.section == GATE_TABLES &&
-           null.tables_verdict.number == GATE_CUT_SHORT && null.verdict.number == GATE_ANSWERED);
+           null.tables_verdict.number == GATE_CUT_SHORT && null.tables_matters.number == GATE_CUT_SHORT && null.verdict.number == GATE_ANSWERED);
     expect("no text to convert", without(BYUID, 1)->converted.number == GATE_ANSWERED && null.converted.count == 0);
     expect("no sheet to upgrade", without(OLD_SHEET, 1)->upgraded.number == GATE_CUT_SHORT && null.upgraded.section == GATE_ALLOW);
     expect("no sheet", without(SHEET, 1)->check.number == GATE_CUT_SHORT && null.check.section == GATE_ALLOW && null.sheet_verdict.number == GATE_CUT_SHORT &&
-           null.sheet_command.number == GATE_CUT_SHORT);
+           null.sheet_command.number == GATE_CUT_SHORT && null.sheet_matters.number == GATE_CUT_SHORT);
     expect("no daemon", without(DAEMON, 1)->verdict.number == GATE_BAD_REQUEST && null.tables_verdict.number == GATE_BAD_REQUEST && null.expanded.number == GATE_BAD_REQUEST &&
            null.command.number == GATE_BAD_REQUEST && null.sheet_command.number == GATE_BAD_REQUEST);
     expect("no name", without(CLIENT_NAME, 0)->verdict.number == GATE_ANSWERED && without(CLIENT_NAME, 2)->verdict.number == GATE_BAD_REQUEST &&
            null.command.number == GATE_BAD_REQUEST && null.sheet_command.number == GATE_BAD_REQUEST);
     expect("no server's name", without(SERVER_NAME, 0)->verdict.number == GATE_ANSWERED && without(SERVER_NAME, 2)->verdict.number == GATE_BAD_REQUEST &&
            null.command.number == GATE_BAD_REQUEST && null.sheet_command.number == GATE_BAD_REQUEST);
+    expect("no user whose name could matter", without(USER_NAME, 0)->matters.number == GATE_ANSWERED && without(USER_NAME, 2)->matters.number == GATE_BAD_REQUEST &&
+           null.tables_matters.number == GATE_BAD_REQUEST && null.sheet_matters.number == GATE_BAD_REQUEST);
     expect("no user", without(USER_NAME, 0)->verdict.number == GATE_ANSWERED && without(USER_NAME, 2)->verdict.number == GATE_BAD_REQUEST &&
            null.command.number == GATE_BAD_REQUEST && null.sheet_command.number == GATE_BAD_REQUEST);
     expect("no groups", without(LENT_GROUPS, 1)->portacl.word == GATE_DENIED && null.byuid.word == GATE_GRANTED);
@@ -644,6 +708,9 @@ static void unread(void) {
             expect("a verdict on names that are not known", gate_verdict(TEXT(allow), TEXT(deny), UNREAD(state, user)).word == GATE_DENIED);
             expect("the same with tables", gate_tables_verdict(NAMING, TEXT(deny), TEXT(tables), UNREAD(state, user)).word == GATE_DENIED);
             expect("the same by a sheet", gate_sheet_verdict(TEXT(sheet), UNREAD(state, user)).word == GATE_DENIED);
+            expect("whether the user's matters", gate_name_matters(TEXT(allow), TEXT(deny), UNREAD(state, user)).word == GATE_DENIED);
+            expect("the same with tables", gate_tables_name_matters(NAMING, TEXT(deny), TEXT(tables), UNREAD(state, user)).word == GATE_DENIED);
+            expect("the same by a sheet", gate_sheet_name_matters(TEXT(sheet), UNREAD(state, user)).word == GATE_DENIED);
             uint64_t count = gate_expand(OUT(sizeof m.out), TEXT(command), UNREAD(state, user), 7).count;
             expect("their expansion", count > 0);
             expect("a verdict and its command", gate_command(OUT(sizeof m.out), TEXT(allow), TEXT(deny), UNREAD(state, user), 7).count == count);
@@ -657,6 +724,8 @@ int main(void) {
     verdicts();
     mapped();
     tables();
+    names_matter();
+    names_matter_by_sheet();
     upgrades();
     conversions();
     commands();

@@ -5,6 +5,7 @@ Inputs are rule-shaped, near misses and damaged texts, tables, sheets and comman
 answer is compared whole, and every byte of the lent output, with some beyond it. Prints one line, and exits with 1 at the first
 difference, which it shows, or where some kind of answer never came up.
 """
+import collections
 import ctypes
 import random
 import sys
@@ -13,7 +14,7 @@ import reference as ref
 from reference import BAD
 
 U8P, SIZE, U32, U64 = ctypes.c_char_p, ctypes.c_size_t, ctypes.c_uint32, ctypes.c_uint64
-WORDS = {0: None, 1: "granted", 2: "denied", 3: "ask", 4: "no line", 5: "not ruled", 6: "exempt", 7: "test", 8: "read"}
+WORDS = {0: None, 1: "granted", 2: "denied", 3: "ask", 4: "no line", 5: "not ruled", 6: "exempt", 7: "test", 8: "read", 9: "name matters"}
 PARTS = ("allow", "deny", "byuid", "portacl", "tables")
 NO_ADDRESS = 255
 
@@ -42,6 +43,7 @@ def load(path):
     portacl = text + [U32] * 5 + [ctypes.POINTER(U32), SIZE] + [U32, U32]
     for name, arguments, answer in (
             ("verdict", text * 2 + request, Answer), ("sheet_verdict", text + request, Answer), ("tables_verdict", text * 3 + request, Answer),
+            ("name_matters", text * 2 + request, Answer), ("sheet_name_matters", text + request, Answer), ("tables_name_matters", text * 3 + request, Answer),
             ("command", out + text * 2 + request + [U32], Command), ("sheet_command", out + text + request + [U32], Command),
             ("byuid", text + [U32] + bind, Answer), ("sheet_byuid", text + bind, Answer),
             ("portacl", portacl, Answer), ("sheet_portacl", portacl, Answer),
@@ -113,6 +115,14 @@ def decided(a, whole):
         return refusal(a)
     command = whole[a.file][a.place:a.place + a.len]
     return ("an answer's section", a.section) if a.section else (WORDS[a.word], a.file, a.line, a.place if command else None, command, a.looked)
+
+
+def name_matters(rng, call, texts, r):
+    a = call(*(x for text in texts for x in sized(text)), *request_args(rng, r))
+    if a.number:
+        return refusal(a)
+    rest, found = (a.section, a.place, a.len, a.looked), (WORDS[a.word], a.file, a.line)
+    return ("more than a place", rest, found) if any(rest) else "name matters" if found == ("name matters", 0, 0) else found
 
 
 def command(rng, room, call, texts, whole, r, process):
@@ -445,6 +455,40 @@ def vast_tables(most):
     yield ref.section_five([(b"a", b"/a " * 4000), (b"b", b"/a /b " * 4000)])
 
 
+# Users
+
+NAMED = [b"fitter", b"FITTER", b"Fitter", b"known", b"all", b"a", b"b", b"A", b"u" * 64]
+
+
+def user_element(rng, hosts):
+    """a user at a host that mostly matches, or a host alone"""
+    if rng.random() < 0.2:
+        return rng.choice([b"ALL", b"10.", b"host", b"11."])
+    half = rng.choice([rng.choice([b"fitter", b"FITTER", b"Fitter", b"a", b"A", b"b", b"u" * 64]), rng.choice([b"KNOWN", b"known", b"UNKNOWN", b"Unknown", b"ALL", b"all"])])
+    return half + b"@" + rng.choice(hosts)
+
+
+def user_text(rng, hosts):
+    """few rules, whose client lists look at users, with EXCEPT round them"""
+    out = b""
+    for _ in range(rng.choice([0, 1, 1, 2, 3])):
+        clients = user_element(rng, hosts)
+        while rng.random() < 0.55:
+            clients += rng.choice([b" ", b", ", b" EXCEPT ", b" except "]) + user_element(rng, hosts)
+        if rng.random() < 0.1:
+            at = rng.randrange(len(clients) + 1)
+            clients = clients[:at] + b"\\\n" + clients[at:]
+        out += rng.choice([b"", b"", b"# fitter@10.\n"]) + rng.choice([b"ALL", b"sshd", b"ALL", b"ALL EXCEPT ftpd", b"ftpd"]) + b": " + clients + rng.choice([b"", b"", b": log %u"]) + b"\n"
+    return out
+
+
+def user_request(rng):
+    """by sshd's client host at 10.0.0.1, of every user state"""
+    user = rng.choice(["not fetched", "not fetched", None, rng.choice(NAMED), rng.choice(NAMED), rng.choice(USERS)])
+    r = dict(request(rng), daemon=rng.choice([b"sshd", b"SSHD", b"sshd", b"ftpd"]), client=(b"host", rng.choice([("4", 0x0a000001), ("6", 0xffff0a000001)])), user=user)
+    return r if rng.random() < 0.97 else dict(r, user=rng.choice([b"", b"u" * 65, BAD]))
+
+
 def near_mapped(rng):
     """an IPv4 address as an IPv6 socket shows it, or with one bit of the 96 before it otherwise, or none of them set"""
     front = rng.choice([0xffff, 0xffff, 0xffff, 0xffff ^ 1 << rng.randrange(96), 0x1ffff, 0xfffe, 0])
@@ -640,7 +684,10 @@ SHEET = {"1", "2", "3", "12", "22"} | FILES | TABLES
 VERDICTS = {"granted", "denied", "ask", "13"}
 BYUID = {"granted", "no line", "not ruled", "13"}
 PORTACL = {"granted", "denied", "exempt", "not ruled", "13"}
+MATTERS = {"granted", "denied", "name matters", "13"}
 KINDS = {
+    "name_matters": MATTERS | FILES | {"2", "15"}, "tables_name_matters": MATTERS | FILES | TABLES | {"1", "2", "3"},
+    "sheet_name_matters": MATTERS | SHEET,
     "command": VERDICTS | FILES | {"2", "14", "15"}, "sheet_command": VERDICTS | SHEET | {"14"},
     "verdict": VERDICTS | FILES | {"2", "15"}, "tables_verdict": VERDICTS | FILES | TABLES | {"1", "2", "3"}, "byuid": BYUID | {"2", "22"}, "portacl": PORTACL | {"2", "12"},
     "sheet_verdict": VERDICTS | SHEET, "sheet_byuid": BYUID | SHEET, "sheet_portacl": PORTACL | SHEET,
@@ -661,6 +708,7 @@ def main():
     lib, cases = load(sys.argv[1]), int(sys.argv[2])
     rng = random.Random(int(sys.argv[3]) if len(sys.argv) > 3 else 1)
     seen = {name: set() for name in KINDS}
+    answers, asks = collections.Counter(), collections.Counter()
 
     def compare(name, got, expected, *inputs):
         seen[name].add(kind_of(expected))
@@ -686,6 +734,7 @@ def main():
             allow = (allow + b"\n" * 16385)[:rng.choice([16384, 16385])]
         expected = ref.verdict(allow, deny, r)
         compare("verdict", verdict(rng, lib.gate_verdict, [allow, deny], [b"", allow, deny], r), expected, allow, deny, r)
+        compare("name_matters", name_matters(rng, lib.gate_name_matters, [allow, deny], r), ref.name_matters(allow, deny, r), allow, deny, r)
         command_case("command", lib.gate_command, [allow, deny], [b"", allow, deny], expected, r)
 
     def tables_case():
@@ -697,7 +746,10 @@ def main():
         expected = ref.verdict(allow, deny, r, five)
         got = verdict(rng, lib.gate_tables_verdict, [allow, deny, five], [b"", allow, deny], r)
         compare("tables_verdict", got, expected, allow, deny, five, r)
+        got = name_matters(rng, lib.gate_tables_name_matters, [allow, deny, five], r)
+        compare("tables_name_matters", got, ref.name_matters(allow, deny, r, five), allow, deny, five, r)
         if rng.random() < 0.05:
+            compare("name_matters", name_matters(rng, lib.gate_name_matters, [allow, deny], r), ref.name_matters(allow, deny, r), allow, deny, r)
             expected = ref.verdict(allow, deny, r)
             compare("verdict", verdict(rng, lib.gate_verdict, [allow, deny], [b"", allow, deny], r), expected, allow, deny, r)
             command_case("command", lib.gate_command, [allow, deny], [b"", allow, deny], expected, r)
@@ -723,6 +775,32 @@ def main():
             expected = ref.verdict(allow, b"ALL: ALL\n", r, five)
             got = verdict(rng, lib.gate_tables_verdict, [allow, b"ALL: ALL\n", five], [b"", allow, b"ALL: ALL\n"], r)
             compare("tables_verdict", got, expected, allow, five[:100], len(five), r)
+
+    def user_cases():
+        """rules that look at users, by texts, with tables and by a sheet; every user of theirs gets what the answer says"""
+        hosts = [b"10.", b"10.", b"10.0.0.1", b"ALL", b"host", b"11.", b"KNOWN"]
+        everyone = [b"", b"ALL: ALL\n"]
+        allow, deny, r = user_text(rng, hosts), user_text(rng, hosts) + rng.choice(everyone), user_request(rng)
+        expected = ref.name_matters(allow, deny, r)
+        answers[kind_of(expected)] += 1
+        asks["ask" if ref.verdict(allow, deny, dict(r, user="not fetched"))[0] == "ask" else "no ask", kind_of(expected)] += 1
+        compare("name_matters", name_matters(rng, lib.gate_name_matters, [allow, deny], r), expected, allow, deny, r)
+        five = ref.section_five([(b"t", b"11. /u"), (b"u", b"net.example 10.")])
+        hosts += [b"/t", b"/T", b"/u"]
+        allow, deny = user_text(rng, hosts), user_text(rng, hosts) + rng.choice(everyone)
+        expected = ref.name_matters(allow, deny, r, five)
+        compare("tables_name_matters", name_matters(rng, lib.gate_tables_name_matters, [allow, deny, five], r), expected, allow, deny, five, r)
+        sheet = ref.sheet_of([allow, deny, b"", b"", five])
+        compare("sheet_name_matters", name_matters(rng, lib.gate_sheet_name_matters, [sheet], r), ref.sheet_name_matters(sheet, r), sheet, r)
+
+    def crowd_cases():
+        """many users in a file, most of whom decide nothing"""
+        def crowd():
+            rules = [b"ALL: %s@%s%s\n" % (rng.choice([b"u%d" % i, b"U%d" % (i // 2)]), rng.choice([b"10.", b"11.", b"host"]), rng.choice([b"", b" EXCEPT u%d@ALL" % i]))
+                     for i in range(rng.choice([20, 200]))]
+            return b"".join(rules) + rng.choice([b"", b"ALL: KNOWN@10. UNKNOWN@10.\n", b"ALL: ALL\n"])
+        allow, deny, r = crowd(), rng.choice([b"", crowd()]), user_request(rng)
+        compare("name_matters", name_matters(rng, lib.gate_name_matters, [allow, deny], r), ref.name_matters(allow, deny, r), allow, deny, r)
 
     def upgrade_case():
         texts = texts_of(rng)
@@ -827,6 +905,7 @@ def main():
         compare("unpack", unpack(lib.gate_unpack, sheet), ref.unpack(sheet), sheet)
         expected = ref.sheet_verdict(sheet, r)
         compare("sheet_verdict", verdict(rng, lib.gate_sheet_verdict, [sheet], [sheet] * 3, r), expected, sheet, r)
+        compare("sheet_name_matters", name_matters(rng, lib.gate_sheet_name_matters, [sheet], r), ref.sheet_name_matters(sheet, r), sheet, r)
         command_case("sheet_command", lib.gate_sheet_command, [sheet], [sheet] * 3, expected, r)
         case = byuid_request()
         compare("sheet_byuid", sheet_byuid(rng, lib.gate_sheet_byuid, sheet, *case), ref.sheet_byuid(sheet, *case), sheet, case)
@@ -856,8 +935,10 @@ def main():
     for turn in range(cases):
         if turn % 1000 == 0:
             cut_cases()
+            crowd_cases()
         hosts_case()
         tables_case()
+        user_cases()
         upgrade_case()
         prefix_cases()
         mapped_cases()
@@ -871,6 +952,11 @@ def main():
     never = [f"{name} {kind}" for name in KINDS for kind in sorted(KINDS[name] - seen[name])]
     if never:
         print("differential: never seen:", ", ".join(never))
+        sys.exit(1)
+    rare = [kind for kind in ("granted", "denied", "name matters") if answers[kind] < cases // 20]
+    rare += ["ask where no name matters"] * (sum(asks["ask", kind] for kind in ("granted", "denied")) < cases // 20)
+    if rare:
+        print("differential: too rarely seen of rules that look at users:", ", ".join(rare))
         sys.exit(1)
     print(f"differential: {cases} cases of each of {len(KINDS)} exports agree; every kind of answer was among them")
 

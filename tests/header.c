@@ -70,7 +70,20 @@ static int refused(const struct gate_request *r) {
            gate_sheet_command_for(NULL, 0, sheet, sheet_len, r, 7).number == GATE_BAD_REQUEST &&
            gate_verdict_for(allow, sizeof allow - 1, deny, sizeof deny - 1, r).number == GATE_BAD_REQUEST &&
            gate_tables_verdict_for(allow, sizeof allow - 1, deny, sizeof deny - 1, tables, sizeof tables - 1, r).number == GATE_BAD_REQUEST &&
-           gate_sheet_verdict_for(sheet, sheet_len, r).number == GATE_BAD_REQUEST;
+           gate_sheet_verdict_for(sheet, sheet_len, r).number == GATE_BAD_REQUEST &&
+           gate_name_matters_for(allow, sizeof allow - 1, deny, sizeof deny - 1, r).number == GATE_BAD_REQUEST &&
+           gate_tables_name_matters_for(allow, sizeof allow - 1, deny, sizeof deny - 1, tables, sizeof tables - 1, r).number == GATE_BAD_REQUEST &&
+           gate_sheet_name_matters_for(sheet, sheet_len, r).number == GATE_BAD_REQUEST;
+}
+
+/* Whether the name matters: the same by texts, with tables that no rule names, and by the sheet. */
+static int told(const struct gate_request *r, uint32_t word, uint32_t file, uint64_t line) {
+    struct gate_answer t = gate_name_matters_for(allow, sizeof allow - 1, deny, sizeof deny - 1, r);
+    struct gate_answer w = gate_tables_name_matters_for(allow, sizeof allow - 1, deny, sizeof deny - 1, tables, sizeof tables - 1, r);
+    struct gate_answer s = gate_sheet_name_matters_for(sheet, sheet_len, r);
+    return t.number == GATE_ANSWERED && t.word == word && t.file == file && t.line == line && w.number == GATE_ANSWERED && w.word == word &&
+           w.file == file && w.line == line && s.number == GATE_ANSWERED && s.word == word && s.file == file && s.line == line &&
+           !(t.place | t.len | t.looked | w.place | w.len | w.looked | s.place | s.len | s.looked);
 }
 
 static void hosts(void) {
@@ -156,6 +169,25 @@ static void users(void) {
     expect("null is no user", decided(&r, GATE_DENIED, GATE_DENY, 1) && r.user == GATE_USER_UNKNOWN);
     gate_request_set_user(&r, "", 0);
     expect("a known user of no bytes", refused(&r));
+}
+
+static void names_matter(void) {
+    struct gate_request r = request_to("console");
+    expect("a name matters", told(&r, GATE_NAME_MATTERS, 0, 0));
+    gate_request_set_user(&r, "fitter", 6);
+    expect("whatever the user is", told(&r, GATE_NAME_MATTERS, 0, 0));
+    r.user = GATE_USER_UNKNOWN, r.user_name = unreadable;
+    expect("who is not read where he is not known", told(&r, GATE_NAME_MATTERS, 0, 0));
+    r = request_to("web");
+    expect("no name matters", told(&r, GATE_GRANTED, GATE_ALLOW, 3));
+    r = request_to("sshd");
+    expect("nor to one who is denied", told(&r, GATE_DENIED, GATE_DENY, 1));
+    expect("a user before a table", gate_tables_name_matters_for(naming, sizeof naming - 1, NULL, 0, tables, sizeof tables - 1, &r).word == GATE_NAME_MATTERS);
+    expect("without tables", gate_name_matters_for(naming, sizeof naming - 1, NULL, 0, &r).number == GATE_TABLE_NAME);
+    expect("no texts", gate_name_matters_for(NULL, 0, NULL, 0, &r).word == GATE_GRANTED);
+    expect("no fifth text", gate_tables_name_matters_for(NULL, 0, NULL, 0, NULL, 0, &r).number == GATE_CUT_SHORT);
+    expect("no sheet", gate_sheet_name_matters_for(NULL, 0, &r).number == GATE_CUT_SHORT);
+    expect("the word", !strcmp(gate_word_text(GATE_NAME_MATTERS), "name matters"));
 }
 
 /* Names that are not known are not read, whatever stands beside them. */
@@ -272,12 +304,13 @@ int main(void) {
     verdicts();
     with_tables();
     users();
+    names_matter();
     unread();
     commands();
     ports();
     settings();
     expect("texts of the numbers", texts(gate_number_text, GATE_LATE_ANSWER) && !strcmp(gate_number_text(10), "no element kind fits"));
-    expect("texts of the words", texts(gate_word_text, GATE_READ) && !strcmp(gate_word_text(GATE_NOT_RULED), "not ruled"));
+    expect("texts of the words", texts(gate_word_text, GATE_NAME_MATTERS) && !strcmp(gate_word_text(GATE_NOT_RULED), "not ruled"));
     expect("texts of the sections", texts(gate_section_text, GATE_TABLES) && !strcmp(gate_section_text(GATE_BYUID), "byuid"));
     if (!failed)
         printf("header: inline calls as expected\n");

@@ -151,6 +151,28 @@ class Tests:
         self.ident.answer = userid(b"a;b\x1b")
         self.expect("a user with odd bytes", "127.0.0.1", REFUSED, "a_b_@127.0.0.1: denied, deny line 1, would run: log denied a_b_@127.0.0.1", 1)
 
+    def unasked(self):
+        """where the gate asks and every user gets the same answer no ident server is asked, and the user is unknown"""
+        self.ident.answer = userid(b"fitter")
+        denied = "denied, deny line 1, would run: log denied "
+        for what, rules, told, logged in (
+                ("every user", b"console: ALL@ALL: run %u\n", GRANTED, "granted, allow line 1, would run: run unknown"),
+                ("known or not", b"console: KNOWN@ALL UNKNOWN@ALL\n", GRANTED, "granted, allow line 1"),
+                ("the same rule by another element", b"\nconsole: fitter@ALL, ALL\n", GRANTED, "granted, allow line 2"),
+                ("a user taken out again", b"console: fitter@ALL EXCEPT FITTER@ALL\n", REFUSED, denied)):
+            self.inetd.replace(sheet_of(rules))
+            for address in FAMILIES:
+                self.expect(what, address, told, f"console: {address}: {logged}" + (address if logged == denied else ""))
+        self.inetd.replace(sheet_of(b"console: fitter@/t EXCEPT fitter@/u\n", tables=[(b"t", b"/u [::1]"), (b"u", b"127.0.0.1")]))
+        self.expect("a user taken out by a table", "127.0.0.1", REFUSED, denied + "127.0.0.1")
+        self.expect("not by that table", "::1", GRANTED, "fitter@::1: granted, allow line 1", 1)
+        self.inetd.replace(sheet_of(b"console: fitter@ALL\nconsole: ALL\n"))
+        self.expect("another rule for another user", "::1", GRANTED, "fitter@::1: granted, allow line 1", 1)
+        self.ident.answer = userid(b"stranger")
+        self.expect("the same word, another line", "::1", GRANTED, "stranger@::1: granted, allow line 2", 1)
+        self.inetd.replace(sheet_of(b"", b"console: fitter@ALL EXCEPT fitter@ALL\n"))
+        self.expect("no rule for any user", "::1", GRANTED, "granted, no rule, line 0")
+
     def unanswered(self):
         """whatever is no sound answer leaves the user unknown, and the connection answered in time"""
         self.inetd.replace(sheet_of(b"console: UNKNOWN@ALL: run %u\n"))
@@ -250,6 +272,7 @@ def running(program, ident, ident_port, run):
 def single(tests):
     tests.verdicts()
     tests.asked()
+    tests.unasked()
     tests.unanswered()
     tests.refusals()
 

@@ -177,7 +177,28 @@ def test_read():
 
 # Answers
 
+ASK_AGAIN = "why       this rule looks at the user, who is not fetched: ask again with USER@ or --unknown-user\n"
 VAN = ["sshd@192.0.2.1", "10.20.30.40", "--name", "van7.vans.example"]
+
+
+def test_names(folder):
+    """ask, where every user gets the same answer: that answer and its rule"""
+    for what, allow, deny, answer in (
+            ("every user", b"sshd: ALL@10.\n", b"ALL: ALL\n", "granted, by %s/hosts.allow:1"),
+            ("known or not", b"# x\nsshd: KNOWN@10. UNKNOWN@10.\n", b"ALL: ALL\n", "granted, by %s/hosts.allow:2"),
+            ("taken out again", b"sshd: fitter@10. EXCEPT FITTER@10.\n", b"\n\nALL: ALL\n", "denied, by %s/hosts.deny:3"),
+            ("no rule for any user", b"sshd: fitter@10. EXCEPT fitter@10.\n", b"ALL: x\n", "granted, by no rule")):
+        where = station(folder + "/names", allow, deny)
+        answer = answer % where if "%s" in answer else answer
+        line = f"{ASK_AGAIN}name      does not matter: every user is {answer}\nlooked at "
+        expect("a name that does not matter: " + what, gate("match", where, "sshd", "10.20.30.41"), 3, line, b"")
+        expect("quiet: " + what, gate("match", "-q", where, "sshd", "10.20.30.41"), 3, b"", b"")
+        status = 1 if answer.startswith("denied") else 0
+        for user in ("fitter@10.20.30.41", "x@10.20.30.41"):
+            done = gate("match", where, "sshd", user)
+            expect("its user: " + what, done, status, answer.split(",")[0] + "\n", b"")
+            if b"\nname " in done.stdout:
+                fail("a name is spoken of where none is asked for", done.stdout)
 
 
 def test_answers(folder):
@@ -189,14 +210,19 @@ def test_answers(folder):
         expect("ask by " + what, gate("match", where, "sshd", "10.20.30.41"), 3, "ask\nrule      %s:3\n" % (at % "hosts.allow"), b"")
         expect("denied by " + what, gate("match", where, "sshd", "10.9.30.41", "--paranoid"), 1,
                b"denied\nrule      %s:2\ntext      ALL: ALL: /usr/bin/logger -t gate refused \\\n              %%d to %%a\n"
-               b"command   /usr/bin/logger -t gate refused     %%d to %%a\nexpanded  /usr/bin/logger -t gate refused     sshd to 10.9.30.41\nlooked at 7 elements\n"
-               % (at % "hosts.deny").encode(), b"")
+               b"command   /usr/bin/logger -t gate refused     %%d to %%a\nexpanded  /usr/bin/logger -t gate refused     sshd to 10.9.30.41\n"
+               b"looked at 7 elements\n" % (at % "hosts.deny").encode(), b"")
         expect("byuid by " + what, gate("byuid", where, "432", "10.20.1.2,80"), 0,
                b"granted\nrule      %s:1\ntext      10.20.0.0/16,80\n" % (at % "byuid").encode(), b"")
         expect("portacl by " + what, gate("portacl", where, "5", "udp:123", "--groups", "19,20"), 0,
                b"granted\nrule      %s entry 2\ntext      gid:20:udp:123\n" % (at % "portacl").encode(), b"")
         expect("tested by " + what, gate("test", where, SAMPLE + "/requests"), 0, "13 requests, all as expected", b"")
         expect("checked as " + what, gate("check", "-W", where), 0, "sound, 398 bytes", b"")
+        expect("the name matters by " + what, gate("match", where, "sshd", "10.20.30.41"), 3,
+               ASK_AGAIN + "name      matters: not every user gets the same answer\nlooked at ", b"")
+        expect("only where it is not known, by " + what, gate("match", where, "sshd", "fitter@10.20.30.41"), 0,
+               "from 10.20.30.41\nlooked at ", b"")
+    test_names(folder)
     expect("no rule", gate("match", station(folder + "/none"), *VAN), 0, "granted\nwhy       no rule", b"")
     expect("no line", gate("byuid", SAMPLE, "432", "10.21.1.2,80"), 1, b"no line\n", b"")
     expect("a verdict by standard input", gate("match", "-", *VAN, stdin=SHEET), 0, "granted\nrule      -(hosts.allow):2\n", b"")
@@ -1136,6 +1162,16 @@ def match_answer(texts, r):
     return answer if word == "ask" else answer + b":" + (b" " + expanded if expanded else b"")
 
 
+def name_line(texts, r, where):
+    """what a verdict that asks says of the name"""
+    told = ref.name_matters(texts[0], texts[1], r, texts[4])
+    if told == "name matters":
+        return "name      matters: not every user gets the same answer\n"
+    word, file, line = told
+    path = "" if not file else f"{where}({NAMES[file - 1]})" if where.endswith(".sheet") else f"{where}/{NAMES[file - 1]}"
+    return f"name      does not matter: every user is {word}, by " + (f"{path}:{line}\n" if file else "no rule\n")
+
+
 def byuid_case(rng, texts):
     address = rng.choice([("4", rng.choice(gen.SMALL)), ("6", rng.choice(gen.WIDE)), ("4", 0x0a000000), ("6", 1)])
     port, uid = rng.choice([0, 1, 80, 80, 80, 511, 512, 1023, 1024]), rng.choice([0, 432, 432, 432])
@@ -1160,21 +1196,25 @@ def portacl_case(rng, texts):
     return words, answer.encode()
 
 
-def generated_request(rng):
+def generated_request(rng, make=gen.request):
     while True:
-        r = gen.request(rng)
+        r = make(rng)
         names = [r["client"][0], r["server"][0]]
         if not ref.request_fault(r) and b"unknown" not in names:
             return r
 
 
 def test_generated_answers(folder, rng):
-    path, seen = pathlib.Path(folder) / "requests", set()
+    path, seen, names = pathlib.Path(folder) / "requests", set(), set()
     for turn in range(STATIONS):
-        texts = gen.texts_of(rng)
+        texts, make = gen.texts_of(rng), gen.request
+        if turn % 4 == 0:
+            texts[:2], make = [gen.user_text(rng, [b"10.", b"11.", b"host"]) for _ in range(2)], gen.user_request
         if ref.refused(ref.pack(texts, SHEET_LIMIT)):
             continue
-        cases = [(match_line(r), match_answer(texts, r)) for r in (generated_request(rng) for _ in range(8))]
+        requests = [generated_request(rng, make) for _ in range(8)]
+        cases = [(match_line(r), match_answer(texts, r)) for r in requests]
+        asking = [(words, r) for (words, answer), r in zip(cases, requests) if answer.startswith(b"ask ")]
         cases += [case(rng, texts) for case in (byuid_case, portacl_case) for _ in range(4)]
         path.write_bytes(b"".join(b" ".join(words) + b" => x\n" for words, _ in cases))
         files = as_files(ref.read_tables(texts[4])[0])
@@ -1188,6 +1228,10 @@ def test_generated_answers(folder, rng):
         if done.returncode or done.stdout != expected:
             fail("generated requests", texts, done.stderr, *(pair for pair in zip(done.stdout.split(b"\n"), expected.split(b"\n")) if pair[0] != pair[1]))
         seen |= {answer.split(b" ")[0] for _, answer in cases}
+        for words, r in asking[:1]:
+            line = name_line(texts, r, where)
+            names.add(line.split(":")[0])
+            expect(f"the name: {words}", gate("match", where, *(os.fsdecode(word) for word in words[1:])), 3, line, b"")
         if turn % 10 == 0:
             words, answer = cases[rng.randrange(len(cases))]
             status = {b"granted": 0, b"exempt": 0, b"denied": 1, b"no": 1, b"ask": 3, b"not": 4}[answer.split(b" ")[0]]
@@ -1195,6 +1239,8 @@ def test_generated_answers(folder, rng):
             expect(f"alone: {words}", done, status, answer.split(b" ")[0].decode(), b"")
     if seen != {b"granted", b"denied", b"ask", b"no", b"not", b"exempt"}:
         fail("every answer came up", seen)
+    if len(names) != 2:
+        fail("names that matter and names that do not came up", names)
 
 
 def run_all():

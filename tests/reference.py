@@ -111,6 +111,7 @@ class Line:
         self.text = raw.replace(b"\\\n", b"")
 
 
+@again
 def lines(text):
     out, start, number, i = [], 0, 1, 0
     first = 1
@@ -146,6 +147,7 @@ def words(part):
     return [w for w in re.split(rb"[ \t,]", part.replace(b"\\\n", b"")) if w]
 
 
+@again
 def rule(line):
     """daemons, clients, raw command (None where there is no second separator)"""
     at = separators(line.raw)
@@ -595,6 +597,29 @@ def search(allow, deny, r, tables):
     return ("granted", 0, 0, None, b"", looked)
 
 
+# Does the name matter? (document 02, request 14)
+
+def users_named(text):
+    """every half before an @ in a file, in whatever place and of whatever bytes, that has the size of a name"""
+    return {half for w in re.split(rb"[ \t,:\n]", text.replace(b"\\\n", b"")) for half in halves(w)[:1] if b"@" in w[1:] and 1 <= len(half) <= 64}
+
+
+def unnamed(named):
+    """a name that equals none of them: a number, in digits"""
+    return next(b"%d" % n for n in range(len(named) + 1) if b"%d" % n not in named)
+
+
+def name_matters(allow, deny, r, five=None):
+    """a refusal as verdict's, "name matters", or the (word, file, line) that every user gets: unknown, or any name of 1 to 64 bytes. A rule
+    looks at a user by whether the name is known and whether it equals a half, so that all that differ are among those tried here"""
+    own = verdict(allow, deny, r, five)
+    if refused(own):
+        return own
+    r, tables, named = held(r), Tables([] if five is None else read_tables(five)[0]), users_named(allow) | users_named(deny)
+    places = {search(allow, deny, dict(r, user=user), tables)[:3] for user in named | {None, unnamed(named)}}
+    return "name matters" if len(places) > 1 else places.pop()
+
+
 # Ports
 
 def net(text, kind, read, width):
@@ -828,7 +853,7 @@ def expand(command, r, process, room):
 # The verdict and its command in one call
 
 def refused(answer):
-    return isinstance(answer, tuple) and len(answer) == 3
+    return isinstance(answer, tuple) and isinstance(answer[0], int)
 
 
 def with_command(answer, r, process, room):
@@ -913,6 +938,10 @@ def sheet_verdict(sheet, r):
         word, file, line, place, *rest = answer
         return word, file, line, parts[file - 1][0] + place, *rest
     return of_sheet(decision, sheet)
+
+
+def sheet_name_matters(sheet, r):
+    return of_sheet(lambda parts, texts: name_matters(texts[0], texts[1], r, texts[4]), sheet)
 
 
 def sheet_byuid(sheet, *request):

@@ -17,8 +17,8 @@
 enum { PAGE = 4096, PAINT = 0xa5, BEYOND = 3 };
 
 /* In the order of `exports`; NOTHING is no call at all, and its bytes are not counted. */
-enum export { VERDICT, TABLES_VERDICT, SHEET_VERDICT, COMMAND, SHEET_COMMAND, BYUID, SHEET_BYUID, PORTACL, SHEET_PORTACL, CHECK, UNPACK, PACK, UPGRADE, CONVERT,
-              EXPAND, READ_ADDRESS, WRITE_ADDRESS, AUTHBIND, CARRY, NOTHING };
+enum export { VERDICT, TABLES_VERDICT, SHEET_VERDICT, NAME_MATTERS, TABLES_NAME_MATTERS, SHEET_NAME_MATTERS, COMMAND, SHEET_COMMAND, BYUID,
+              SHEET_BYUID, PORTACL, SHEET_PORTACL, CHECK, UNPACK, PACK, UPGRADE, CONVERT, EXPAND, READ_ADDRESS, WRITE_ADDRESS, AUTHBIND, CARRY, NOTHING };
 
 /* For tables over all limits too. */
 enum { TABLES_ROOM = 1 << 20 };
@@ -102,6 +102,11 @@ static uint32_t tables_verdict(void) {
     return gate_tables_verdict_for(allow.bytes, allow.len, deny.bytes, deny.len, tables.bytes, tables.len, &request).number;
 }
 static uint32_t sheet_verdict(void) { return gate_sheet_verdict_for(sheet, sheet_len, &request).number; }
+static uint32_t name_matters(void) { return gate_name_matters_for(allow.bytes, allow.len, deny.bytes, deny.len, &request).number; }
+static uint32_t tables_name_matters(void) {
+    return gate_tables_name_matters_for(allow.bytes, allow.len, deny.bytes, deny.len, tables.bytes, tables.len, &request).number;
+}
+static uint32_t sheet_name_matters(void) { return gate_sheet_name_matters_for(sheet, sheet_len, &request).number; }
 static uint32_t with_command(void) {
     return gate_command_for(out, sizeof out, allow.bytes, allow.len, deny.bytes, deny.len, &request, 4294967295u).number;
 }
@@ -135,7 +140,9 @@ static uint32_t nothing(void) { return 0; }
 static const struct {
     const char *name;
     uint32_t (*call)(void);
-} exports[] = {{"gate_verdict", verdict}, {"gate_tables_verdict", tables_verdict}, {"gate_sheet_verdict", sheet_verdict}, {"gate_command", with_command}, {"gate_sheet_command", sheet_command},
+} exports[] = {{"gate_verdict", verdict}, {"gate_tables_verdict", tables_verdict}, {"gate_sheet_verdict", sheet_verdict},
+               {"gate_name_matters", name_matters}, {"gate_tables_name_matters", tables_name_matters}, {"gate_sheet_name_matters", sheet_name_matters},
+               {"gate_command", with_command}, {"gate_sheet_command", sheet_command},
                {"gate_byuid", by_uid}, {"gate_sheet_byuid", sheet_byuid}, {"gate_portacl", port_acl}, {"gate_sheet_portacl", sheet_portacl},
                {"gate_check", check}, {"gate_unpack", unpack}, {"gate_pack", pack}, {"gate_upgrade", upgrade}, {"gate_convert", convert}, {"gate_expand", expand}, {"gate_read_address", read_address},
                {"gate_write_address", write_address}, {"gate_authbind", authbind}, {"gate_carry", carry}, {"nothing", nothing}};
@@ -224,6 +231,8 @@ static void chains(void) {
     rules("a EXCEPT a .., clients, then a domain", "a:", "a EXCEPT ", ".example", 0);
     rules("a@a EXCEPT a@a .., clients", "a:", "a@a EXCEPT ", "a@a", 0);
     rules("a@a EXCEPT a@a .., daemons", "", "a@a EXCEPT ", "a@a:a", 0);
+    rules("ALL@a EXCEPT ALL@a .., clients, then a user and an IPv6 net", "a:", "ALL@a EXCEPT ", "b@[1:2:3:4:5:6:1.2.3.4]/127", 0);
+    rules("b@a c@a .., clients", "a:", "b@a c@a EXCEPT ", "b@a", 0);
     rules("two chains", "a EXCEPT a EXCEPT a:", "a EXCEPT ", "a:%c", 0);
     rules("a chain that matches, and its command", "a:", "a EXCEPT b EXCEPT ", "a:%c%s%p", 0);
 }

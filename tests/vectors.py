@@ -106,12 +106,22 @@ def shown(answer):
     return refusal(answer) if ref.refused(answer) else answer if isinstance(answer, bytes) else answer.encode()
 
 
+def rule(file, line):
+    return b", no file" if file == 0 else b", %s line %d" % ([b"allow", b"deny"][file - 1], line)
+
+
 def ruling(answer):
     if ref.refused(answer):
         return refusal(answer)
     word, file, line, _, command, looked = answer
-    where = b", no file" if file == 0 else b", %s line %d" % ([b"allow", b"deny"][file - 1], line)
-    return word.encode() + where + b", looked at %d" % looked + (b", command:" + command if command else b"")
+    return word.encode() + rule(file, line) + b", looked at %d" % looked + (b", command:" + command if command else b"")
+
+
+def matter(answer):
+    if ref.refused(answer) or isinstance(answer, str):
+        return shown(answer)
+    word, file, line = answer
+    return word.encode() + rule(file, line)
 
 
 def read_address(text):
@@ -161,6 +171,9 @@ def carry(room, other, uid, text, plain, marked):
 CALLS = {
     b"verdict": ("tttttttt", lambda *f: ruling(ref.verdict(*f[6:], request(*f[:6])))),
     b"tables_verdict": ("ttttttttt", lambda *f: ruling(ref.verdict(*f[6:8], request(*f[:6]), f[8]))),
+    b"name_matters": ("tttttttt", lambda *f: matter(ref.name_matters(*f[6:], request(*f[:6])))),
+    b"tables_name_matters": ("ttttttttt", lambda *f: matter(ref.name_matters(*f[6:8], request(*f[:6]), f[8]))),
+    b"sheet_name_matters": ("ttttttt", lambda *f: matter(ref.sheet_name_matters(f[6], request(*f[:6])))),
     b"byuid": ("ntnnt", byuid),
     b"portacl": ("nnnnnnntN", lambda *f: portacl(ref.portacl, *f)),
     b"sheet_verdict": ("ttttttt", lambda *f: ruling(ref.sheet_verdict(f[6], request(*f[:6])))),

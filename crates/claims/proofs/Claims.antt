@@ -1,7 +1,7 @@
 -- All claims hold.
 -- Assumes nothing.
 use Rattle.claims.specs.Claims.{Claims}
-use Rattle.claims.proofs.ExampleClaims.{examples, mask-lengths, mapped-addresses, table-examples, looked-examples}
+use Rattle.claims.proofs.ExampleClaims.{examples, mask-lengths, mapped-addresses, table-examples, looked-examples, matters-examples}
 use Rattle.claims.proofs.AnswerLaws.{refusal-writes-nothing, every-decision, every-number}
 use Rattle.claims.proofs.SheetClaims.{cut-short, longest, unpack-pack, pack-unpack, sheet-as-texts, upgraded}
 use Rattle.claims.proofs.AddressClaims.{read-written, bit-by-bit}
@@ -14,6 +14,7 @@ use Rattle.claims.proofs.OrderClaims.{absent-goes-on, answer-settles, n
 use Rattle.claims.proofs.LimitClaims.{old-boxes}
 use Rattle.claims.proofs.RetiredClaims.{retired-refused, converted, refusal-numbers}
 use Rattle.claims.proofs.CarryClaims.{carried-over}
+use Rattle.claims.proofs.MattersClaims.{name-matters}
 
 pub claims : Claims
 claims = record {
@@ -53,4 +54,6 @@ claims = record {
   converted = converted;
   refusal-numbers = refusal-numbers;
   carried-over = carried-over;
+  name-matters = name-matters;
+  matters-examples = matters-examples;
 }

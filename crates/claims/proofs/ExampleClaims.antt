@@ -28,10 +28,12 @@ use Rattle.byuid.specs.Byuid as Byuid
 use Rattle.portacl.specs.Portacl as Portacl
 use Rattle.sheet.specs.Sheet as Sheet
 use Rattle.station.specs.Station as Station
+use Rattle.matters.specs.Matters as Matters
 use Rattle.claims.specs.Examples.{Examples}
 use Rattle.claims.specs.MaskExamples.{MaskExamples}
 use Rattle.claims.specs.MappedExamples.{MappedExamples}
 use Rattle.claims.specs.LookedExamples.{LookedExamples}
+use Rattle.claims.specs.MattersExamples.{MattersExamples}
 use Rattle.claims.specs.TableExamples.{TableExamples, entriesOf, five, manyEntries, many}
 
 pub examples : Examples
@@ -256,4 +258,47 @@ looked-examples = record {
   tried-twice = refl;
   none-at-refusal = refl;
   elements-of-file = refl;
+}
+
+pub matters-examples : MattersExamples
+unfolding
+    Basics.any Basics.all Basics.first Basics.each
+    Text.equal Text.splitOnce Text.split Text.intercalate Text.lower Text.equalFold
+    Number.fromDigits Number.toDigits Number.numeral Number.readDecimal
+    Refusal.lowest
+    Address.samePrefix Address.readV4 Address.readGroup Address.readLastGroup Address.readGroups Address.readCompressed Address.readV6
+    Address.compress Address.addrText Address.readAddress Address.writeAddress
+    Line.join Line.logicalLines Line.lines Line.hasBadByte
+    Rule.splitSeparator Rule.nonEmpty Rule.elements Rule.parseRule
+    Command.skipBlanks Command.trimmed Command.pieces Command.hasBadPercent
+    Request.wellFormed
+    Pattern.wildcard Pattern.isNameByte Pattern.domainPattern Pattern.bracketPattern Pattern.leadingFields Pattern.readMask Pattern.netMask Pattern.dottedPattern
+    Pattern.namePattern Pattern.hostPattern
+    Element.halves Element.clientReserved Element.daemonReserved Element.namedTable Element.isPlainName Element.daemonName Element.userHalf Element.daemonParts Element.clientParts
+    Element.daemonElement Element.clientElement
+    ListCheck.withoutExcept ListCheck.exceptMisplaced ListCheck.ruleFault ListCheck.ruleNames Walk.included Walk.excluded Walk.ruleFoundBy
+    Check.lineFaultBy Check.hostsFault Check.lineNames Check.namingFault Check.tablesFault Search.lineAnswer Search.search Search.decide
+    Table.readTables Table.readEach Table.readTable Table.afterCount Table.tablesFrame Table.isTableName Table.tableName Table.tableNamed Table.patterns
+    Table.patternWith Table.inTable Table.leadsPast Table.firstTable Table.isMisnamed Table.tableNameFault Table.isBadPattern Table.isUnsound Table.badTableFault
+    Expand.inserted Expand.safeByte Expand.pieceText Expand.expansion Expand.expand
+    Byuid.readRange Byuid.readNet Byuid.readCommaForm Byuid.readColonForm Byuid.lineGrants Byuid.isRetired Byuid.retiredFault Byuid.byuidFault Byuid.byuidDecision Byuid.decideByuid
+    Portacl.readEntry Portacl.entries Portacl.entryFault Portacl.portaclFault Portacl.portaclDecision Portacl.decidePortacl
+    Sheet.textsFault Sheet.sectionAt Sheet.frame Sheet.unpack
+    Matters.nameFinds Matters.askerHolds Matters.askedTold Matters.ruleTold Matters.lineTold Matters.textTold Matters.settled Matters.nameMattersSheet
+    flatMap
+    Mapped.isMapped Mapped.unmapped Sheet.sheetOf Sheet.pack Station.decideSheet entriesOf five manyEntries many
+matters-examples = record {
+  one-name = refl;
+  unasked = refl;
+  other-host = refl;
+  every-user = refl;
+  named-or-not = refl;
+  known-alone = refl;
+  known-or-unknown = refl;
+  taken-out-again = refl;
+  other-taken-out = refl;
+  other-line = refl;
+  no-rule = refl;
+  in-a-table = refl;
+  fault = refl;
 }

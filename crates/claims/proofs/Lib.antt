@@ -11,4 +11,5 @@ pub mod OrderClaims
 pub mod LimitClaims
 pub mod RetiredClaims
 pub mod CarryClaims
+pub mod MattersClaims
 pub mod Claims

@@ -31,11 +31,12 @@ use Rattle.codes.specs.declared.GateParts.{GateParts}
 use Rattle.codes.specs.declared.GateWritten.{GateWritten}
 use Rattle.codes.specs.declared.request.HostNumbers.{HostNumbers}
 use Rattle.codes.specs.Requests.{RequestNumbers, hostNumbers, requestNumbers}
-use Rattle.codes.specs.Answers.{granted, denied, ask, noLine, wordAnswer}
+use Rattle.codes.specs.Answers.{granted, denied, ask, noLine, nameMatters, wordAnswer}
 use Rattle.codes.specs.Answers.{refusalAnswer, refusedCheck, accepted, refusedParts, countWritten, withCount, addressWith}
 use Rattle.gate.specs.Calls.{gateVerdict, gateTablesVerdict, gateSheetVerdict, gateByuid, gateSheetByuid, gatePortacl, gateSheetPortacl}
 use Rattle.gate.specs.Calls.{gateCheck, gateUnpack, gateReadAddress, Wrote, gatePack, gateUpgrade, gateExpand, gateWriteAddress}
 use Rattle.gate.specs.Calls.{WroteCommand, gateCommand, gateSheetCommand, gateAuthbind, gateCarry}
+use Rattle.gate.specs.Calls.{gateNameMatters, gateTablesNameMatters, gateSheetNameMatters}
 use Rattle.claims.specs.Examples.{Examples}
 use Rattle.claims.specs.MaskExamples.{MaskExamples}
 use Rattle.claims.specs.MappedExamples.{MappedExamples}
@@ -44,6 +45,7 @@ use Rattle.claims.specs.OldBoxes.{OldBoxes}
 use Rattle.claims.specs.Retired.{RetiredRefused, Converted, RefusalNumbers}
 use Rattle.claims.specs.LookedExamples.{LookedExamples}
 use Rattle.claims.specs.CarriedOver.{CarriedOver}
+use Rattle.claims.specs.MattersExamples.{MattersExamples}
 use Rattle.claims.specs.AuthbindOrder.{AbsentGoesOn, AnswerSettles, NamesDiffer, ReadsItsFile, ManualExample}
 
 -- numbers that fit a byte
@@ -339,6 +341,44 @@ pub record LookedBound : Type 0 where
   pub bound-by-sheet : (sheet : List ℕ) (n : RequestNumbers) → NamesNoTable (textsOf sheet .allow) → NamesNoTable (textsOf sheet .deny)
       → gateSheetVerdict sheet n .looked ≤ fileElements (textsOf sheet .allow) + fileElements (textsOf sheet .deny)
 
+-- request 14: two answers have the same "verdict, file or line"
+pub record SamePlace (a b : GateAnswer) : Type 0 where
+  pub same-word : a .word ≡ b .word
+  pub same-file : a .file ≡ b .file
+  pub same-line : a .line ≡ b .line
+
+-- "two permitted user states, unknown or any name of 1 to 64 bytes, give the request different verdict, file or line"
+pub record Differ (verdict : RequestNumbers → GateAnswer) (n : RequestNumbers) : Type 0 where
+  pub one-user : ℕ
+  pub one-name : List ℕ
+  pub other-user : ℕ
+  pub other-name : List ℕ
+  pub one-permitted : Permitted one-user one-name
+  pub other-permitted : Permitted other-user other-name
+  pub different : SamePlace (verdict (asUser n one-user one-name)) (verdict (asUser n other-user other-name)) → ⊥
+
+-- what a call answers to the request n, beside the verdict that it tells of
+pub record Tells (verdict matters : RequestNumbers → GateAnswer) (n : RequestNumbers) : Type 0 where
+  -- "Refusals: as for the verdict."
+  pub refuses : (verdict n .number ≡ 0 → ⊥) → matters n ≡ verdict n
+  pub answers : verdict n .number ≡ 0 → matters n .number ≡ 0
+  -- "yes exactly if two permitted user states .. give the request different verdict, file or line"
+  pub yes : matters n .word ≡ nameMatters .number → Differ verdict n
+  pub yes-if : verdict n .number ≡ 0 → Differ verdict n → matters n .word ≡ nameMatters .number
+  -- "When it says no, also give the one verdict, file and line that all names get"
+  pub no : verdict n .number ≡ 0 → (matters n .word ≡ nameMatters .number → ⊥) → (user : ℕ) (name : List ℕ) → Permitted user name
+      → SamePlace (verdict (asUser n user name)) (matters n)
+  -- where the verdict does not ask the answer is no; the other way round ""ask" may come where this says no"
+  pub unasked : n .user ≡ 0 → Decided (verdict n .number) (verdict n .word) → matters n .word ≡ nameMatters .number → ⊥
+  -- the request's own user is checked, and otherwise changes nothing
+  pub own-user : (user : ℕ) (name : List ℕ) → verdict n .number ≡ 0 → verdict (asUser n user name) .number ≡ 0 → matters (asUser n user name) ≡ matters n
+
+pub record NameMatters : Type 0 where
+  pub told-by-texts : (allow deny : List ℕ) (n : RequestNumbers) → Tells (gateVerdict allow deny) (gateNameMatters allow deny) n
+  pub told-by-tables : (allow deny tables : List ℕ) (n : RequestNumbers)
+      → Tells (gateTablesVerdict allow deny tables) (gateTablesNameMatters allow deny tables) n
+  pub told-by-sheet : (sheet : List ℕ) (n : RequestNumbers) → Tells (gateSheetVerdict sheet) (gateSheetNameMatters sheet) n
+
 -- ## All
 
 pub record Claims : Type 0 where
@@ -382,3 +422,6 @@ pub record Claims : Type 0 where
   pub refusal-numbers : RefusalNumbers
   -- document 02, request 13
   pub carried-over : CarriedOver
+  -- document 02, request 14
+  pub name-matters : NameMatters
+  pub matters-examples : MattersExamples

@@ -3,6 +3,7 @@
 use Prim.Native.Nat.{ℕ}
 use native.Mathlib.Omega.{arith}
 use mathlib.Core.List.{List}
+use mathlib.Core.Option.{Option, none, some}
 use mathlib.Core.Path.{_≡_, refl, ap, _∙_}
 use Rattle.section.specs.declared.Written.{Written}
 use Rattle.section.specs.declared.Written.the-variants as W
@@ -32,6 +33,10 @@ use Rattle.carry.specs.Carry.{carriedOf}
 use Rattle.authbind.specs.declared.Next.{Next}
 use Rattle.authbind.specs.declared.Next.the-variants as N
 use Rattle.authbind.specs.Authbind as Authbind
+use Rattle.matters.specs.declared.Place.{Place}
+use Rattle.matters.specs.declared.Matter.{Matter}
+use Rattle.matters.specs.declared.Matter.the-variants as Mat
+use Rattle.matters.specs.Matters.{matterOf}
 use Rattle.sheet.specs.declared.Parts.{Parts}
 use Rattle.sheet.specs.declared.unpack.Unpacked.{Unpacked}
 use Rattle.sheet.specs.declared.unpack.Unpacked.the-variants as Un
@@ -45,8 +50,8 @@ use Rattle.codes.specs.declared.GateParts.{GateParts}
 use Rattle.codes.specs.declared.GateWritten.{GateWritten}
 use Rattle.codes.specs.declared.GateAddress.{GateAddress}
 use Rattle.codes.specs.Answers.{verdictWord, byuidWord, portaclWord, refusalAnswer, wordAnswer, answerNumbers, accepted, foundParts, countWritten, addressWith}
-use Rattle.codes.specs.Answers.{addressNumbers, verdictAnswer, byuidAnswer, portaclAnswer, checkAnswer, partsAnswer, writtenAnswer, countTwo, carriedAnswer, addressAnswer, command, together, withCount, commandAnswer, nextWith, nextAnswer}
-use Rattle.codes.specs.Code.{byuidNumbers, portaclNumbers, verdictNumbers, checkNumbers, partsNumbers, writtenNumbers, carriedNumbers, commandWritten, nextNumbers, readNumbers}
+use Rattle.codes.specs.Answers.{placeNumbers, mattersAnswer, addressNumbers, verdictAnswer, byuidAnswer, portaclAnswer, checkAnswer, partsAnswer, writtenAnswer, countTwo, carriedAnswer, addressAnswer, command, together, withCount, commandAnswer, nextWith, nextAnswer}
+use Rattle.codes.specs.Code.{matterNumbers, byuidNumbers, portaclNumbers, verdictNumbers, checkNumbers, partsNumbers, writtenNumbers, carriedNumbers, commandWritten, nextNumbers, readNumbers}
 
 pub byuid-numbers : (o : Outcome ByuidDecision) (x : ByuidRuling) (a : GateAnswer) → x ≡ Byuid.byuidRuling o → a ≡ byuidNumbers x → a ≡ byuidAnswer o
 unfolding byuidNumbers byuidAnswer
@@ -67,6 +72,28 @@ pub verdict-numbers : (o : Outcome Answer) (k : ℕ) (x : Reported) (a : GateAns
 unfolding verdictNumbers verdictAnswer
 verdict-numbers (refused r) k x a e f = rw e at f
 verdict-numbers (answered b) k x a e f = rw e at f
+
+pub place-word : (p : Place) (w : ℕ) → w ≡ verdictWord (p .verdict) .number → (f : ℕ) → f ≡ fileSection (p .file)
+    → _≡_ {A = GateAnswer} (record { number = 0; section = 0; line = p .line; word = w; file = f; place = 0; len = 0; looked = 0 }) (placeNumbers p)
+place-word p w is-w f is-f = rw (is-w, is-f)
+
+pub matter-refused : (m : Matter) (r : Refusal) (a : GateAnswer) → m ≡ Mat.Refused r → a ≡ refusalAnswer r → a ≡ matterNumbers m
+unfolding matterNumbers
+matter-refused m r a e f = rw e f
+
+pub matter-matters : (m : Matter) (a : GateAnswer) → m ≡ Mat.Matters → a ≡ wordAnswer 9 → a ≡ matterNumbers m
+unfolding matterNumbers
+matter-matters m a e f = rw e f
+
+pub matter-settled : (m : Matter) (p : Place) (a : GateAnswer) → m ≡ Mat.Settled p → a ≡ placeNumbers p → a ≡ matterNumbers m
+unfolding matterNumbers
+matter-settled m p a e f = rw e f
+
+pub matter-numbers : (o : Outcome (Option Place)) (m : Matter) (a : GateAnswer) → m ≡ matterOf o → a ≡ matterNumbers m → a ≡ mattersAnswer o
+unfolding matterNumbers mattersAnswer
+matter-numbers (refused r) m a e f = rw e at f
+matter-numbers (answered none) m a e f = rw e at f
+matter-numbers (answered (some p)) m a e f = rw e at f
 
 pub parts-found : (x : Unpacked) (p : Parts) (a : GateParts) → x ≡ Un.Parts p → a ≡ foundParts p → a ≡ partsNumbers x
 unfolding partsNumbers

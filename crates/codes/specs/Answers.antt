@@ -1,6 +1,7 @@
 -- Document 01, "The inetd on the box is C and calls by bytes and numbers": what it gets back.
 --   granted, denied, ..                       == the paper's words, each with its number
 --   verdictAnswer, byuidAnswer, portaclAnswer == a decision as numbers: number 0 stands for "answered", word 0 for no word
+--   mattersAnswer                             == whether the name matters; where it does not, verdict, file and line
 --   checkAnswer, partsAnswer                  == what checking and unpacking a sheet answer
 --   writtenAnswer                             == what a call that writes answers
 --   commandAnswer                             == what a call that decides and expands answers
@@ -12,6 +13,7 @@
 use Prim.Native.Nat.{ℕ}
 use Prim.Native.String.{String}
 use mathlib.Core.List.{List}
+use mathlib.Core.Option.{Option, none, some}
 use lib.ListN.{length}
 use Rattle.text.specs.Text.{bytes}
 use Rattle.section.specs.declared.Refusal.{Refusal}
@@ -28,6 +30,7 @@ use Rattle.portacl.specs.declared.Decision.{Decision as PortaclDecision}
 use Rattle.portacl.specs.declared.Decision.the-variants as P
 use Rattle.authbind.specs.Authbind as Authbind
 use Rattle.sheet.specs.declared.Parts.{Parts}
+use Rattle.matters.specs.declared.Place.{Place}
 use Rattle.codes.specs.declared.GateAnswer.{GateAnswer}
 use Rattle.codes.specs.declared.GateCheck.{GateCheck}
 use Rattle.codes.specs.declared.GateCommand.{GateCommand}
@@ -70,6 +73,10 @@ test = word "test" 7
 
 abbrev pub read : Word
 read = word "read" 8
+
+-- document 02, request 14: "tell us whether it can change anything"
+abbrev pub nameMatters : Word
+nameMatters = word "name matters" 9
 
 abbrev pub verdictWord : Verdict → Word
 verdictWord Ver.Granted = granted
@@ -121,6 +128,24 @@ answerNumbers a n = record {
 unfoldable pub verdictAnswer : Outcome Answer → ℕ → GateAnswer
 verdictAnswer (refused r) n = refusalAnswer r
 verdictAnswer (answered a) n = answerNumbers a n
+
+-- document 02, request 14: "When it says no, also give the one verdict, file and line that all names get"
+abbrev pub placeNumbers : Place → GateAnswer
+placeNumbers p = record {
+  number = 0;
+  section = 0;
+  line = p .line;
+  word = verdictWord (p .verdict) .number;
+  file = fileSection (p .file);
+  place = 0;
+  len = 0;
+  looked = 0;
+}
+
+unfoldable pub mattersAnswer : Outcome (Option Place) → GateAnswer
+mattersAnswer (refused r) = refusalAnswer r
+mattersAnswer (answered none) = wordAnswer (nameMatters .number)
+mattersAnswer (answered (some p)) = placeNumbers p
 
 unfoldable pub byuidAnswer : Outcome ByuidDecision → GateAnswer
 byuidAnswer (refused r) = refusalAnswer r

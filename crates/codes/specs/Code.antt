@@ -45,6 +45,8 @@ use Rattle.rules.specs.declared.Answer.{Answer}
 use Rattle.rules.specs.declared.Reported.{Reported}
 use Rattle.rules.specs.declared.Ruling.{Ruling as VerdictRuling}
 use Rattle.rules.specs.declared.Ruling.the-variants as Ver
+use Rattle.matters.specs.declared.Matter.{Matter}
+use Rattle.matters.specs.declared.Matter.the-variants as Mat
 use Rattle.sheet.specs.declared.unpack.Unpacked.{Unpacked}
 use Rattle.sheet.specs.declared.unpack.Unpacked.the-variants as Un
 use Rattle.codes.specs.declared.GateAnswer.{GateAnswer}
@@ -58,7 +60,7 @@ use Rattle.codes.specs.declared.GateAddress.{GateAddress}
 use Rattle.codes.specs.declared.request.States.{States}
 use Rattle.codes.specs.declared.request.Target.{Target}
 use Rattle.codes.specs.Answers.{byuidWord, portaclWord, refusalAnswer, wordAnswer, answerNumbers, refusedCheck, accepted, refusedParts, foundParts, refusedWritten, countWritten}
-use Rattle.codes.specs.Answers.{refusedTwo, countTwo, withCount, refusedNext, nextWith, granted, denied, notRuled, test, read, refusedAddress, addressNumbers}
+use Rattle.codes.specs.Answers.{nameMatters, placeNumbers, refusedTwo, countTwo, withCount, refusedNext, nextWith, granted, denied, notRuled, test, read, refusedAddress, addressNumbers}
 use Rattle.codes.specs.Requests.{nameState, userState, addressOf, protocolOf, markOf, isPort, RequestNumbers, knownName, knownUser}
 
 -- ## Requests
@@ -152,6 +154,11 @@ rulingNumbers (Ver.Answered a) n = answerNumbers a n
 
 unfoldable pub verdictNumbers : Reported → GateAnswer
 verdictNumbers x = rulingNumbers (x .ruling) (x .looked)
+
+unfoldable pub matterNumbers : Matter → GateAnswer
+matterNumbers (Mat.Refused r) = refusalAnswer r
+matterNumbers Mat.Matters = wordAnswer (nameMatters .number)
+matterNumbers (Mat.Settled p) = placeNumbers p
 
 unfoldable pub checkNumbers : Unpacked → GateCheck
 checkNumbers (Un.Refused r) = refusedCheck r

@@ -11,6 +11,8 @@ use address::Addr;
 use address::read::AddressRead;
 use authbind::Next;
 use carry::Carried;
+use matters::Matter;
+use matters::Place;
 use section::Refusal;
 use section::Written;
 use sheet::Parts;
@@ -22,8 +24,8 @@ ghost use Rattle.address.specs.declared.read.AddressRead.the-variants as R;
 ghost use Rattle.sheet.specs.declared.unpack.Unpacked.the-variants as Un;
 ghost use Rattle.authbind.specs.declared.Next.the-variants as N;
 ghost use Rattle.carry.specs.declared.Carried.the-variants as C;
-ghost use Rattle.codes.specs.Answers.{verdictWord, byuidWord, portaclWord, refusalAnswer, wordAnswer, answerNumbers, foundParts, withCount, nextWith, addressWith, addressNumbers};
-ghost use Rattle.codes.specs.Code.{byuidNumbers, portaclNumbers, verdictNumbers, checkNumbers, partsNumbers, writtenNumbers, carriedNumbers, commandWritten, nextNumbers, readNumbers};
+ghost use Rattle.codes.specs.Answers.{placeNumbers, verdictWord, byuidWord, portaclWord, refusalAnswer, wordAnswer, answerNumbers, foundParts, withCount, nextWith, addressWith, addressNumbers};
+ghost use Rattle.codes.specs.Code.{matterNumbers, byuidNumbers, portaclNumbers, verdictNumbers, checkNumbers, partsNumbers, writtenNumbers, carriedNumbers, commandWritten, nextNumbers, readNumbers};
 
 // The kind of an address that was not read: no address has it.
 pub const NO_ADDRESS: u32 = 255;
@@ -146,6 +148,34 @@ pub fn verdict_numbers(r: rules::Reported) -> GateAnswer
     match ruling {
         rules::Ruling::Refused(refusal) => refused(refusal),
         rules::Ruling::Answered(answer) => verdict_word(answer, r.looked),
+    }
+}
+
+fn place_word(p: Place) -> GateAnswer
+    ensures { λ r. ⌜ r ≡ placeNumbers p ⌝ }
+{
+    let verdict = p.verdict;
+    let file = p.file;
+    GateAnswer {
+        number: 0,
+        section: 0,
+        line: p.line as u64,
+        word: verdict_code(verdict),
+        file: file_section(file),
+        place: 0,
+        len: 0,
+        looked: 0,
+    }
+}
+
+// Whether the name matters, as numbers.
+pub fn matter_numbers(m: Matter) -> GateAnswer
+    ensures { λ a. ⌜ a ≡ matterNumbers m ⌝ }
+{
+    match m {
+        Matter::Refused(refusal) => refused(refusal),
+        Matter::Matters => word(9),
+        Matter::Settled(place) => place_word(place),
     }
 }
 

@@ -74,7 +74,7 @@ fn at_sign(e: &[u8]) -> usize
 }
 
 // The same, by the classes of the bytes of e: most elements have no `@`.
-fn sign_place(e: &[u8], mask: u8) -> usize
+pub fn sign_place(e: &[u8], mask: u8) -> usize
     requires { ⌜ Describes mask (now e) ⌝ }
     ensures place { λ r. ⌜ r ≡ atSign (now (e .entry)) ⌝ }
     ensures within { λ r. do ⌜ r ≤ (← ⟦e.len()⟧ .entry) ⌝ }

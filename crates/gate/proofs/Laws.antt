@@ -48,6 +48,9 @@ use Rattle.portacl.specs.Portacl as Portacl
 use Rattle.portacl.specs.Portacl.{portaclFault, portaclDecision, decidePortacl}
 use Rattle.sheet.specs.declared.Parts.{Parts}
 use Rattle.sheet.specs.Sheet.{unpack}
+use Rattle.matters.specs.declared.Place.{Place}
+use Rattle.matters.specs.declared.Matter.{Matter}
+use Rattle.matters.specs.Matters.{settled, mattersOver, nameMatters, nameMattersTables, nameMattersSheet, matterOf}
 use Rattle.station.specs.Station.{inSheet, decideSheet, lookedIn, lookedSheet, decideByuidSheet, decidePortaclSheet}
 use Rattle.codes.specs.declared.GateAddress.{GateAddress}
 use Rattle.codes.specs.declared.GateAnswer.{GateAnswer}
@@ -56,12 +59,12 @@ use Rattle.codes.specs.declared.GateNext.{GateNext}
 use Rattle.codes.specs.declared.GateWritten.{GateWritten}
 use Rattle.codes.specs.declared.request.Target.{Target}
 use Rattle.codes.specs.Requests.{RequestNumbers, request, addressOf, byuidBind, byuidFileBind, authbindAsked, portaclBind, writeBy}
-use Rattle.codes.specs.Answers.{verdictAnswer, byuidAnswer, portaclAnswer, writtenAnswer, addressAnswer, Command, together, refusalAnswer, withCount, commandAnswer, nextAnswer}
+use Rattle.codes.specs.Answers.{mattersAnswer, verdictAnswer, byuidAnswer, portaclAnswer, writtenAnswer, addressAnswer, Command, together, refusalAnswer, withCount, commandAnswer, nextAnswer}
 use Rattle.codes.specs.Code.{addrBy, markBy, portBy, addressBy, addressFrom, targetOf}
-use Rattle.codes.specs.Code.{verdictNumbers, byuidNumbers, portaclNumbers, writtenNumbers, commandWritten, nextNumbers, readNumbers}
+use Rattle.codes.specs.Code.{matterNumbers, verdictNumbers, byuidNumbers, portaclNumbers, writtenNumbers, commandWritten, nextNumbers, readNumbers}
 use Rattle.gate.specs.Calls.{gateCommand, gateSheetCommand}
 use Rattle.codes.proofs.RequestLaws.{byuid-read, byuid-file-read, authbind-read, portacl-read}
-use Rattle.codes.proofs.AnswerLaws.{verdict-numbers, byuid-numbers, portacl-numbers, written-numbers, next-numbers, read-numbers, together-refused, together-kept, together-written, together-holds}
+use Rattle.codes.proofs.AnswerLaws.{matter-numbers, verdict-numbers, byuid-numbers, portacl-numbers, written-numbers, next-numbers, read-numbers, together-refused, together-kept, together-written, together-holds}
 
 -- ## Verdicts and expansion: the request that was read is answered as the one handed over
 
@@ -122,6 +125,38 @@ module _ (names : List ℕ) (q : Places) (n : RequestNumbers)
       → o ≡ reported (decideSheet sheet (some (requestAt names q))) (lookedSheet sheet (some (requestAt names q)))
       → a ≡ verdictNumbers o → a ≡ verdictAnswer (decideSheet sheet (request n)) (lookedSheet sheet (request n))
   sheet-verdict-by sheet o a e f = verdict-numbers _ _ o a e f ∙ ap₂ verdictAnswer (sheet-read sheet) (sheet-looked-read sheet)
+
+  over-matters : (ts : List Table) (allow deny : List ℕ) → mattersOver ts allow deny (some (requestAt names q)) ≡ mattersOver ts allow deny (request n)
+  over-matters ts allow deny =
+      fitting-same wellFormed (λ r. answered (settled (matchOf ts) allow deny (held r))) (some (requestAt names q)) (request n) same
+
+  pub matters-by : (allow deny : List ℕ) (m : Matter) (a : GateAnswer) → m ≡ matterOf (nameMatters allow deny (some (requestAt names q)))
+      → a ≡ matterNumbers m → a ≡ mattersAnswer (nameMatters allow deny (request n))
+  unfolding nameMatters
+  matters-by allow deny m a e f =
+      matter-numbers _ m a e f
+      ∙ ap₂ (λ (x : Outcome Answer) (y : Outcome (Option Place)). mattersAnswer (x >>= λ b. y)) (decide-read allow deny) (over-matters [] allow deny)
+
+  pub tables-matters-by : (allow deny tables : List ℕ) (m : Matter) (a : GateAnswer)
+      → m ≡ matterOf (nameMattersTables allow deny tables (some (requestAt names q)))
+      → a ≡ matterNumbers m → a ≡ mattersAnswer (nameMattersTables allow deny tables (request n))
+  unfolding nameMattersTables
+  tables-matters-by allow deny tables m a e f =
+      matter-numbers _ m a e f
+      ∙ ap₂ (λ (x : Outcome Answer) (y : Outcome (Option Place)). mattersAnswer (x >>= λ b. y))
+      (tables-read allow deny tables) (over-matters (tablesOf tables) allow deny)
+
+  pub sheet-matters-by : (sheet : List ℕ) (m : Matter) (a : GateAnswer) → m ≡ matterOf (nameMattersSheet sheet (some (requestAt names q)))
+      → a ≡ matterNumbers m → a ≡ mattersAnswer (nameMattersSheet sheet (request n))
+  unfolding nameMattersSheet
+  sheet-matters-by sheet m a e f =
+      matter-numbers _ m a e f
+      ∙ ap₂ (λ (x : Outcome Answer) (y : Outcome (Option Place)). mattersAnswer (x >>= λ b. y)) (sheet-read sheet) (by (unpack sheet))
+    where
+      by : (u : Outcome Parts) → (u >>= λ p. mattersOver (tablesOf (bytesAt sheet (p .tables))) (bytesAt sheet (p .allow)) (bytesAt sheet (p .deny)) (some (requestAt names q)))
+          ≡ (u >>= λ p. mattersOver (tablesOf (bytesAt sheet (p .tables))) (bytesAt sheet (p .allow)) (bytesAt sheet (p .deny)) (request n))
+      by (refused r) = refl
+      by (answered p) = over-matters (tablesOf (bytesAt sheet (p .tables))) (bytesAt sheet (p .allow)) (bytesAt sheet (p .deny))
 
   module _ (command out : List ℕ) (process : ℕ) where
     expand-read : expand command (some (requestAt names q)) process (length out) ≡ expand command (request n) process (length out)

@@ -21,6 +21,7 @@ use Rattle.portacl.specs.Portacl.{decidePortacl}
 use Rattle.sheet.specs.Sheet as Sheet
 use Rattle.sheet.specs.Sheet.{Texts}
 use Rattle.station.specs.Station.{decideSheet, lookedSheet, decideByuidSheet, decidePortaclSheet}
+use Rattle.matters.specs.Matters.{nameMatters, nameMattersTables, nameMattersSheet}
 use Rattle.codes.specs.declared.GateAddress.{GateAddress}
 use Rattle.codes.specs.declared.GateAnswer.{GateAnswer}
 use Rattle.codes.specs.declared.GateCheck.{GateCheck}
@@ -31,7 +32,7 @@ use Rattle.codes.specs.declared.GateWritten.{GateWritten}
 use Rattle.codes.specs.declared.GateWrittenTwo.{GateWrittenTwo}
 use Rattle.codes.specs.Requests.{RequestNumbers, request, byuidBind, byuidFileBind, authbindAsked, portaclBind, writeBy}
 use Rattle.codes.specs.Answers.{verdictAnswer, byuidAnswer, portaclAnswer, checkAnswer, partsAnswer, writtenAnswer, addressAnswer, Command, together, commandAnswer}
-use Rattle.codes.specs.Answers.{nextAnswer, carriedAnswer}
+use Rattle.codes.specs.Answers.{nextAnswer, carriedAnswer, mattersAnswer}
 
 -- ## Decisions
 
@@ -45,6 +46,16 @@ gateTablesVerdict allow deny tables n = verdictAnswer (decideTables allow deny t
 
 abbrev pub gateSheetVerdict : List ℕ → RequestNumbers → GateAnswer
 gateSheetVerdict sheet n = verdictAnswer (decideSheet sheet (request n)) (lookedSheet sheet (request n))
+
+-- document 02, request 14: by two texts, over the tables of a section five, and by a sheet
+abbrev pub gateNameMatters : List ℕ → List ℕ → RequestNumbers → GateAnswer
+gateNameMatters allow deny n = mattersAnswer (nameMatters allow deny (request n))
+
+abbrev pub gateTablesNameMatters : List ℕ → List ℕ → List ℕ → RequestNumbers → GateAnswer
+gateTablesNameMatters allow deny tables n = mattersAnswer (nameMattersTables allow deny tables (request n))
+
+abbrev pub gateSheetNameMatters : List ℕ → RequestNumbers → GateAnswer
+gateSheetNameMatters sheet n = mattersAnswer (nameMattersSheet sheet (request n))
 
 abbrev pub gateByuid : List ℕ → ℕ → ℕ → ℕ → ℕ → ℕ → ℕ → GateAnswer
 gateByuid text mark port kind high low uid = byuidAnswer (decideByuid text (byuidFileBind mark port kind high low uid))

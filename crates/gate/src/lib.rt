@@ -1,6 +1,7 @@
 // The gate's calls for C: bytes as slices, all else as numbers; include/gate.h declares them, codes says what the numbers mean.
 //   gate_verdict, gate_tables_verdict, gate_byuid, gate_portacl == the decisions by texts handed in
 //   gate_sheet_verdict, gate_sheet_byuid, gate_sheet_portacl == the decisions by a sheet
+//   gate_name_matters, gate_tables_name_matters, gate_sheet_name_matters == whether the user's name can matter to a verdict
 //   gate_check, gate_unpack, gate_pack     == sheets checked, unpacked and packed
 //   gate_upgrade                           == a sheet of four sections with an empty count of tables
 //   gate_convert                           == a byuid text with its lines of the retired form in their new one
@@ -27,7 +28,7 @@ ghost use Rattle.sheet.specs.Sheet.{texts};
 ghost use Rattle.codes.specs.Requests.{hostNumbers, requestNumbers, settingsOf};
 ghost use Rattle.gate.specs.Calls.{gateVerdict, gateTablesVerdict, gateSheetVerdict, gateByuid, gateSheetByuid, gatePortacl, gateSheetPortacl};
 ghost use Rattle.gate.specs.Calls.{gateCheck, gateUnpack, gateReadAddress, gatePack, gateUpgrade, gateExpand, gateCommand, gateSheetCommand, gateWriteAddress};
-ghost use Rattle.gate.specs.Calls.{gateAuthbind, gateConvert, gateCarry};
+ghost use Rattle.gate.specs.Calls.{gateAuthbind, gateConvert, gateCarry, gateNameMatters, gateTablesNameMatters, gateSheetNameMatters};
 
 // The verdict by two texts.
 #[no_mangle]
@@ -572,4 +573,145 @@ pub extern "C" fn gate_carry(
     ensures upper { λ _. ⌜ now (marked .exit) ≡ gateCarry (now (text .entry)) uid (now (plain .entry)) (now (marked .entry)) .marked ⌝ }
 {
     codes::answer::carried_numbers(carry::carry(plain, marked, text, uid))
+}
+
+// Whether the user's name can matter to the verdict by two texts.
+#[no_mangle]
+pub extern "C" fn gate_name_matters(
+    allow: &[u8],
+    deny: &[u8],
+    daemon: &[u8],
+    client_state: u32,
+    client_kind: u32,
+    client_high: u64,
+    client_low: u64,
+    client_name: &[u8],
+    server_state: u32,
+    server_kind: u32,
+    server_high: u64,
+    server_low: u64,
+    server_name: &[u8],
+    user: u32,
+    user_name: &[u8],
+) -> GateAnswer
+    ensures { λ r.
+        ⌜ r
+        ≡ gateNameMatters (now (allow .entry)) (now (deny .entry))
+        (requestNumbers (now (daemon .entry)) (hostNumbers «client_state» «client_kind» «client_high» «client_low») (now («client_name» .entry))
+        (hostNumbers «server_state» «server_kind» «server_high» «server_low») (now («server_name» .entry)) user (now («user_name» .entry))) ⌝ }
+{
+    let mut names = [0u8; codes::request::NAMES];
+    let request = codes::request::read(
+        &mut names,
+        daemon,
+        client_state,
+        client_kind,
+        client_high,
+        client_low,
+        client_name,
+        server_state,
+        server_kind,
+        server_high,
+        server_low,
+        server_name,
+        user,
+        user_name,
+    );
+    codes::answer::matter_numbers(matters::name_matters(allow, deny, &names, request))
+}
+
+// The same over the tables of a section five.
+#[no_mangle]
+pub extern "C" fn gate_tables_name_matters(
+    allow: &[u8],
+    deny: &[u8],
+    tables: &[u8],
+    daemon: &[u8],
+    client_state: u32,
+    client_kind: u32,
+    client_high: u64,
+    client_low: u64,
+    client_name: &[u8],
+    server_state: u32,
+    server_kind: u32,
+    server_high: u64,
+    server_low: u64,
+    server_name: &[u8],
+    user: u32,
+    user_name: &[u8],
+) -> GateAnswer
+    ensures { λ r.
+        ⌜ r
+        ≡ gateTablesNameMatters (now (allow .entry)) (now (deny .entry)) (now (tables .entry))
+        (requestNumbers (now (daemon .entry)) (hostNumbers «client_state» «client_kind» «client_high» «client_low») (now («client_name» .entry))
+        (hostNumbers «server_state» «server_kind» «server_high» «server_low») (now («server_name» .entry)) user (now («user_name» .entry))) ⌝ }
+{
+    let mut names = [0u8; codes::request::NAMES];
+    let request = codes::request::read(
+        &mut names,
+        daemon,
+        client_state,
+        client_kind,
+        client_high,
+        client_low,
+        client_name,
+        server_state,
+        server_kind,
+        server_high,
+        server_low,
+        server_name,
+        user,
+        user_name,
+    );
+    codes::answer::matter_numbers(matters::name_matters_tables(
+        allow,
+        deny,
+        tables,
+        &names,
+        request,
+    ))
+}
+
+// The same by a sheet.
+#[no_mangle]
+pub extern "C" fn gate_sheet_name_matters(
+    sheet: &[u8],
+    daemon: &[u8],
+    client_state: u32,
+    client_kind: u32,
+    client_high: u64,
+    client_low: u64,
+    client_name: &[u8],
+    server_state: u32,
+    server_kind: u32,
+    server_high: u64,
+    server_low: u64,
+    server_name: &[u8],
+    user: u32,
+    user_name: &[u8],
+) -> GateAnswer
+    ensures { λ r.
+        ⌜ r
+        ≡ gateSheetNameMatters (now (sheet .entry))
+        (requestNumbers (now (daemon .entry)) (hostNumbers «client_state» «client_kind» «client_high» «client_low») (now («client_name» .entry))
+        (hostNumbers «server_state» «server_kind» «server_high» «server_low») (now («server_name» .entry)) user (now («user_name» .entry))) ⌝ }
+{
+    let mut names = [0u8; codes::request::NAMES];
+    let request = codes::request::read(
+        &mut names,
+        daemon,
+        client_state,
+        client_kind,
+        client_high,
+        client_low,
+        client_name,
+        server_state,
+        server_kind,
+        server_high,
+        server_low,
+        server_name,
+        user,
+        user_name,
+    );
+    codes::answer::matter_numbers(matters::name_matters_sheet(sheet, &names, request))
 }

@@ -152,7 +152,7 @@ module _ (m : List ℕ → Found) (c : List ℕ → ℕ) (s rest w : List ℕ) (
 -- ## One rule
 
 module _ (v : View) (q : Request) where
-  ruleFound-lists : (ds cs : List (List ℕ)) (k : List ℕ)
+  pub ruleFound-lists : (ds cs : List (List ℕ)) (k : List ℕ)
       → viewFound v q (rule ds cs k)
       ≡ onFound (included (daemonFinds v (q .daemon) (q .server)) ds) (included (clientFinds v (q .client) (q .user) (q .userName)) cs) No
   unfolding ruleFoundBy

@@ -61,7 +61,7 @@ use Rattle.rules.proofs.JoinLaws.{ruleExamined-join, isEmpty-trimmed}
 
 -- ## The kind of a line
 
-kind-lowest : (l : Line)
+pub kind-lowest : (l : Line)
     → lowest
     ((F.Unended, not (l .ended))
     ∷ (F.BadByte, not (isComment l) && hasBadByte (join (l .raw)))

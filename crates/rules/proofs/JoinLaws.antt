@@ -29,7 +29,7 @@ use Rattle.rules.specs.FileCode.{Query, queryFound, queryLooked, examine
 
 -- ## Parting at a separator
 
-abbrev joinParts : Option (List ℕ × List ℕ) → Option (List ℕ × List ℕ)
+abbrev pub joinParts : Option (List ℕ × List ℕ) → Option (List ℕ × List ℕ)
 joinParts none = none
 joinParts (some p) = some (join (p .0), join (p .1))
 
@@ -97,7 +97,7 @@ splitSeparator-two b x y t true e h k =
 splitSeparator-two b x y t false e h k =
     ap (splitSeparator b) (join-kept x y t e) ∙ parts-cons b x (y ∷ t) (ap (consFirst x) k ∙ joinParts-byte x y t (insideAfter b x) e)
 
-splitSeparator-join : (b : Bool) (t : List ℕ) → splitSeparator b (join t) ≡ joinParts (splitSeparator b t)
+pub splitSeparator-join : (b : Bool) (t : List ℕ) → splitSeparator b (join t) ≡ joinParts (splitSeparator b t)
 unfolding splitSeparator join
 splitSeparator-join b [] = refl
 splitSeparator-join b (x ∷ []) = splitSeparator-one b x
@@ -106,7 +106,7 @@ splitSeparator-join b (x ∷ y ∷ t) =
 
 -- ## What holds no newline
 
-abbrev AllParts : (ℕ → Bool) → Option (List ℕ × List ℕ) → Type 0
+abbrev pub AllParts : (ℕ → Bool) → Option (List ℕ × List ℕ) → Type 0
 AllParts q none = Unit {0}
 AllParts q (some p) = (all q (p .0) ≡ true) × (all q (p .1) ≡ true)
 
@@ -122,10 +122,10 @@ splitSeparator-all q b (x ∷ t) e =
     by false none f g h = tt
     by false (some p) f g h = (rw f (h .0), h .1)
 
-joined-all : (s : List ℕ) → NoNewline (join s) → AllParts isNoNewline (joinParts (splitSeparator false s))
+pub joined-all : (s : List ℕ) → NoNewline (join s) → AllParts isNoNewline (joinParts (splitSeparator false s))
 joined-all s h = rw (← (splitSeparator-join false s)) (splitSeparator-all isNoNewline false (join s) h)
 
-elements-join : (s : List ℕ) → NoNewline (join s) → elements (join s) ≡ elements s
+pub elements-join : (s : List ℕ) → NoNewline (join s) → elements (join s) ≡ elements s
 unfolding elements
 elements-join s h = rw (join-clean (join s) h)
 
@@ -136,7 +136,7 @@ hasBadPercent-join s h = rw (join-clean (join s) h)
 -- ## A rule
 
 -- the parts of a line, as a rule
-abbrev ruleBy : List ℕ × List ℕ → Option (List ℕ × List ℕ) → Rule
+abbrev pub ruleBy : List ℕ × List ℕ → Option (List ℕ × List ℕ) → Rule
 ruleBy p o = let q : List ℕ × List ℕ = Option·getD o (p .1, []) in rule (elements (p .0)) (elements (q .0)) (q .1)
 
 module _ (b : Bool) (r : Query) where

@@ -100,7 +100,7 @@ module _ (s m : Matcher) (r : Request) where
       by none = refl
       by (some p) = both (daemonName (p .0)) (patternWith s (p .1)) (patternWith m (p .1)) (pattern-at s m (r .server) same (p .1))
 
-  client-at : ((n : List ℕ) → s n (r .client) ≡ m n (r .client)) → (e : List ℕ) → lookAt r (clientElement s e) ≡ lookAt r (clientElement m e)
+  pub client-at : ((n : List ℕ) → s n (r .client) ≡ m n (r .client)) → (e : List ℕ) → lookAt r (clientElement s e) ≡ lookAt r (clientElement m e)
   unfolding clientElement clientParts
   client-at same e = by (halves e)
     where

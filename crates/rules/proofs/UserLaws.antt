@@ -150,7 +150,7 @@ module _ (m : Matcher) (r : Request) (t₀ : List ℕ) (u : User) (t : List ℕ)
       by none h = name (patternWith m e)
       by (some p) h = half (userHalf (p .0)) (patternWith m (p .1)) h
 
-  rule-same : (x : Rule) → Quiet (ruleFound m unasked x) → ruleFound m asked x ≡ ruleFound m unasked x
+  pub rule-same : (x : Rule) → Quiet (ruleFound m unasked x) → ruleFound m asked x ≡ ruleFound m unasked x
   unfolding ruleFoundBy
   rule-same x h = onFound-same
       (included (λ e. lookAt unasked (daemonElement m e)) (x .daemons)) (included (λ e. lookAt asked (daemonElement m e)) (x .daemons))
@@ -252,7 +252,7 @@ module _ (m : List ℕ → Found) (quiet : (w : List ℕ) → Quiet (m w)) where
   mutual
     unfolding included excluded
 
-    included-quiet : (ws : List (List ℕ)) → Quiet (included m ws)
+    pub included-quiet : (ws : List (List ℕ)) → Quiet (included m ws)
     included-quiet [] = tt
     included-quiet (w ∷ ws) =
         if-quiet (isExcept w) No (onFound (m w) (excluded m ws) (included m ws)) tt
@@ -265,7 +265,7 @@ module _ (m : List ℕ → Found) (quiet : (w : List ℕ) → Quiet (m w)) where
         (onFound-quiet (included m ws) No Yes (included-quiet ws) tt tt) (excluded-quiet ws)
 
 module _ (m : Matcher) (r : Request) (fetched : Fetched (r .user)) where
-  daemon-quiet : (e : List ℕ) → Quiet (lookAt r (daemonElement m e))
+  pub daemon-quiet : (e : List ℕ) → Quiet (lookAt r (daemonElement m e))
   unfolding daemonElement daemonParts
   daemon-quiet e = by (halves e)
     where
@@ -306,7 +306,7 @@ module _ (m : Matcher) (r : Request) (fetched : Fetched (r .user)) where
       by none = name (patternWith m e)
       by (some p) = half (userHalf (p .0)) (patternWith m (p .1))
 
-  rule-quiet : (x : Rule) → Quiet (ruleFound m r x)
+  pub rule-quiet : (x : Rule) → Quiet (ruleFound m r x)
   unfolding ruleFoundBy
   rule-quiet x = onFound-quiet (included (λ e. lookAt r (daemonElement m e)) (x .daemons)) (included (λ e. lookAt r (clientElement m e)) (x .clients)) No
       (included-quiet (λ e. lookAt r (daemonElement m e)) daemon-quiet (x .daemons))

@@ -89,7 +89,7 @@ pub fn tallied(pass: Pass, looked: u64) -> Tally
 }
 
 // The kind of a line that was scanned.
-fn kind_of_line(raw: &[u8], span: LineSpan) -> LineKind
+pub fn kind_of_line(raw: &[u8], span: LineSpan) -> LineKind
     requires { ⌜ ScannedLine (now raw) span ⌝ }
     ensures { λ r. ⌜ r ≡ lineKind (line 0 0 (now (raw .entry)) (span .ended)) ⌝ }
 {

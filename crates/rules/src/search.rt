@@ -36,7 +36,7 @@ pub enum Finding {
 }
 
 // Notes on at most 64 tables for a request.
-fn notes_on(tables: &[u8], names: &[u8], request: Request) -> [u64; 131]
+pub fn notes_on(tables: &[u8], names: &[u8], request: Request) -> [u64; 131]
     requires { ⌜ length (tablesIn (now tables)) ≤ 64 ⌝ }
     ensures { λ r. ⌜ Noted (tablesIn (now (tables .entry))) (requestAt (now (names .entry)) request) r ⌝ }
 {

@@ -26,6 +26,23 @@ fn ruling(a: GateAnswer, whole: &[u8]) {
     report::end_line();
 }
 
+// The word that says that the name matters.
+const NAME_MATTERS: u32 = 9;
+
+// Whether the name matters, or the verdict, file and line that every user gets.
+fn matter(a: GateAnswer) {
+    if report::refused(a.number, a.section, a.line) {
+        return;
+    }
+    if a.word == NAME_MATTERS {
+        report::text(b"name matters");
+    } else {
+        report::word(a.word as usize);
+        rule(a.file, a.line);
+    }
+    report::end_line();
+}
+
 fn rule(file: u32, line: u64) {
     report::word(std::num::wrapping_add_usize(report::NO_FILE, file as usize));
     if file != 0 {
@@ -181,6 +198,69 @@ fn sheet_verdict(case: &[u8]) {
         cases::name(case, 6),
     );
     ruling(a, sheet);
+}
+
+fn name_matters(case: &[u8]) {
+    let r = read_request(case);
+    matter(gate::gate_name_matters(
+        cases::field(case, 7),
+        cases::field(case, 8),
+        cases::field(case, 1),
+        r.client_state,
+        r.client_kind,
+        r.client_high,
+        r.client_low,
+        cases::name(case, 2),
+        r.server_state,
+        r.server_kind,
+        r.server_high,
+        r.server_low,
+        cases::name(case, 4),
+        r.user,
+        cases::name(case, 6),
+    ));
+}
+
+fn tables_name_matters(case: &[u8]) {
+    let r = read_request(case);
+    matter(gate::gate_tables_name_matters(
+        cases::field(case, 7),
+        cases::field(case, 8),
+        cases::field(case, 9),
+        cases::field(case, 1),
+        r.client_state,
+        r.client_kind,
+        r.client_high,
+        r.client_low,
+        cases::name(case, 2),
+        r.server_state,
+        r.server_kind,
+        r.server_high,
+        r.server_low,
+        cases::name(case, 4),
+        r.user,
+        cases::name(case, 6),
+    ));
+}
+
+fn sheet_name_matters(case: &[u8]) {
+    let r = read_request(case);
+    matter(gate::gate_sheet_name_matters(
+        cases::field(case, 7),
+        cases::field(case, 1),
+        r.client_state,
+        r.client_kind,
+        r.client_high,
+        r.client_low,
+        cases::name(case, 2),
+        r.server_state,
+        r.server_kind,
+        r.server_high,
+        r.server_low,
+        cases::name(case, 4),
+        r.user,
+        cases::name(case, 6),
+    ));
 }
 
 // A request for a byuid decision, in the fields 1 to 3: port, address, uid.
@@ -465,13 +545,13 @@ fn carry(case: &[u8], out: &mut [u8]) {
 
 fn write(call: usize, case: &[u8], out: &mut [u8]) {
     match call {
-        9 => pack(case, out),
-        10 => upgrade(case, out),
-        11 => expand(case, out),
-        12 => read_address(case, out),
-        13 => write_address(case, out),
-        14 => convert(case, out),
-        15 => authbind(case, out),
+        12 => pack(case, out),
+        13 => upgrade(case, out),
+        14 => expand(case, out),
+        15 => read_address(case, out),
+        16 => write_address(case, out),
+        17 => convert(case, out),
+        18 => authbind(case, out),
         _ => carry(case, out),
     }
 }
@@ -484,12 +564,15 @@ fn answer(call: usize, case: &[u8]) {
         0 => verdict(case),
         1 => tables_verdict(case),
         2 => sheet_verdict(case),
-        3 => byuid(case),
-        4 => sheet_byuid(case),
-        5 => portacl(case),
-        6 => sheet_portacl(case),
-        7 => check(case),
-        8 => unpack(case),
+        3 => name_matters(case),
+        4 => tables_name_matters(case),
+        5 => sheet_name_matters(case),
+        6 => byuid(case),
+        7 => sheet_byuid(case),
+        8 => portacl(case),
+        9 => sheet_portacl(case),
+        10 => check(case),
+        11 => unpack(case),
         _ => lend(call, case),
     }
 }
@@ -508,15 +591,16 @@ fn malformed(line: &[u8]) {
 // The place of a case's call. A call is written as its name, a colon and the kinds of its fields: t a text, n a number, . no more.
 fn call(case: &[u8]) -> usize {
     cases::call(
-        b"verdict:tttttttt. tables_verdict:ttttttttt. sheet_verdict:ttttttt. byuid:ntnnt. sheet_byuid:ntnt. portacl:nnnnnnntn \
-          sheet_portacl:nnnnnnntn check:t. unpack:t. pack:ntttttt. upgrade:ntt. expand:ttttttnnt. read_address:t. write_address:nt. convert:nt. authbind:nntnt. carry:nnnttt.",
+        b"verdict:tttttttt. tables_verdict:ttttttttt. sheet_verdict:ttttttt. name_matters:tttttttt. tables_name_matters:ttttttttt. \
+          sheet_name_matters:ttttttt. byuid:ntnnt. sheet_byuid:ntnt. portacl:nnnnnnntn sheet_portacl:nnnnnnntn check:t. unpack:t. \
+          pack:ntttttt. upgrade:ntt. expand:ttttttnnt. read_address:t. write_address:nt. convert:nt. authbind:nntnt. carry:nnnttt.",
         case,
     )
 }
 
 fn run_case(line: &[u8], case: &[u8]) {
     let place = call(case);
-    if 16 < place {
+    if 19 < place {
         malformed(line);
         return;
     }

@@ -1,0 +1,2 @@
+pub mod Matters
+pub mod Code
