@@ -38,7 +38,7 @@
 extern "C" {
 #endif
 
-#define GATE_VERSION "4.1.0"
+#define GATE_VERSION "4.2.0"
 
 /* Numbers: of an answer, or of a refusal. */
 enum gate_number {
@@ -103,6 +103,9 @@ enum gate_section {
 #define GATE_ADDRESS_ROOM 39
 #define GATE_AUTHBIND_ROOM 66 /* for a name of gate_authbind: /etc/authbind/byaddr/!, an address, a comma and a port of four digits */
 #define GATE_CARRY_ROOM GATE_PORTACL_LIMIT /* for each text of gate_carry: both together are never longer than the list */
+/* For the list of gate_salvage, eight bytes for each change: as many lines `x` as allow has room for, as many `ALL: ALL` as deny has, as many
+ * lines 0.0.0.0/0:0,0 as byuid has, and the entries of a portacl text of commas alone. */
+#define GATE_CHANGES_ROOM (8 * (GATE_ALLOW_LIMIT / 2 + GATE_DENY_LIMIT / 9 + (GATE_BYUID_LIMIT + 1) / 14 + GATE_PORTACL_LIMIT + 1))
 #define GATE_EXPANSION_ROOM (GATE_LINE_LIMIT / 2 * (GATE_USER_LIMIT + 1 + GATE_NAME_LIMIT) + GATE_LINE_LIMIT % 2)
 
 /* The stack that any call needs, in bytes, with a margin; the caller's own frames come on top. On x86-64 the most is some 101,700, by the
@@ -377,6 +380,18 @@ struct gate_written gate_upgrade(uint8_t *out, size_t out_len, const uint8_t *sh
 /* Writes a byuid text, from the plain or the marked file, with every line addr4/len:pmin,pmax that used to grant as addr4/len,pmin-pmax,
  * which grants the same; all other bytes stay. Refused by 2 where the text is over its limit, then by 14. text_len bytes are room enough. */
 struct gate_written gate_convert(uint8_t *out, size_t out_len, const uint8_t *text, size_t text_len);
+
+/* Writes a sheet with its bad lines and entries made harmless, so that it is accepted: every logical line of allow that is refused becomes an
+ * empty line and every one of deny `ALL: ALL`, portacl entries that are refused go, and byuid lines of the retired form are rewritten as by
+ * gate_convert; all other bytes and their order stay, the tables too. A rule whose tables are refused by 15 or 16 is such a line, and so is
+ * a last line without its newline, be it a comment. list gets eight bytes for each change: its section and its line (the entry's number for
+ * section 4), four bytes each, the most significant first, as the given sheet numbers them and in its order; none where the sheet was
+ * accepted, and then the bytes written are its own. gate_wire_number reads such a number. count is the sheet's length, other_count the list's.
+ *
+ * The frame and section five must be sound: refused by 1, 2 and 3, then by 15 and 17 for the tables; then by 2 with section 2 where deny grows
+ * past its limit, then by 14 where sheet or list has no room: then neither is written. GATE_SHEET_LIMIT and GATE_CHANGES_ROOM bytes are always
+ * room enough. out and list do not overlap. */
+struct gate_written_two gate_salvage(uint8_t *out, size_t out_len, uint8_t *list, size_t list_len, const uint8_t *sheet, size_t sheet_len);
 
 /* Writes a rule's command with its %a, %A, %n, %N, %h, %H, %u, %c, %d, %s, %p and %% replaced for a request: the command as a verdict
  * hands it back, or any other. It is joined and trimmed first. GATE_EXPANSION_ROOM bytes are always room enough. */

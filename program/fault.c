@@ -178,8 +178,7 @@ static bool lacks_tables(const struct station *station) {
     return station->refusal.section == GATE_TABLES && at == station->sheet.len;
 }
 
-/* The fault of a sheet's frame: nothing can be read from there on. */
-static size_t show_frame_fault(const struct station *station) {
+size_t show_frame_fault(const struct station *station) {
     struct gate_checked refusal = station->refusal;
     const struct text *sheet = &station->sheet;
     if (sheet->len > SHEET_MOST) {

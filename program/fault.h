@@ -12,6 +12,9 @@ size_t show_faults(const struct station *station);
 size_t show_own_faults(const struct station *station);
 size_t show_tables_faults(const struct station *station);
 
+/* The fault of a sheet's frame, where it has one: nothing can be read from there on. */
+size_t show_frame_fault(const struct station *station);
+
 /* The refusal that the gate gave, where no fault was found to show: 1, else 0. */
 size_t show_refusal(const struct station *station);
 

@@ -484,7 +484,7 @@ static int carried(struct gate_written_two w, const char *plain, const char *mar
            holds(plain, strlen(plain));
 }
 
-static int not_carried(struct gate_written_two w, uint32_t number, uint32_t section, uint64_t line) {
+static int neither_written(struct gate_written_two w, uint32_t number, uint32_t section, uint64_t line) {
     return w.number == number && w.section == section && w.line == line && w.count == 0 && w.other_count == 0 && untouched();
 }
 
@@ -495,19 +495,89 @@ static void carry(void) {
     SET(portacl, "uid:432:udp:512,uid:432:tcp:512,uid:432:tcp:80,uid:432:tcp:9,uid:432:udp:80,gid:432:udp:9,uid:432:tcp:80"), lend();
     expect("a list carried over, in exact room", carried(CARRY(21, 23, 432), "0.0.0.0/0,80\n::/0,80\n", "0.0.0.0/0,512\n::/0,512\n"));
     m = expected, memset(m.out, 0xa5, sizeof m.out), memset(m.marked, 0xa5, sizeof m.marked), lend();
-    expect("one byte less for the plain text", not_carried(CARRY(20, 80, 432), GATE_NO_ROOM, 0, 0));
-    expect("one byte less for the marked text", not_carried(CARRY(160, 22, 432), GATE_NO_ROOM, 0, 0));
-    expect("root, before room", not_carried(CARRY(0, 0, 0), GATE_BAD_REQUEST, 0, 0));
+    expect("one byte less for the plain text", neither_written(CARRY(20, 80, 432), GATE_NO_ROOM, 0, 0));
+    expect("one byte less for the marked text", neither_written(CARRY(160, 22, 432), GATE_NO_ROOM, 0, 0));
+    expect("root, before room", neither_written(CARRY(0, 0, 0), GATE_BAD_REQUEST, 0, 0));
     expect("another uid has nothing", carried(CARRY(0, 0, 433), "", ""));
     SET(portacl, "uid:432:tcp:80,x"), lend();
-    expect("a bad entry, before root", not_carried(CARRY(0, 0, 0), GATE_BAD_ENTRY, GATE_PORTACL, 2));
+    expect("a bad entry, before root", neither_written(CARRY(0, 0, 0), GATE_BAD_ENTRY, GATE_PORTACL, 2));
     m.portacl.len = 0, lend();
     expect("an empty list", carried(CARRY(0, 0, 432), "", ""));
-    expect("root, of an empty list", not_carried(CARRY(160, 80, 0), GATE_BAD_REQUEST, 0, 0));
+    expect("root, of an empty list", neither_written(CARRY(160, 80, 0), GATE_BAD_REQUEST, 0, 0));
     static uint8_t longer[GATE_PORTACL_LIMIT + 1];
     memset(longer, ',', sizeof longer);
-    expect("a list over its limit", not_carried(gate_carry(OUT(160), m.marked, 80, longer, sizeof longer, 0), GATE_OVER_LIMIT, GATE_PORTACL, 0));
-    expect("a list of commas at it", not_carried(gate_carry(OUT(160), m.marked, 80, longer, sizeof longer - 1, 0), GATE_BAD_ENTRY, GATE_PORTACL, 1));
+    expect("a list over its limit", neither_written(gate_carry(OUT(160), m.marked, 80, longer, sizeof longer, 0), GATE_OVER_LIMIT, GATE_PORTACL, 0));
+    expect("a list of commas at it", neither_written(gate_carry(OUT(160), m.marked, 80, longer, sizeof longer - 1, 0), GATE_BAD_ENTRY, GATE_PORTACL, 1));
+}
+
+/* A line of allow of no colon, one of deny without its newline, one of byuid in the retired form, an empty entry of portacl. */
+#define DAMAGED \
+    "\0\0\0\x0e" "x\nsshd: LOCAL\n" "\0\0\0\x08" "ALL: ALL" "\0\0\0\x10" "10.0.0.0/8:80,90" "\0\0\0\x0e" ",uid:80:tcp:80" "\0\0"
+#define MENDED \
+    "\0\0\0\x0d" "\nsshd: LOCAL\n" "\0\0\0\x09" "ALL: ALL\n" "\0\0\0\x10" "10.0.0.0/8,80-90" "\0\0\0\x0d" "uid:80:tcp:80" "\0\0"
+#define CHANGES "\0\0\0\1\0\0\0\1" "\0\0\0\2\0\0\0\1" "\0\0\0\3\0\0\0\1" "\0\0\0\4\0\0\0\1"
+
+/* The new sheet and the list were written, and nothing else was changed. */
+static int salvaged(struct gate_written_two w, const void *sheet, size_t sheet_len, const void *list, size_t list_len) {
+    memcpy(expected.marked, list, list_len);
+    return w.number == GATE_ANSWERED && w.section == 0 && w.line == 0 && w.count == sheet_len && w.other_count == list_len && holds(sheet, sheet_len);
+}
+
+#define SALVAGE(room, other) gate_salvage(OUT(room), m.marked, other, TEXT(sheet))
+#define REFUSES(what, sheet_bytes, number, section, line) \
+    (SET(sheet, sheet_bytes), lend(), expect(what, neither_written(SALVAGE(160, 80), number, section, line)))
+
+static void salvage(void) {
+    begin(), lend();
+    expect("an accepted sheet, and no room for a list", salvaged(SALVAGE(m.sheet.len, 0), m.sheet.bytes, m.sheet.len, "", 0));
+    begin();
+    SET(sheet, DAMAGED), lend();
+    expect("a damaged sheet in exact room", salvaged(SALVAGE(sizeof MENDED - 1, 32), MENDED, sizeof MENDED - 1, CHANGES, 32));
+    begin();
+    SET(sheet, DAMAGED), lend();
+    expect("one byte less for the sheet", neither_written(SALVAGE(sizeof MENDED - 2, 80), GATE_NO_ROOM, 0, 0));
+    expect("one byte less for the list", neither_written(SALVAGE(160, 31), GATE_NO_ROOM, 0, 0));
+    SET(sheet, MENDED), lend();
+    expect("what was salvaged is accepted", gate_check(TEXT(sheet)).number == GATE_ANSWERED && untouched());
+    expect("and stays", salvaged(SALVAGE(160, 0), MENDED, sizeof MENDED - 1, "", 0));
+    begin();
+    REFUSES("a cut sheet", "\0\0\0\1", GATE_CUT_SHORT, GATE_ALLOW, 0);
+    REFUSES("a sheet without its tables", "\0\0\0\0\0\0\0\0\0\0\0\0\0\0\0\0", GATE_CUT_SHORT, GATE_TABLES, 0);
+    REFUSES("a count over its limit", "\0\0\0\0\0\0\x40\1", GATE_OVER_LIMIT, GATE_DENY, 0);
+    REFUSES("a byte behind the sheet", DAMAGED "x", GATE_TRAILING_BYTES, 0, 0);
+    REFUSES("a name given twice", "\0\0\0\1x\0\0\0\0\0\0\0\0\0\0\0\0\0\2\1a\0\0\0\0\1A\0\0\0\0", GATE_TABLE_NAME, GATE_TABLES, 2);
+    REFUSES("a bad pattern", "\0\0\0\1x\0\0\0\0\0\0\0\0\0\0\0\0\0\1\1a\0\0\0\1,", GATE_BAD_TABLE, GATE_TABLES, 1);
+    begin();
+    SET(sheet, "\0\0\0\x08" "ALL: /a\n" "\0\0\0\x08" "ALL: /b\n" "\0\0\0\0\0\0\0\0\0\1\1a\0\0\0\2/A"), lend();
+    expect("rules refused by 16 and by 15", salvaged(SALVAGE(160, 80), "\0\0\0\1" "\n" "\0\0\0\x09" "ALL: ALL\n" "\0\0\0\0\0\0\0\0\0\1\1a\0\0\0\2/A", 36,
+                                                     "\0\0\0\1\0\0\0\1\0\0\0\2\0\0\0\1", 16));
+}
+
+/* A section of a text again and again. */
+static size_t add_section(uint8_t *sheet, size_t at, const char *text, size_t times) {
+    size_t len = strlen(text) * times;
+    for (int i = 0; i < 4; i++)
+        sheet[at++] = (uint8_t)(len >> 8 * (3 - i));
+    for (size_t i = 0; i < len; i++)
+        sheet[at++] = (uint8_t)text[i % strlen(text)];
+    return at;
+}
+
+/* Room that is always enough is enough for the longest list; one bad line more in deny, and it grows past its limit. */
+static void most_changes(void) {
+    static uint8_t sheet[GATE_SHEET_LIMIT], out[GATE_SHEET_LIMIT], list[GATE_CHANGES_ROOM];
+    for (size_t more = 0; more < 2; more++) {
+        size_t len = add_section(sheet, 0, "x\n", GATE_ALLOW_LIMIT / 2);
+        len = add_section(sheet, len, "x\n", GATE_DENY_LIMIT / 9 + more);
+        len = add_section(sheet, len, "0.0.0.0/0:0,0\n", GATE_BYUID_LIMIT / 14);
+        len = add_section(sheet, len, ",", GATE_PORTACL_LIMIT);
+        sheet[len++] = 0, sheet[len++] = 0;
+        struct gate_written_two most = gate_salvage(out, sizeof out, list, sizeof list, sheet, len);
+        struct gate_written_two less = gate_salvage(out, sizeof out, list, sizeof list - 1, sheet, len);
+        expect("the longest list", more || (most.other_count == sizeof list && less.number == GATE_NO_ROOM && gate_check(out, (size_t)most.count).number == 0));
+        expect("deny grown past its limit, before 14", !more || (most.number == GATE_OVER_LIMIT && most.section == GATE_DENY && most.line == 0 && most.count == 0 &&
+                                                               most.other_count == 0 && less.number == GATE_OVER_LIMIT));
+    }
 }
 
 /* What a refused text is read as is refused wherever an address is taken. */
@@ -545,7 +615,7 @@ static struct answers {
     struct gate_checked check;
     struct gate_parts parts;
     struct gate_written packed, upgraded, converted, expanded, written;
-    struct gate_written_two carried;
+    struct gate_written_two carried, salvaged;
     struct gate_next next;
     uint64_t address[3];
 } here, null;
@@ -592,6 +662,7 @@ static void call_all(struct answers *a, uint32_t state) {
     a->written = gate_write_address(GIVEN_OUT, read.kind, read.high, read.low);
     a->next = gate_authbind(GIVEN_OUT, 80, read.kind, read.high, read.low, 432, GIVEN(ANSWERS));
     a->carried = gate_carry(GIVEN_OUT, (uint8_t *)given[LENT_MARKED].start, given[LENT_MARKED].len, GIVEN(PORTACL), 80);
+    a->salvaged = gate_salvage(GIVEN_OUT, (uint8_t *)given[LENT_MARKED].start, given[LENT_MARKED].len, GIVEN(SHEET));
     a->address[0] = read.number, a->address[1] = read.high, a->address[2] = read.low;
 }
 
@@ -647,6 +718,8 @@ static void null_answers(void) {
     expect("no room is enough for none", without(LENT_OUT, 1)->command.word == GATE_DENIED && null.sheet_command.word == GATE_DENIED);
     expect("no answers", without(ANSWERS, 1)->next.word == GATE_TEST && null.next.count == 23 && without(LENT_OUT, 1)->next.number == GATE_NO_ROOM);
     expect("no list to carry over, and no room", without(PORTACL, 1)->carried.number == GATE_ANSWERED && without(LENT_MARKED, 1)->carried.number == GATE_ANSWERED);
+    expect("no sheet to salvage, and no room", without(SHEET, 1)->salvaged.number == GATE_CUT_SHORT && without(LENT_OUT, 1)->salvaged.number == GATE_NO_ROOM);
+    expect("no room is enough for no changes", without(LENT_MARKED, 1)->salvaged.number == GATE_ANSWERED && null.salvaged.count == m.sheet.len);
     expect("no command", without(GIVEN_COMMAND, 1)->expanded.number == GATE_ANSWERED && null.expanded.count == 0);
     expect("no address", without(ADDRESS, 1)->address[0] == GATE_BAD_REQUEST && null.written.number == GATE_BAD_REQUEST);
 }
@@ -739,6 +812,8 @@ int main(void) {
     addresses();
     authbind();
     carry();
+    salvage();
+    most_changes();
     no_address();
     nulls();
     null_answers();

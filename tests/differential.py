@@ -47,7 +47,7 @@ def load(path):
             ("command", out + text * 2 + request + [U32], Command), ("sheet_command", out + text + request + [U32], Command),
             ("byuid", text + [U32] + bind, Answer), ("sheet_byuid", text + bind, Answer),
             ("portacl", portacl, Answer), ("sheet_portacl", portacl, Answer),
-            ("authbind", out + bind + text, Next), ("carry", out * 2 + text + [U32], WrittenTwo),
+            ("authbind", out + bind + text, Next), ("carry", out * 2 + text + [U32], WrittenTwo), ("salvage", out * 2 + text, WrittenTwo),
             ("check", text, Check), ("unpack", text, Parts), ("pack", out + text * 5, Written), ("upgrade", out + text, Written), ("convert", out + text, Written),
             ("expand", out + text + request + [U32], Written),
             ("read_address", text, Address), ("write_address", out + [U32, U64, U64], Written)):
@@ -614,6 +614,88 @@ def sheet_of(rng, texts):
     return sheet[:at] + bytes([rng.randrange(256)]) + sheet[at + 1:]
 
 
+# Damaged sheets
+
+BAD_LINES = [
+    b"ALL: h\xc3\xb6st", b"ALL: a\0", b"ALL: ALL\r", b" \x7f", b"x", b"ALL:", b": ALL", b"EXCEPT: a", b" # no comment", b"[a: b", b"ALL: ALL EXCEPT", b"EXCEPT ALL: ALL",
+    b"ALL: a EXCEPT except b", b"ALL: @x", b"/vans: ALL", b"a@@b: ALL", b"ALL: a@@b", b"ALL: 1.2.3", b"LOCAL: ALL", b"ALL: a b, c!", b"KNOWN: [::1]/129", b"ALL: /", b"ALL: 10.0.0.0/33",
+    b"ALL: ALL: %", b"ALL: ALL: %z", b"sshd: ALL: log %h %", b"ALL: /gone", b"a@/gone: ALL", b"ALL: fitter@/gone EXCEPT /a"]
+
+
+def bad_line(rng):
+    """one that is refused, whatever the tables are; over one physical line or several"""
+    kind = rng.random()
+    line = rng.choice(BAD_LINES)
+    if kind < 0.05:
+        line = rng.choice([b"#", b" ", b"ALL: ALL: ", b"x"]) + b"c" * rng.choice([2047, 2048, 2100])
+    elif kind < 0.1:
+        line = joined_line(rng)
+    for _ in range(rng.choice([0, 0, 0, 1, 2, 5])):
+        at = rng.randrange(len(line) + 1)
+        line = line[:at] + b"\\\n" + line[at:]
+    return line
+
+
+def unended(rng, text):
+    """what a last line without its newline may be: any at all, a comment, blanks, dropped pairs, the very rule that stands for a bad one"""
+    return rng.choice([text[:-1], text + rng.choice([b"x", b"# end", b" ", b"ALL: ALL", b"ALL: ALL\\\n", b"\\\n", b"\\\n\\\n", b"\\", bad_line(rng)])])
+
+
+def salvaged_text(rng, names):
+    """lines of hosts.allow or hosts.deny: some sound, some bad, some that name tables"""
+    kinds = [lambda: sound_lines(rng, 1)[0]] * 3 + [lambda: bad_line(rng)] * 3 + [lambda: naming_line(rng, names)] * 2 + [lambda: joined_line(rng)]
+    text = b"".join(rng.choice(kinds)() + b"\n" for _ in range(rng.choice([0, 1, 2, 3, 6, 12])))
+    return unended(rng, text) if rng.random() < 0.25 else text
+
+
+def grown(rng, deny, five):
+    """a deny text that is about at its limit once it is salvaged"""
+    deny += b"x\n" * rng.choice([0, 1, 1, 5, 5, 1820])
+    if ref.frame_five(five):
+        return deny
+    length = len(ref.salvaged_hosts(deny, b"ALL: ALL", ref.Tables(ref.read_tables(five)[0]))[0])
+    return b"\n" * max(0, ref.LIMITS[2] - length + rng.choice([-1, 0, 0, 1, 2, 8])) + deny
+
+
+def salvaged_portacl(rng):
+    entries = [e for _ in range(rng.choice([0, 1, 1, 2, 4])) for e in portacl_text(rng).split(b",")]
+    for _ in range(rng.choice([0, 0, 1, 2])):
+        entries.insert(rng.randrange(len(entries) + 1), rng.choice([b"", b"", b"uid:www:tcp:80", b"uid:1:tcp:080", b"\n", b"gid:1:udp:1\n"]))
+    return b",".join(entries)[:ref.LIMITS[4]]
+
+
+def damaged_sheet(rng):
+    """mostly of a sound frame with sound tables, and with bad lines and entries in each section"""
+    tables = sound_tables(rng) if rng.random() < 0.6 else rng.choice([[], chain(rng.sample(TABLE_NAMES, 5)), [(b"a", b"/a"), (b"b", b"host /A")], faulty_tables(rng)])
+    names = [name for name, _ in tables if ref.is_table_name(name)] or [b"vans"]
+    five = ref.section_five(tables)
+    ports = byuid_text(rng, 1) + rng.choice([b"", b"\n10.0.0.0/8:80,90", b"\n0.0.0.0/0:1,1\n"])
+    texts = [salvaged_text(rng, names), salvaged_text(rng, names), ports, salvaged_portacl(rng), damaged(rng, five) if rng.random() < 0.02 else five]
+    if rng.random() < 0.02:
+        texts[1] = grown(rng, texts[1], texts[4])
+    if rng.random() < 0.003:
+        texts[0] += b"x\n" * 9000
+        texts[0] = texts[0][:rng.choice([16383, 16384, 16385])]
+    return ref.sheet_of(texts) if rng.random() < 0.9 else sheet_of(rng, texts)
+
+
+def mended(sheet):
+    """what there was to mend in a sheet of a sound frame: the section and the lowest number of each bad line"""
+    parts, at = ref.counted_sections(sheet)
+    texts, tables, found = [sheet[place:place + n] for place, n in parts], ref.Tables(ref.read_tables(sheet[at:])[0]), set()
+    for section, text in (("allow", texts[0]), ("deny", texts[1])):
+        for line in ref.lines(text):
+            faults = ref.line_faults(line)
+            names = [] if faults else ref.named_in_rule(line)
+            faults |= {15 for name in names if not tables.has(name)} | {16 for name in names if tables.leads_past(name)}
+            if faults:
+                found |= {f"{section} {min(faults)}"} | ({f"{section} continued"} if b"\\\n" in line.raw else set())
+                found |= {f"{section} comment"} if line.text.startswith(b"#") else set()
+    found |= {"byuid"} if ref.byuid_fault(texts[2]) else set()
+    found |= {"portacl"} if ref.portacl_fault(texts[3]) else set()
+    return found
+
+
 def command_of(rng):
     pieces = [rng.choice([b"%a", b"%A", b"%n", b"%N", b"%h", b"%H", b"%u", b"%c", b"%d", b"%s", b"%p", b"%%", b"u", b" ", b"\t", b";|&$(`)", b"/bin/log"])
               for _ in range(rng.choice([0, 1, 1, 2, 3, 6, 12]))]
@@ -692,6 +774,8 @@ KINDS = {
     "verdict": VERDICTS | FILES | {"2", "15"}, "tables_verdict": VERDICTS | FILES | TABLES | {"1", "2", "3"}, "byuid": BYUID | {"2", "22"}, "portacl": PORTACL | {"2", "12"},
     "sheet_verdict": VERDICTS | SHEET, "sheet_byuid": BYUID | SHEET, "sheet_portacl": PORTACL | SHEET,
     "carry": {"answered", "2", "12", "13", "14"},
+    "salvage": {"answered", "1", "2", "3", "14", "15", "17", "unchanged", "grown", "byuid", "portacl"}
+               | {f"{section} {what}" for section in ("allow", "deny") for what in (*range(4, 12), 15, 16, "continued", "comment")},
     "authbind": {"test", "read", "granted", "denied", "not ruled", "13", "14", "18", "19"},
     "check": SHEET | {"sheet ok"}, "unpack": SHEET | {"answered"}, "pack": {"answered", "14"} | SHEET,
     "upgrade": {"answered", "1", "2", "3", "14"}, "convert": {"answered", "2", "14"},
@@ -882,6 +966,23 @@ def main():
         rooms = [room_for(rng, result if ref.refused(result) else each) for each in (result if not ref.refused(result) else [result] * 2)]
         compare("carry", written_two(rng, rooms, lib.gate_carry, *sized(text), uid), ref.carry(text, uid, *rooms), text, uid, rooms)
 
+    def salvage_case():
+        """a damaged sheet salvaged: what comes of it is accepted, and stays as it is when it is salvaged again"""
+        sheet = damaged_sheet(rng)
+        result = ref.salvage(sheet, 1 << 32, 1 << 32)
+        sizes = [rng.randrange(60)] * 2 if ref.refused(result) else [len(each) for each in result]
+        rooms = [max(0, n) for n in rng.choice([sizes] * 4 + [[sizes[0] - 1, sizes[1]], [sizes[0], sizes[1] - 1], [n + 20 for n in sizes], [0, sizes[1]], [sizes[0], 0]])]
+        expected = ref.salvage(sheet, *rooms)
+        compare("salvage", written_two(rng, rooms, lib.gate_salvage, *sized(sheet)), expected, sheet, rooms)
+        if ref.refused(expected):
+            seen["salvage"] |= {"grown"} if expected == (2, 2, 0) and not ref.refused(ref.counted_sections(sheet)) else set()
+            return
+        new, changes = expected
+        seen["salvage"] |= mended(sheet) or {"unchanged"}
+        compare("check", check(lib.gate_check, sheet), ref.check(sheet) if changes else "sheet ok", sheet)
+        compare("check", check(lib.gate_check, new), "sheet ok", sheet, new)
+        compare("salvage", written_two(rng, [len(new), 0], lib.gate_salvage, *sized(new)), [new, b""], sheet, new)
+
     def portacl_request():
         settings = dict(enabled=rng.choice([0, 1, 1, 1, 2]), port_high=rng.choice([0, 79, 80, 1023, 1023, 65535, 2 ** 32 - 1]),
                         suser_exempt=rng.choice([0, 1, 7]), autoport_exempt=rng.choice([0, 1, 7]))
@@ -946,6 +1047,7 @@ def main():
         convert_case()
         authbind_case()
         carry_case()
+        salvage_case()
         sheet_cases()
         expand_case()
         address_cases()

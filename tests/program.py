@@ -34,15 +34,16 @@ TEXTS = [(TOP / "sample" / name).read_bytes() for name in NAMES]
 SHEET_LIMIT = 57360
 SHEET = ref.pack(TEXTS + [ref.NO_TABLES], SHEET_LIMIT)
 OLD_SHEET = SHEET[:-2]
-COMMANDS = ("check", "match", "byuid", "portacl", "authbind", "pack", "unpack", "fleet", "upgrade", "convert", "carry", "explain", "test")
+COMMANDS = ("check", "match", "byuid", "portacl", "authbind", "pack", "unpack", "fleet", "upgrade", "convert", "carry", "salvage", "explain", "test")
 PAGE = os.sysconf("SC_PAGE_SIZE")
 runs, failures, statuses, skipped = 0, [], set(), []
 
 
 def gate(*arguments, stdin=b"", **how):
+    """stdin: bytes, or an open file"""
     global runs
     runs += 1
-    how = {"capture_output": True, "timeout": 20, "input": stdin, "cwd": SCRATCH, **how}
+    how = {"capture_output": True, "timeout": 20, "input" if isinstance(stdin, bytes) else "stdin": stdin, "cwd": SCRATCH, **how}
     done = subprocess.run([PROGRAM, *map(os.fsencode, arguments)], **how)
     statuses.add(done.returncode)
     return done
@@ -132,6 +133,8 @@ def test_misread():
     for case in ([], ["portacl"], ["portacl", "432", "p"], ["portacl", "www", "p", "m"], ["portacl", "0432", "p", "m"], ["portacl", "4294967296", "p", "m"],
                  ["portacl", "432", "p", "m", "x"], ["portacl", "432", "p", ""], ["portacl", "432", "p", "p"], ["portacl", "432", "p", "./p"], ["portacl", "432", ".", "m"]):
         expect(f"carry {case} is an error", gate("carry", *case), 2, b"", "gate: ")
+    for case in ([], ["s"], ["s", "n", "x"], ["-", ""], ["-", "."], ["-", "n", "--tables", "."], ["s", "n", "-f"], ["-", "s", "-Q"]):
+        expect(f"salvage {case} is an error", gate("salvage", *case), 2, b"", "gate: ")
     for case in (["20"], ["21"], ["23"], ["x"], ["-1"], ["010"], [""], ["1", "2"], ["4294967306"]):
         expect(f"explain {case} is an error", gate("explain", *case), 2, b"", "gate: ")
     for case in ([], ["chek"], [""], ["-q"], ["--Version"], ["--version", "x"], ["check"], ["check", SAMPLE, SAMPLE], ["pack", SAMPLE], ["unpack", "x"],
@@ -853,6 +856,115 @@ def test_carry(folder):
         fail("an error of the second file leaves the first as it was")
 
 
+# A sheet with a bad line of each kind, and what comes of it.
+DAMAGED = [b"# vans\nsshd: 10.20.30.400\nsshd: \\\n LOCAL \\\n EXCEPT\nconsole: /vans\nconsole: /gone, /vans\nftpd: /deep: log %h\nsshd: h\xc3\xb6st\nALL: ALL: 100%",
+           b"x\nALL: LOCAL\n#\n# the end", b"::/0,80\n10.0.0.0/8:80,90\n10.0.0.1/8:80,90\n192.0.2.7/32:443,443", b"uid:80:tcp:80,,uid:www-data:tcp:80,gid:20:udp:53,",
+           ref.section_five([(b"vans", b"van7"), (b"deep", b"/deep")])]
+MENDED = [b"# vans\n\n\nconsole: /vans\n\n\n\n\n", b"ALL: ALL\nALL: LOCAL\n#\nALL: ALL\n", b"::/0,80\n10.0.0.0/8,80-90\n10.0.0.1/8:80,90\n192.0.2.7/32,443-443",
+          b"uid:80:tcp:80,gid:20:udp:53", DAMAGED[4]]
+MENDINGS = b"""hosts.allow:2: dropped [10] sshd: 10.20.30.400
+hosts.allow:3: dropped [8] sshd: \\? LOCAL \\? EXCEPT
+hosts.allow:7: dropped [15] console: /gone, /vans
+hosts.allow:8: dropped [16] ftpd: /deep: log %h
+hosts.allow:9: dropped [5] sshd: h??st
+hosts.allow:10: dropped [4] ALL: ALL: 100%
+hosts.deny:1: now ALL: ALL [7] x
+hosts.deny:4: now ALL: ALL [4] # the end
+byuid:2: rewritten [22] 10.0.0.0/8:80,90
+byuid:4: rewritten [22] 192.0.2.7/32:443,443
+portacl entry 2: dropped [12] (empty)
+portacl entry 3: dropped [12] uid:www-data:tcp:80
+portacl entry 5: dropped [12] (empty)
+"""
+
+
+def test_salvage(folder):
+    """damaged sheets: what is written, what is shown of it, and that the damaged one is kept"""
+    old, new = pathlib.Path(folder) / "damaged.sheet", pathlib.Path(folder) / "mended.sheet"
+    damaged, mended = ref.sheet_of(DAMAGED), ref.sheet_of(MENDED)
+    old.write_bytes(damaged)
+    written = MENDINGS + b"%s: %d bytes, 13 changes\n" % (os.fsencode(new), len(mended))
+    expect("salvaging", gate("salvage", old, new), 1, written, b"")
+    if new.read_bytes() != mended or old.read_bytes() != damaged or ref.salvage(damaged, 1 << 32, 1 << 32)[0] != mended or left_over(folder):
+        fail("a salvaged sheet", new.read_bytes(), mended)
+    expect("what was salvaged is sound", gate("check", new), 0, "sound", b"")
+    expect("salvaging it again", gate("salvage", new, folder + "/again"), 0, b"%s/again: %d bytes, nothing was changed\n" % (os.fsencode(folder), len(mended)), b"")
+    if pathlib.Path(folder + "/again").read_bytes() != mended:
+        fail("a sheet salvaged again is the same")
+    expect("salvaging quietly", gate("salvage", "-q", old, new), 1, b"", b"")
+    expect("salvaging a sound sheet quietly", gate("salvage", "-q", "-", new, stdin=SHEET), 0, b"", b"")
+    if new.read_bytes() != SHEET:
+        fail("a sound sheet is written as it is")
+    expect("salvaging from and to standard streams", gate("salvage", "-", "-", stdin=damaged), 1, mended, MENDINGS)
+    expect("the same of a sound sheet", gate("salvage", "-", "-", stdin=SHEET), 0, SHEET, b"")
+    os.link(old, folder + "/linked")
+    os.symlink(old, folder + "/symbolic")
+    for what, name, message in (("itself", old, "is the sheet to be salvaged"), ("another name of it", folder + "/linked", "is the sheet to be salvaged"),
+                                ("itself by another path", folder + "/./damaged.sheet", "is the sheet to be salvaged"), ("a link to it", folder + "/symbolic", "symbolic link"),
+                                ("a folder", folder, "is a folder"), ("a folder that is not there", folder + "/none/new", "none/new: No such file")):
+        expect("salvaging to " + what, gate("salvage", old, name), 2, b"", message)
+        if old.read_bytes() != damaged or left_over(folder):
+            fail("the damaged sheet is kept: " + what)
+    with open(old, "rb") as source:
+        expect("standard input is the sheet itself", gate("salvage", "-", old, stdin=source), 2, b"", "is the sheet to be salvaged")
+    expect("salvaging nothing", gate("salvage", folder + "/none", new), 2, b"", "none: No such file")
+    bad_pattern, second = ref.section_five([(b"a", b"x,")]), ref.section_five([(b"a", b""), (b"A", b"")])
+    for what, sheet, message in (
+            ("a cut sheet", damaged[:-1], "not salvaged: 1 fault of its frame"), ("nothing at all", b"", "(hosts.allow): the sheet ends within a section"),
+            ("a sheet of four sections", OLD_SHEET, "gate upgrade OLD NEW"), ("one with a byte more", damaged + b"\0", "bytes follow the last section [3]\ngate: standard input: not salvaged"),
+            ("one over a limit", b"\0\0\x40\1" + bytes(20000), "its count is 16385 bytes, and the most is 16384 [2]"), ("two megabytes", bytes(1 << 21), "over 1048576 bytes"),
+            ("bad tables", ref.sheet_of(DAMAGED[:4] + [bad_pattern]), "table 1: no host pattern [17]"),
+            ("two tables of one name", ref.sheet_of(DAMAGED[:4] + [second]), "not salvaged: 1 fault of its tables"),
+            ("a deny that grows past its limit", ref.sheet_of([b"", b"x\n" * 1821, b"", b"", ref.NO_TABLES]),
+             "standard input: not salvaged: hosts.deny with ALL: ALL for its bad lines is over 16384 bytes [2]")):
+        new.write_bytes(b"what was there")
+        expect("salvaging " + what, gate("salvage", "-", new, stdin=sheet), 2, b"", message)
+        if new.read_bytes() != b"what was there" or left_over(folder):
+            fail("a sheet that can't be salvaged changes nothing: " + what)
+    test_damaged_sheets(folder)
+
+
+def shown_change(section, number, fault, was):
+    text = "".join(chr(byte) if 32 <= byte < 127 else "?" for byte in was)
+    text = text[:197] + "..." if len(text) > 200 else text or "(empty)"
+    place, done = {1: ("hosts.allow:", "dropped"), 2: ("hosts.deny:", "now ALL: ALL"), 3: ("byuid:", "rewritten"), 4: ("portacl entry ", "dropped")}[section]
+    return f"{place}{number}: {done} [{fault}] {text}\n"
+
+
+def shown_changes(sheet):
+    """of a sheet that can be salvaged, by the reference"""
+    parts, at = ref.counted_sections(sheet)
+    texts, tables, out = [sheet[place:place + n] for place, n in parts], ref.Tables(ref.read_tables(sheet[at:])[0]), ""
+    for section in (1, 2):
+        for line in ref.lines(texts[section - 1]):
+            if ref.is_bad_line(line, tables):
+                missing = 15 if not ref.line_faults(line) and any(not tables.has(name) for name in ref.named_in_rule(line)) else 16
+                out += shown_change(section, line.number, min(ref.line_faults(line) or {missing}), line.raw)
+    out += "".join(shown_change(3, number, 22, line) for number, line in enumerate(texts[2].split(b"\n"), 1) if ref.retired(line))
+    if texts[3]:
+        out += "".join(shown_change(4, number, 12, each) for number, each in enumerate(texts[3].split(b","), 1) if ref.entry(each) is None)
+    return out.encode()
+
+
+def test_damaged_sheets(folder):
+    """generated ones beside the reference"""
+    rng, new = random.Random(9), pathlib.Path(folder) / "new"
+    for _ in range(STATIONS):
+        sheet = gen.damaged_sheet(rng)
+        expected = ref.salvage(sheet, 1 << 32, 1 << 32)
+        new.write_bytes(b"what was there")
+        done = gate("salvage", "-", new, stdin=sheet)
+        if ref.refused(expected):
+            expect("a generated sheet that can't be salvaged", done, 2, b"", "not salvaged")
+            written = b"what was there"
+        else:
+            written, changes = expected
+            last = b"%s: %d bytes, " % (os.fsencode(new), len(written)) + (b"%d change%s\n" % (len(changes) // 8, b"s"[:len(changes) > 8]) if changes else b"nothing was changed\n")
+            expect("a generated damaged sheet", done, 1 if changes else 0, shown_changes(sheet) + last, b"")
+        if new.read_bytes() != written:
+            fail("a generated damaged sheet", sheet, new.read_bytes(), written)
+
+
 RETIRED = b"# x\n10.0.0.0/8:80,90\n10.0.0.1/8:80,90\n::/0,80\r\n192.0.2.7/32:443,443"
 RENEWED = b"# x\n10.0.0.0/8,80-90\n10.0.0.1/8:80,90\n::/0,80\r\n192.0.2.7/32,443-443"
 
@@ -923,6 +1035,7 @@ def test_faults(folder):
         message = os.strerror(error) + "; nothing was written, and what was there is as it was"
         expect_old(f"{error} at {call} of pack", 2, *pack, message=message, env=faulty(library, call, 1, errno=error))
         expect_old(f"{error} at {call} of unpack", 2, *unpack, message=message, env=faulty(library, call, 1, errno=error))
+        expect_old(f"{error} at {call} of salvage", 2, "salvage", folder + "/one.sheet", sheet, message=message, env=faulty(library, call, 1, errno=error))
     test_faults_with_tables(folder, library)
     expect_old("a folder that can't be synced", 2, *pack, message="perhaps not on disk", kept=False, env=faulty(library, "fsync", 2, errno=errno.EIO))
     if sheet.read_bytes() != SHEET:
@@ -1248,7 +1361,7 @@ def run_all():
     os.chmod(SCRATCH, 0o755)
     test_misread()
     test_read()
-    for test in (test_answers, test_checks, test_marked, test_authbind, test_carry, test_explain, test_requests, test_reading, test_pack, test_unpack, test_tables, test_fleet, test_convert,
+    for test in (test_answers, test_checks, test_marked, test_authbind, test_carry, test_salvage, test_explain, test_requests, test_reading, test_pack, test_unpack, test_tables, test_fleet, test_convert,
                  test_upgrade, test_faults, test_full_disk):
         with tempfile.TemporaryDirectory(dir=SCRATCH) as folder:
             test(folder)

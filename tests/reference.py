@@ -113,19 +113,12 @@ class Line:
 
 @again
 def lines(text):
-    out, start, number, i = [], 0, 1, 0
-    first = 1
-    while i < len(text):
-        if text[i:i + 2] == b"\\\n":
-            number += 1
-            i += 2
-        elif text[i:i + 1] == b"\n":
-            out.append(Line(first, start, text[start:i], True))
-            number += 1
-            i += 1
-            start, first = i, number
-        else:
-            i += 1
+    out, start, first, number = [], 0, 1, 1
+    for end in re.finditer(rb"\\?\n", text):
+        number += 1
+        if end[0] == b"\n":
+            out.append(Line(first, start, text[start:end.start()], True))
+            start, first = end.end(), number
     if start < len(text):
         out.append(Line(first, start, text[start:], False))
     return out
@@ -917,6 +910,62 @@ def upgrade(sheet, room):
     if refused(framed):
         return framed
     return (3, 0, 0) if framed[1] < len(sheet) else within(room, sheet + NO_TABLES)
+
+
+# Salvage (document 02, request 9)
+
+def is_bad_line(line, tables):
+    """one that is refused: by a fault of its own, or, a rule that has none, by 15 or 16"""
+    return bool(line_faults(line)) or any(not tables.has(name) or tables.leads_past(name) for name in named_in_rule(line))
+
+
+def salvaged_hosts(text, instead, tables):
+    """the new text, and the numbers of the bad lines"""
+    new, bad = b"", []
+    for line in lines(text):
+        if is_bad_line(line, tables):
+            bad.append(line.number)
+            new += instead + b"\n"
+        else:
+            new += line.raw + b"\n"
+    return new, bad
+
+
+@again
+def salvaged(sheet):
+    """a refusal, or the new sheet and the list of the changes"""
+    framed = counted_sections(sheet)
+    if refused(framed):
+        return framed
+    allow, deny, ports, acl = (sheet[place:place + n] for place, n in framed[0])
+    five = sheet[framed[1]:]
+    if frame_five(five):
+        return frame_five(five)
+    pairs = read_tables(five)[0]
+    tables = Tables(pairs)
+    if misnamed_table(pairs, tables) or bad_table(five, pairs):
+        return misnamed_table(pairs, tables) or bad_table(five, pairs)
+    new_allow, in_allow = salvaged_hosts(allow, b"", tables)
+    new_deny, in_deny = salvaged_hosts(deny, b"ALL: ALL", tables)
+    in_byuid = [number for number, line in enumerate(ports.split(b"\n"), 1) if retired(line)]
+    in_portacl = [number for number, read in enumerate(entries_of(acl), 1) if read is None]
+    new_acl = b",".join(e for e in acl.split(b",") if entry(e))
+    texts = [new_allow, new_deny, convert(ports, len(ports)), new_acl, five]
+    for section in LIMITS:
+        if over(section, texts[section - 1]):
+            return over(section, texts[section - 1])
+    changes = b"".join(section.to_bytes(4, "big") + number.to_bytes(4, "big")
+                       for section, numbers in enumerate([in_allow, in_deny, in_byuid, in_portacl], 1) for number in numbers)
+    return sheet_of(texts), changes
+
+
+def salvage(sheet, room, list_room):
+    """a refusal, or both as they are written"""
+    answer = salvaged(sheet)
+    if refused(answer):
+        return answer
+    new, changes = answer
+    return (14, 0, 0) if len(new) > room or len(changes) > list_room else [new, changes]
 
 
 def check(sheet):

@@ -18,7 +18,8 @@ enum { PAGE = 4096, PAINT = 0xa5, BEYOND = 3 };
 
 /* In the order of `exports`; NOTHING is no call at all, and its bytes are not counted. */
 enum export { VERDICT, TABLES_VERDICT, SHEET_VERDICT, NAME_MATTERS, TABLES_NAME_MATTERS, SHEET_NAME_MATTERS, COMMAND, SHEET_COMMAND, BYUID,
-              SHEET_BYUID, PORTACL, SHEET_PORTACL, CHECK, UNPACK, PACK, UPGRADE, CONVERT, EXPAND, READ_ADDRESS, WRITE_ADDRESS, AUTHBIND, CARRY, NOTHING };
+              SHEET_BYUID, PORTACL, SHEET_PORTACL, CHECK, UNPACK, PACK, UPGRADE, CONVERT, EXPAND, READ_ADDRESS, WRITE_ADDRESS, AUTHBIND, CARRY,
+              SALVAGE, NOTHING };
 
 /* For tables over all limits too. */
 enum { TABLES_ROOM = 1 << 20 };
@@ -135,6 +136,10 @@ static uint32_t carry(void) {
     static uint8_t marked[GATE_CARRY_ROOM];
     return gate_carry(out, GATE_CARRY_ROOM, marked, sizeof marked, portacl.bytes, portacl.len, 1).number;
 }
+static uint32_t salvage(void) {
+    static uint8_t list[GATE_CHANGES_ROOM];
+    return gate_salvage(out, GATE_SHEET_LIMIT, list, sizeof list, sheet, sheet_len).number;
+}
 static uint32_t nothing(void) { return 0; }
 
 static const struct {
@@ -145,7 +150,7 @@ static const struct {
                {"gate_command", with_command}, {"gate_sheet_command", sheet_command},
                {"gate_byuid", by_uid}, {"gate_sheet_byuid", sheet_byuid}, {"gate_portacl", port_acl}, {"gate_sheet_portacl", sheet_portacl},
                {"gate_check", check}, {"gate_unpack", unpack}, {"gate_pack", pack}, {"gate_upgrade", upgrade}, {"gate_convert", convert}, {"gate_expand", expand}, {"gate_read_address", read_address},
-               {"gate_write_address", write_address}, {"gate_authbind", authbind}, {"gate_carry", carry}, {"nothing", nothing}};
+               {"gate_write_address", write_address}, {"gate_authbind", authbind}, {"gate_carry", carry}, {"gate_salvage", salvage}, {"nothing", nothing}};
 
 /* In the thread. */
 
@@ -412,6 +417,35 @@ static void table_inputs(void) {
     ask_tables("a cut table", GATE_CUT_SHORT);
 }
 
+/* Damaged sheets: with the most changes that can be listed, with one more in deny, and with lines that are bad by their tables alone. */
+static void damaged(const char *what, uint32_t number) {
+    pack_by_hand();
+    every_call(what);
+    in_thread(SALVAGE);
+    if (answered != number) {
+        printf("stack: %s: answered %u\n", what, answered);
+        exit(1);
+    }
+}
+
+static void damages(void) {
+    byuid.len = portacl.len = allow.len = deny.len = 0;
+    fill(&allow, "x\n", GATE_ALLOW_LIMIT);
+    fill(&deny, "x\n", GATE_DENY_LIMIT / 9 * 2);
+    fill(&byuid, "0.0.0.0/0:0,0\n", GATE_BYUID_LIMIT);
+    fill(&portacl, ",", GATE_PORTACL_LIMIT);
+    damaged("the most changes", 0);
+    add(&deny, "x\n");
+    damaged("deny grown past its limit", GATE_OVER_LIMIT);
+    line(&allow, "a:", "a EXCEPT ", "a@/a");
+    line(&deny, "", "a EXCEPT ", "a@/gone:a");
+    add_table("a", "/a ", 4000);
+    damaged("rules that lead too deep, or nowhere", 0);
+    no_tables();
+    byuid.len = portacl.len = allow.len = deny.len = 0;
+    damaged("an empty sheet", 0);
+}
+
 static void every_input(void) {
     request = gate_request_to("a", 1);
     named(&request.client, "a", "1:2:3:4:5:6:102:304");
@@ -428,6 +462,7 @@ static void every_input(void) {
     ports();
     addresses();
     table_inputs();
+    damages();
     expansions();
 }
 

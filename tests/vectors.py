@@ -167,6 +167,11 @@ def carry(room, other, uid, text, plain, marked):
     return refusal(answer) if ref.refused(answer) else packed(answer[0], plain) + b"\n" + packed(answer[1], marked)
 
 
+def salvage(room, other, sheet, new, changes):
+    answer = ref.salvage(sheet, min(room, BLOCK), min(other, BLOCK))
+    return refusal(answer) if ref.refused(answer) else packed(answer[0], new) + b"\n" + packed(answer[1], changes)
+
+
 # Each call with the kinds of its fields: t a text, n a number, N any number of numbers.
 CALLS = {
     b"verdict": ("tttttttt", lambda *f: ruling(ref.verdict(*f[6:], request(*f[:6])))),
@@ -187,6 +192,7 @@ CALLS = {
     b"expand": ("ttttttnnt", expand),
     b"authbind": ("nntnt", authbind),
     b"carry": ("nnnttt", carry),
+    b"salvage": ("nnttt", salvage),
     b"read_address": ("t", read_address),
     b"write_address": ("nt", lambda room, text: shown(ref.write_address(address(text), min(room, BLOCK)))),
 }

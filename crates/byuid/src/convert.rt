@@ -13,7 +13,7 @@ use section::Fault;
 use section::Written;
 
 // Writes a line from at on, the two marks exchanged where it is of the retired form.
-fn put_line(out: &mut [u8], at: usize, l: &[u8])
+pub fn put_line(out: &mut [u8], at: usize, l: &[u8])
     requires { ⌜ at + length (now l) ≤ length (now out) ⌝ }
     ensures { λ _. ⌜ now (out .exit) ≡ putAt (now (out .entry)) at (convertLine (now (l .entry))) ⌝ }
 {

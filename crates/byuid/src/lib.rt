@@ -45,7 +45,7 @@ enum Walked {
 }
 
 pub mod convert;
-mod line;
+pub mod line;
 
 // Every line is looked at. A last line without a newline counts.
 fn walk_lines(text: &[u8], addr: Addr, port: u16) -> Walked

@@ -254,7 +254,7 @@ fn ports_rise(s: &[u8]) -> bool
 }
 
 // Whether the line l is one that the form addr4/len:pmin,pmax used to accept.
-pub(crate) fn is_retired(l: &[u8]) -> bool
+pub fn is_retired(l: &[u8]) -> bool
     ensures { λ r. ⌜ r ≡ isRetired (now (l .entry)) ⌝ }
 {
     let i = text::index_of(l, b':');

@@ -13,7 +13,9 @@ use Rattle.text.specs.Basics.{if_then_else_, holds, any}
 use Rattle.text.specs.Scan.{after}
 use Rattle.section.specs.declared.Fault.the-variants as F
 use Rattle.section.specs.declared.Refusal.{Refusal}
-use Rattle.section.specs.Refusal.{Outcome, refused, answered, refusal, placeless}
+use Rattle.section.specs.Refusal.{Outcome, refused, answered, refusal, placeless, withinRooms, firstAfter, secondAfter, writtenTwoOf}
+use Rattle.section.specs.declared.WrittenTwo.{WrittenTwo}
+use Rattle.section.specs.declared.WrittenTwo.the-variants as Two
 use Rattle.section.specs.Section as S
 use Rattle.portacl.specs.declared.Checked.{Checked}
 use Rattle.portacl.specs.declared.Checked.the-variants as K
@@ -23,14 +25,12 @@ use Rattle.portacl.specs.Portacl.{bind, entries, portaclFault}
 use Rattle.portacl.specs.Code.{checkedOf, entriesData, notes}
 use Rattle.portacl.proofs.NoteLaws.{notes-here}
 use Rattle.portacl.proofs.DecideLaws.{checkedOf-refused, checkedOf-sound}
-use Rattle.carry.specs.Carry.{hasEntry, carried, portLines, spanLines, plainText, markedText, withinRooms, carry, plainAfter, markedAfter, carriedOf}
+use Rattle.carry.specs.Carry.{hasEntry, carried, portLines, spanLines, plainText, markedText, carry}
 use Rattle.carry.specs.Code.{inBoth}
-use Rattle.carry.specs.declared.Carried.{Carried}
-use Rattle.carry.specs.declared.Carried.the-variants as C
 
 -- the answer r to the outcome o, and what the outputs d and e hold afterwards
-abbrev pub Did : List ℕ → List ℕ → Outcome (List ℕ × List ℕ) → Carried → List ℕ → List ℕ → Type 0
-Did d e o r d' e' = (r ≡ carriedOf o) × ((d' ≡ plainAfter d o) × (e' ≡ markedAfter e o))
+abbrev pub Did : List ℕ → List ℕ → Outcome (List ℕ × List ℕ) → WrittenTwo → List ℕ → List ℕ → Type 0
+Did d e o r d' e' = (r ≡ writtenTwoOf o) × ((d' ≡ firstAfter d o) × (e' ≡ secondAfter e o))
 
 -- ## Both texts
 
@@ -38,7 +38,7 @@ module _ (f : ℕ → Bool) (d e : List ℕ) (n : ℕ) (is-n : n ≡ length (pla
   abbrev both : Outcome (List ℕ × List ℕ)
   both = withinRooms (length d) (length e) (plainText f, markedText f)
 
-  pub no-plain-room : length d < n → (r : Refusal) → r ≡ placeless F.NoRoom → Did d e both (C.Refused r) d e
+  pub no-plain-room : length d < n → (r : Refusal) → r ≡ placeless F.NoRoom → Did d e both (Two.Refused r) d e
   no-plain-room h r is-r =
       let t : ltb (length d) (length (plainText f)) ≡ true = rw (← is-n) (lt-ltb (length d) n h) in
       (rw (t, is-r), (rw t, rw t))
@@ -47,13 +47,13 @@ module _ (f : ℕ → Bool) (d e : List ℕ) (n : ℕ) (is-n : n ≡ length (pla
     fits : ltb (length d) (length (plainText f)) ≡ false
     fits = rw (← is-n) (le-ltb (length d) n h)
 
-    pub no-marked-room : length e < m → (r : Refusal) → r ≡ placeless F.NoRoom → Did d e both (C.Refused r) d e
+    pub no-marked-room : length e < m → (r : Refusal) → r ≡ placeless F.NoRoom → Did d e both (Two.Refused r) d e
     no-marked-room k r is-r =
         let t : ltb (length e) (length (markedText f)) ≡ true = rw (← is-m) (lt-ltb (length e) m k) in
         (rw (fits, t, is-r), (rw (fits, t), rw (fits, t)))
 
     pub both-written : m ≤ length e → (a b : ℕ) (d' e' : List ℕ) → (a ≡ length (plainText f)) × (d' ≡ after (plainText f) d)
-        → (b ≡ length (markedText f)) × (e' ≡ after (markedText f) e) → Did d e both (C.Counts a b) d' e'
+        → (b ≡ length (markedText f)) × (e' ≡ after (markedText f) e) → Did d e both (Two.Counts a b) d' e'
     unfolding after
     both-written k a b d' e' w v =
         let t : ltb (length e) (length (markedText f)) ≡ false = rw (← is-m) (le-ltb (length e) m k) in
@@ -91,12 +91,12 @@ module _ (t : List ℕ) (uid : ℕ) (d e : List ℕ) (o : Bool) (is-o : o ≡ lt
   abbrev outcome : Outcome (List ℕ × List ℕ)
   outcome = carry t uid (length d) (length e)
 
-  pub carry-over : o ≡ true → (r : Refusal) → r ≡ refusal F.OverLimit (S.portacl .order) 0 → Did d e outcome (C.Refused r) d e
+  pub carry-over : o ≡ true → (r : Refusal) → r ≡ refusal F.OverLimit (S.portacl .order) 0 → Did d e outcome (Two.Refused r) d e
   unfolding carry
   carry-over h r is-r = (rw (← is-o, h, is-r), (rw (← is-o, h), rw (← is-o, h)))
 
   module _ (h : o ≡ false) (c : Checked) (is-c : c ≡ checkedOf (portaclFault t)) where
-    pub carry-bad : (r : Refusal) → c ≡ K.Refused r → Did d e outcome (C.Refused r) d e
+    pub carry-bad : (r : Refusal) → c ≡ K.Refused r → Did d e outcome (Two.Refused r) d e
     unfolding carry
     carry-bad r q =
         let f = checkedOf-refused (portaclFault t) r (sym is-c ∙ q) in
@@ -106,12 +106,12 @@ module _ (t : List ℕ) (uid : ℕ) (d e : List ℕ) (o : Bool) (is-o : o ≡ lt
       sound : portaclFault t ≡ none
       sound = checkedOf-sound (portaclFault t) (sym is-c ∙ q)
 
-      pub carry-root : uid ≡ 0 → (r : Refusal) → r ≡ placeless F.BadRequest → Did d e outcome (C.Refused r) d e
+      pub carry-root : uid ≡ 0 → (r : Refusal) → r ≡ placeless F.BadRequest → Did d e outcome (Two.Refused r) d e
       unfolding carry
       carry-root z r is-r = let u = eq-eqb uid 0 z in (rw (← is-o, h, sound, u, is-r), (rw (← is-o, h, sound, u), rw (← is-o, h, sound, u)))
 
       pub carry-written : (uid ≡ 0 → ⊥) → (tcp udp : List ℕ) → tcp ≡ notes uid Tcp (entriesData t) (replicate 1024 0)
-          → udp ≡ notes uid Udp (entriesData t) (replicate 1024 0) → (r : Carried) (d' e' : List ℕ)
+          → udp ≡ notes uid Udp (entriesData t) (replicate 1024 0) → (r : WrittenTwo) (d' e' : List ℕ)
           → Did d e (withinRooms (length d) (length e) (plainText (inBoth tcp udp), markedText (inBoth tcp udp))) r d' e' → Did d e outcome r d' e'
       unfolding carry
       carry-written z tcp udp is-tcp is-udp r d' e' w =

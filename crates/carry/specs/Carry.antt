@@ -2,26 +2,21 @@
 --   carried t uid p        == the list t has both a tcp and a udp entry for that uid and port
 --   plainText, markedText  == the byuid lines for ports 1 to 511, and for 512 to 1023
 --   carry t uid room other == the call: the plain text into room bytes, the marked one into other
---   plainAfter, markedAfter == what the two lent outputs hold after an outcome
---   carriedOf o            == the outcome as the code answers it
 -- Assumes nothing: these are definitions.
 use Prim.Native.Nat.{ℕ, zero, suc}
-use mathlib.Core.Bool.{Bool, _&&_, _||_}
+use mathlib.Core.Bool.{Bool, _&&_}
 use mathlib.Core.List.{List, [], _++_}
-use lib.ListN.{length}
-use lib.Dec.{ltb, eqb}
+use lib.Dec.{eqb}
 use Rattle.text.specs.Basics.{if_then_else_, _orElse_, given, holds, any}
 use Rattle.text.specs.Text.{bytes}
 use Rattle.text.specs.Number.{decimal}
 use Rattle.section.specs.declared.Fault.the-variants as F
-use Rattle.section.specs.Refusal.{Outcome, refused, answered, _>>=_, placeless, refusing, lentAfter}
+use Rattle.section.specs.Refusal.{Outcome, _>>=_, placeless, refusing, withinRooms}
 use Rattle.section.specs.Section as S
 use Rattle.section.specs.Section.{overLimit}
 use Rattle.portacl.specs.declared.Protocol.{Protocol}
 use Rattle.portacl.specs.declared.Protocol.the-variants.{Tcp, Udp}
 use Rattle.portacl.specs.Portacl.{bind, entries, portaclFault}
-use Rattle.carry.specs.declared.Carried.{Carried}
-use Rattle.carry.specs.declared.Carried.the-variants as C
 
 -- an entry "for that uid"; "group entries are not" carried over
 abbrev pub hasEntry : List ℕ → ℕ → Protocol → ℕ → Bool
@@ -47,24 +42,9 @@ plainText f = spanLines f 511 1
 abbrev pub markedText : (ℕ → Bool) → List ℕ
 markedText f = spanLines f 512 512
 
--- "then 14 if either text doesn't fit"
-abbrev pub withinRooms : ℕ → ℕ → List ℕ × List ℕ → Outcome (List ℕ × List ℕ)
-withinRooms room other p = refusing (given (ltb room (length (p .0)) || ltb other (length (p .1))) (placeless F.NoRoom)) p
-
 -- "Refusals: 2 and 12 for the list, then 13 for uid 0, then 14": "Root is never ruled by byuid, so uid 0 is turned away."
 unfoldable pub carry : List ℕ → ℕ → ℕ → ℕ → Outcome (List ℕ × List ℕ)
 carry t uid room other =
     refusing (overLimit S.portacl t orElse portaclFault t orElse given (eqb uid 0) (placeless F.BadRequest))
     (plainText (carried t uid), markedText (carried t uid))
     >>= withinRooms room other
-
--- "with neither written": a refusal leaves both as they were
-abbrev pub plainAfter : List ℕ → Outcome (List ℕ × List ℕ) → List ℕ
-plainAfter out o = lentAfter out (o >>= λ p. answered (p .0))
-
-abbrev pub markedAfter : List ℕ → Outcome (List ℕ × List ℕ) → List ℕ
-markedAfter out o = lentAfter out (o >>= λ p. answered (p .1))
-
-abbrev pub carriedOf : Outcome (List ℕ × List ℕ) → Carried
-carriedOf (refused r) = C.Refused r
-carriedOf (answered p) = C.Counts (length (p .0)) (length (p .1))

@@ -2,19 +2,14 @@
 //   carry(plain, marked, text, uid) == the call: every check, then the lines for the plain and for the marked file
 use portacl::Checked;
 use section::Fault;
-use section::Refusal;
+use section::WrittenTwo;
 ghost use mathlib.Core.Path.{_≡_};
 ghost use Prim.Native.Nat.{_+_, _≤_, _<_};
 ghost use lib.ListN.{length};
 ghost use Rattle.text.specs.Scan.{putAt, after};
-ghost use Rattle.carry.specs.Carry.{portLines, spanLines, plainText, markedText, withinRooms, carry as carryOf, plainAfter, markedAfter, carriedOf};
+ghost use Rattle.section.specs.Refusal.{withinRooms, firstAfter, secondAfter, writtenTwoOf};
+ghost use Rattle.carry.specs.Carry.{portLines, spanLines, plainText, markedText, carry as carryOf};
 ghost use Rattle.carry.specs.Code.{inBoth, linesIf, addressLine};
-
-// What the call answers: a refusal, or how many bytes it wrote into each output.
-pub enum Carried {
-    Refused(Refusal),
-    Counts(usize, usize),
-}
 
 // Whether a port is noted in both sets.
 fn is_in_both(tcp: &[u8], udp: &[u8], port: usize) -> bool
@@ -107,50 +102,50 @@ fn put_span(out: &mut [u8], tcp: &[u8], udp: &[u8], from: usize, count: usize) -
 }
 
 // Writes both texts, where both have room.
-fn write_texts(plain: &mut [u8], marked: &mut [u8], tcp: &[u8], udp: &[u8]) -> Carried
+fn write_texts(plain: &mut [u8], marked: &mut [u8], tcp: &[u8], udp: &[u8]) -> WrittenTwo
     ensures answer { λ r. ⌜ r
-        ≡ carriedOf
+        ≡ writtenTwoOf
         (withinRooms (length (now (plain .entry))) (length (now (marked .entry)))
         (plainText (inBoth (now (tcp .entry)) (now (udp .entry))), markedText (inBoth (now (tcp .entry)) (now (udp .entry))))) ⌝ }
     ensures lower { λ _. ⌜ now (plain .exit)
-        ≡ plainAfter (now (plain .entry))
+        ≡ firstAfter (now (plain .entry))
         (withinRooms (length (now (plain .entry))) (length (now (marked .entry)))
         (plainText (inBoth (now (tcp .entry)) (now (udp .entry))), markedText (inBoth (now (tcp .entry)) (now (udp .entry))))) ⌝ }
     ensures upper { λ _. ⌜ now (marked .exit)
-        ≡ markedAfter (now (marked .entry))
+        ≡ secondAfter (now (marked .entry))
         (withinRooms (length (now (plain .entry))) (length (now (marked .entry)))
         (plainText (inBoth (now (tcp .entry)) (now (udp .entry))), markedText (inBoth (now (tcp .entry)) (now (udp .entry))))) ⌝ }
 {
     if plain.len() < measure(tcp, udp, 1, 511) {
-        return Carried::Refused(section::placeless(Fault::NoRoom));
+        return WrittenTwo::Refused(section::placeless(Fault::NoRoom));
     }
     if marked.len() < measure(tcp, udp, 512, 512) {
-        return Carried::Refused(section::placeless(Fault::NoRoom));
+        return WrittenTwo::Refused(section::placeless(Fault::NoRoom));
     }
     let lower = put_span(plain, tcp, udp, 1, 511);
     let upper = put_span(marked, tcp, udp, 512, 512);
-    Carried::Counts(lower, upper)
+    WrittenTwo::Counts(lower, upper)
 }
 
 // Writes the byuid lines for the user id at the front of both outputs: the plain file's and the marked file's. A refusal leaves both as they were.
-pub fn carry(plain: &mut [u8], marked: &mut [u8], text: &[u8], uid: u32) -> Carried
+pub fn carry(plain: &mut [u8], marked: &mut [u8], text: &[u8], uid: u32) -> WrittenTwo
     ensures answer { λ r. ⌜ r
-        ≡ carriedOf (carryOf (now (text .entry)) uid (length (now (plain .entry))) (length (now (marked .entry)))) ⌝ }
+        ≡ writtenTwoOf (carryOf (now (text .entry)) uid (length (now (plain .entry))) (length (now (marked .entry)))) ⌝ }
     ensures lower { λ _. ⌜ now (plain .exit)
-        ≡ plainAfter (now (plain .entry)) (carryOf (now (text .entry)) uid (length (now (plain .entry))) (length (now (marked .entry)))) ⌝ }
+        ≡ firstAfter (now (plain .entry)) (carryOf (now (text .entry)) uid (length (now (plain .entry))) (length (now (marked .entry)))) ⌝ }
     ensures upper { λ _. ⌜ now (marked .exit)
-        ≡ markedAfter (now (marked .entry)) (carryOf (now (text .entry)) uid (length (now (plain .entry))) (length (now (marked .entry)))) ⌝ }
+        ≡ secondAfter (now (marked .entry)) (carryOf (now (text .entry)) uid (length (now (plain .entry))) (length (now (marked .entry)))) ⌝ }
 {
     if section::Portacl::over(text.len()) {
-        return Carried::Refused(section::Portacl::refusal(Fault::OverLimit, 0));
+        return WrittenTwo::Refused(section::Portacl::refusal(Fault::OverLimit, 0));
     }
     let mut tcp = [0u8; 1024];
     let mut udp = [0u8; 1024];
     match portacl::note_ports(&mut tcp, &mut udp, text, uid) {
-        Checked::Refused(refusal) => Carried::Refused(refusal),
+        Checked::Refused(refusal) => WrittenTwo::Refused(refusal),
         Checked::Sound => {
             if uid == 0 {
-                return Carried::Refused(section::placeless(Fault::BadRequest));
+                return WrittenTwo::Refused(section::placeless(Fault::BadRequest));
             }
             write_texts(plain, marked, &tcp, &udp)
         }

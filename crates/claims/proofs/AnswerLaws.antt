@@ -9,7 +9,7 @@ use lib.Seq.{take-at}
 use Rattle.section.specs.declared.Fault.{Fault}
 use Rattle.section.specs.declared.Fault.the-variants as F
 use Rattle.section.specs.declared.Refusal.{Refusal}
-use Rattle.section.specs.Refusal.{Outcome, refused, answered, _>>=_, faultNumber, lentAfter}
+use Rattle.section.specs.Refusal.{Outcome, refused, answered, _>>=_, faultNumber, lentAfter, firstAfter, secondAfter}
 use Rattle.section.specs.Section.{bytesAt}
 use Rattle.address.specs.declared.Addr.{Addr}
 use Rattle.address.specs.declared.Addr.the-variants as A
@@ -34,8 +34,9 @@ use Rattle.station.specs.Station.{decideSheet, lookedSheet, decideByuidSheet, d
 use Rattle.codes.specs.declared.GateCheck.{GateCheck}
 use Rattle.codes.specs.Requests.{request, byuidBind, byuidFileBind, authbindAsked, portaclBind, writeBy}
 use Rattle.codes.specs.Answers.{refusalAnswer, wordAnswer, answerNumbers, accepted, verdictAnswer, byuidAnswer, portaclAnswer, checkAnswer, partsAnswer, writtenAnswer, addressAnswer}
-use Rattle.codes.specs.Answers.{Command, together, commandAnswer, nextAnswer, carriedAnswer}
-use Rattle.carry.specs.Carry.{carry, plainAfter, markedAfter}
+use Rattle.codes.specs.Answers.{Command, together, commandAnswer, nextAnswer, writtenTwoAnswer}
+use Rattle.carry.specs.Carry.{carry}
+use Rattle.salvage.specs.Salvage.{salvage}
 use Rattle.gate.specs.Calls.{wrote}
 use Rattle.claims.specs.Claims.{Accepted, front, Decision, by-word, by-refusal, EveryDecision, EveryNumber, RefusalWritesNothing}
 
@@ -61,7 +62,7 @@ fault-nonzero F.DottedAddress e = omega arith
 fault-nonzero F.LateAnswer e = omega arith
 fault-nonzero F.RetiredForm e = omega arith
 
-check-answered : (o : Outcome Parts) → checkAnswer o ≡ accepted → (p : Parts) × (o ≡ answered p)
+pub check-answered : (o : Outcome Parts) → checkAnswer o ≡ accepted → (p : Parts) × (o ≡ answered p)
 unfolding checkAnswer
 check-answered (refused r) e = absurd (fault-nonzero (r .fault) (ap (λ (c : GateCheck). c .number) e))
 check-answered (answered p) e = (p, refl)
@@ -180,8 +181,14 @@ unfolding nextAnswer
 next-most (refused r) = fault-most (r .fault)
 next-most (answered s) = omega arith
 
-two-most : (o : Outcome (List ℕ × List ℕ)) → carriedAnswer o .number ≤ 22
-unfolding carriedAnswer
+-- a call with two outputs that is not refused
+pub two-answered : (o : Outcome (List ℕ × List ℕ)) → writtenTwoAnswer o .number ≡ 0 → (p : List ℕ × List ℕ) × (o ≡ answered p)
+unfolding writtenTwoAnswer
+two-answered (refused r) e = absurd (fault-nonzero (r .fault) e)
+two-answered (answered p) e = (p, refl)
+
+two-most : (o : Outcome (List ℕ × List ℕ)) → writtenTwoAnswer o .number ≤ 22
+unfolding writtenTwoAnswer
 two-most (refused r) = fault-most (r .fault)
 two-most (answered p) = omega arith
 
@@ -196,6 +203,7 @@ every-number = record {
   write-number = λ kind high low out. written-most (writeBy kind high low (length out));
   authbind-number = λ port kind high low uid answers out. next-most (nextStep (authbindAsked port kind high low uid answers) (length out));
   carry-number = λ list uid plain marked. two-most (carry list uid (length plain) (length marked));
+  salvage-number = λ sheet out list. two-most (salvage sheet (length out) (length list));
 }
 
 -- ## A refusal writes nothing
@@ -215,10 +223,10 @@ unfolding nextAnswer
 name-kept out (refused r) h = refl
 name-kept out (answered s) h = absurd (h refl)
 
-two-kept : (plain marked : List ℕ) (o : Outcome (List ℕ × List ℕ)) → (carriedAnswer o .number ≡ 0 → ⊥) → (plainAfter plain o ≡ plain) × (markedAfter marked o ≡ marked)
-unfolding carriedAnswer
-two-kept plain marked (refused r) h = (refl, refl)
-two-kept plain marked (answered p) h = absurd (h refl)
+two-kept : (out other : List ℕ) (o : Outcome (List ℕ × List ℕ)) → (writtenTwoAnswer o .number ≡ 0 → ⊥) → (firstAfter out o ≡ out) × (secondAfter other o ≡ other)
+unfolding writtenTwoAnswer
+two-kept out other (refused r) h = (refl, refl)
+two-kept out other (answered p) h = absurd (h refl)
 
 pub refusal-writes-nothing : RefusalWritesNothing
 refusal-writes-nothing = record {
@@ -234,4 +242,5 @@ refusal-writes-nothing = record {
       (lookedSheet sheet (request n));
   naming = λ port kind high low uid answers out. name-kept out (nextStep (authbindAsked port kind high low uid answers) (length out));
   carrying = λ list uid plain marked. two-kept plain marked (carry list uid (length plain) (length marked));
+  salvaging = λ sheet out list. two-kept out list (salvage sheet (length out) (length list));
 }

@@ -15,7 +15,7 @@ use Rattle.text.specs.Basics.{if_then_else_, _orElse_, given, holds, any}
 use Rattle.text.specs.Text.{split}
 use Rattle.section.specs.declared.Fault.the-variants as F
 use Rattle.section.specs.declared.Refusal.{Refusal}
-use Rattle.section.specs.Refusal.{Outcome, refused, answered, placeless, refusing}
+use Rattle.section.specs.Refusal.{Outcome, refused, answered, placeless, refusing, withinRooms}
 use Rattle.section.specs.Section as S
 use Rattle.section.specs.Section.{overLimit}
 use Rattle.address.specs.declared.Addr.{Addr}
@@ -29,16 +29,16 @@ use Rattle.portacl.specs.declared.Protocol.the-variants.{Tcp, Udp}
 use Rattle.portacl.specs.declared.Decision.the-variants as P
 use Rattle.portacl.specs.Portacl as Portacl
 use Rattle.portacl.specs.Portacl.{entries, portaclFault, portaclDecision, decidePortacl}
-use Rattle.carry.specs.Carry.{hasEntry, carried, spanLines, plainText, markedText, withinRooms, carry}
+use Rattle.carry.specs.Carry.{hasEntry, carried, spanLines, plainText, markedText, carry}
 use Rattle.carry.proofs.SizeLaws.{texts-small}
 use Rattle.carry.proofs.GrantLaws.{Somewhere, at-v4, at-v6, span-grants, never-retired}
 use Rattle.sheet.proofs.FrameLaws.{bind-answered, refusing-answered, given-none}
 use Rattle.sheet.proofs.TextsLaws.{orElse-none}
 use Rattle.codes.specs.Requests.{addressOf, markOf, protocolOf, isPort, byuidBind, byuidFileBind, portaclBind}
-use Rattle.codes.specs.Answers.{wordAnswer, byuidAnswer, portaclAnswer, carriedAnswer}
+use Rattle.codes.specs.Answers.{wordAnswer, byuidAnswer, portaclAnswer, writtenTwoAnswer}
 use Rattle.gate.specs.Calls.{gateByuid, gatePortacl, gateCarry}
 use Rattle.claims.specs.CarriedOver.{strict, grantsBoth, Address, v4, v6, plainWritten, markedWritten, grantedIf, CarriedOver}
-use Rattle.claims.proofs.AnswerLaws.{fault-nonzero}
+use Rattle.claims.proofs.AnswerLaws.{two-answered}
 
 -- ## What was carried over
 
@@ -65,11 +65,6 @@ carry-answered list uid room other p e =
       caller = given-none (eqb uid 0) (placeless F.BadRequest) (o .1);
       texts = sym (q .1 ∙ w .1);
     }
-
-carried-answered : (o : Outcome (List ℕ × List ℕ)) → carriedAnswer o .number ≡ 0 → (p : List ℕ × List ℕ) × (o ≡ answered p)
-unfolding carriedAnswer
-carried-answered (refused r) e = absurd (fault-nonzero (r .fault) e)
-carried-answered (answered p) e = (p, refl)
 
 -- ## By portacl
 
@@ -125,7 +120,7 @@ module _ (list : List ℕ) (uid : ℕ) (plain marked : List ℕ) (e : gateCarry 
   f = carried list uid
 
   found : (p : List ℕ × List ℕ) × (carry list uid (length plain) (length marked) ≡ answered p)
-  found = carried-answered (carry list uid (length plain) (length marked)) e
+  found = two-answered (carry list uid (length plain) (length marked)) e
 
   facts : Carried list uid (length plain) (length marked) (found .0)
   facts = carry-answered list uid (length plain) (length marked) (found .0) (found .1)
@@ -134,15 +129,15 @@ module _ (list : List ℕ) (uid : ℕ) (plain marked : List ℕ) (e : gateCarry 
   whole = found .1 ∙ ap answered (facts .texts)
 
   plain-is : plainWritten (gateCarry list uid plain marked) ≡ plainText (carried list uid)
-  unfolding carriedAnswer
+  unfolding writtenTwoAnswer
   plain-is = rw whole (take-at (plainText (carried list uid)) (drop (length (plainText (carried list uid))) plain) (length (plainText (carried list uid))) refl)
 
   marked-is : markedWritten (gateCarry list uid plain marked) ≡ markedText (carried list uid)
-  unfolding carriedAnswer
+  unfolding writtenTwoAnswer
   marked-is = rw whole (take-at (markedText (carried list uid)) (drop (length (markedText (carried list uid))) marked) (length (markedText (carried list uid))) refl)
 
   longer : gateCarry list uid plain marked .answer .count + gateCarry list uid plain marked .answer .«other_count» ≤ length list
-  unfolding carriedAnswer
+  unfolding writtenTwoAnswer
   longer = rw whole (texts-small list uid)
 
   ruled : (port : ℕ) → 1 ≤ port → port ≤ 1023 → isRuled port uid ≡ true

@@ -14,6 +14,7 @@ use Rattle.claims.proofs.OrderClaims.{absent-goes-on, answer-settles, n
 use Rattle.claims.proofs.LimitClaims.{old-boxes}
 use Rattle.claims.proofs.RetiredClaims.{retired-refused, converted, refusal-numbers}
 use Rattle.claims.proofs.CarryClaims.{carried-over}
+use Rattle.claims.proofs.SalvageClaims.{salvaged-sheets}
 use Rattle.claims.proofs.MattersClaims.{name-matters}
 
 pub claims : Claims
@@ -54,6 +55,7 @@ claims = record {
   converted = converted;
   refusal-numbers = refusal-numbers;
   carried-over = carried-over;
+  salvaged-sheets = salvaged-sheets;
   name-matters = name-matters;
   matters-examples = matters-examples;
 }

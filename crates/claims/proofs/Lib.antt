@@ -11,5 +11,6 @@ pub mod OrderClaims
 pub mod LimitClaims
 pub mod RetiredClaims
 pub mod CarryClaims
+pub mod SalvageClaims
 pub mod MattersClaims
 pub mod Claims

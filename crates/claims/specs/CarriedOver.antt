@@ -27,10 +27,10 @@ pub data Address : ℕ → ℕ → ℕ → Type 0 where
 
 -- the two texts that were written
 abbrev pub plainWritten : WroteTwo → List ℕ
-plainWritten w = take (w .answer .count) (w .plain)
+plainWritten w = take (w .answer .count) (w .out)
 
 abbrev pub markedWritten : WroteTwo → List ℕ
-markedWritten w = take (w .answer .«other_count») (w .marked)
+markedWritten w = take (w .answer .«other_count») (w .other)
 
 -- the answer to a port of a text's span: granted exactly if portacl grants both, else "no line"
 abbrev pub grantedIf : Bool → ℕ

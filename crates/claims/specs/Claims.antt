@@ -35,7 +35,7 @@ use Rattle.codes.specs.Answers.{granted, denied, ask, noLine, nameMatters, word
 use Rattle.codes.specs.Answers.{refusalAnswer, refusedCheck, accepted, refusedParts, countWritten, withCount, addressWith}
 use Rattle.gate.specs.Calls.{gateVerdict, gateTablesVerdict, gateSheetVerdict, gateByuid, gateSheetByuid, gatePortacl, gateSheetPortacl}
 use Rattle.gate.specs.Calls.{gateCheck, gateUnpack, gateReadAddress, Wrote, gatePack, gateUpgrade, gateExpand, gateWriteAddress}
-use Rattle.gate.specs.Calls.{WroteCommand, gateCommand, gateSheetCommand, gateAuthbind, gateCarry}
+use Rattle.gate.specs.Calls.{WroteCommand, gateCommand, gateSheetCommand, gateAuthbind, gateCarry, gateSalvage}
 use Rattle.gate.specs.Calls.{gateNameMatters, gateTablesNameMatters, gateSheetNameMatters}
 use Rattle.claims.specs.Examples.{Examples}
 use Rattle.claims.specs.MaskExamples.{MaskExamples}
@@ -45,6 +45,7 @@ use Rattle.claims.specs.OldBoxes.{OldBoxes}
 use Rattle.claims.specs.Retired.{RetiredRefused, Converted, RefusalNumbers}
 use Rattle.claims.specs.LookedExamples.{LookedExamples}
 use Rattle.claims.specs.CarriedOver.{CarriedOver}
+use Rattle.claims.specs.Salvaged.{SalvagedSheets}
 use Rattle.claims.specs.MattersExamples.{MattersExamples}
 use Rattle.claims.specs.AuthbindOrder.{AbsentGoesOn, AnswerSettles, NamesDiffer, ReadsItsFile, ManualExample}
 
@@ -104,7 +105,9 @@ pub record RefusalWritesNothing : Type 0 where
   pub naming : (port kind high low uid : ℕ) (answers out : List ℕ) → (gateAuthbind port kind high low uid answers out .answer .number ≡ 0 → ⊥)
       → gateAuthbind port kind high low uid answers out .out ≡ out
   pub carrying : (list : List ℕ) (uid : ℕ) (plain marked : List ℕ) → (gateCarry list uid plain marked .answer .number ≡ 0 → ⊥)
-      → (gateCarry list uid plain marked .plain ≡ plain) × (gateCarry list uid plain marked .marked ≡ marked)
+      → (gateCarry list uid plain marked .out ≡ plain) × (gateCarry list uid plain marked .other ≡ marked)
+  pub salvaging : (sheet out list : List ℕ) → (gateSalvage sheet out list .answer .number ≡ 0 → ⊥)
+      → (gateSalvage sheet out list .out ≡ out) × (gateSalvage sheet out list .other ≡ list)
 
 -- a decision is a word, or a refusal by one of the papers' numbers "and gives no verdict"
 pub data Decision : GateAnswer → Type 0 where
@@ -132,6 +135,7 @@ pub record EveryNumber : Type 0 where
   pub write-number : (kind high low : ℕ) (out : List ℕ) → gateWriteAddress kind high low out .answer .number ≤ 22
   pub authbind-number : (port kind high low uid : ℕ) (answers out : List ℕ) → gateAuthbind port kind high low uid answers out .answer .number ≤ 22
   pub carry-number : (list : List ℕ) (uid : ℕ) (plain marked : List ℕ) → gateCarry list uid plain marked .answer .number ≤ 22
+  pub salvage-number : (sheet out list : List ℕ) → gateSalvage sheet out list .answer .number ≤ 22
 
 -- ## Demand 2
 
@@ -422,6 +426,8 @@ pub record Claims : Type 0 where
   pub refusal-numbers : RefusalNumbers
   -- document 02, request 13
   pub carried-over : CarriedOver
+  -- document 02, request 9
+  pub salvaged-sheets : SalvagedSheets
   -- document 02, request 14
   pub name-matters : NameMatters
   pub matters-examples : MattersExamples

@@ -27,9 +27,9 @@ use Rattle.portacl.specs.declared.Decision.{Decision as PortaclDecision}
 use Rattle.portacl.specs.declared.Ruling.{Ruling as PortaclRuling}
 use Rattle.portacl.specs.declared.Ruling.the-variants as P
 use Rattle.portacl.specs.Portacl as Portacl
-use Rattle.carry.specs.declared.Carried.{Carried}
-use Rattle.carry.specs.declared.Carried.the-variants as Carried
-use Rattle.carry.specs.Carry.{carriedOf}
+use Rattle.section.specs.declared.WrittenTwo.{WrittenTwo}
+use Rattle.section.specs.declared.WrittenTwo.the-variants as Two
+use Rattle.section.specs.Refusal.{writtenTwoOf}
 use Rattle.authbind.specs.declared.Next.{Next}
 use Rattle.authbind.specs.declared.Next.the-variants as N
 use Rattle.authbind.specs.Authbind as Authbind
@@ -50,8 +50,8 @@ use Rattle.codes.specs.declared.GateParts.{GateParts}
 use Rattle.codes.specs.declared.GateWritten.{GateWritten}
 use Rattle.codes.specs.declared.GateAddress.{GateAddress}
 use Rattle.codes.specs.Answers.{verdictWord, byuidWord, portaclWord, refusalAnswer, wordAnswer, answerNumbers, accepted, foundParts, countWritten, addressWith}
-use Rattle.codes.specs.Answers.{placeNumbers, mattersAnswer, addressNumbers, verdictAnswer, byuidAnswer, portaclAnswer, checkAnswer, partsAnswer, writtenAnswer, countTwo, carriedAnswer, addressAnswer, command, together, withCount, commandAnswer, nextWith, nextAnswer}
-use Rattle.codes.specs.Code.{matterNumbers, byuidNumbers, portaclNumbers, verdictNumbers, checkNumbers, partsNumbers, writtenNumbers, carriedNumbers, commandWritten, nextNumbers, readNumbers}
+use Rattle.codes.specs.Answers.{placeNumbers, mattersAnswer, addressNumbers, verdictAnswer, byuidAnswer, portaclAnswer, checkAnswer, partsAnswer, writtenAnswer, countTwo, writtenTwoAnswer, addressAnswer, command, together, withCount, commandAnswer, nextWith, nextAnswer}
+use Rattle.codes.specs.Code.{matterNumbers, byuidNumbers, portaclNumbers, verdictNumbers, checkNumbers, partsNumbers, writtenNumbers, writtenTwoNumbers, commandWritten, nextNumbers, readNumbers}
 
 pub byuid-numbers : (o : Outcome ByuidDecision) (x : ByuidRuling) (a : GateAnswer) → x ≡ Byuid.byuidRuling o → a ≡ byuidNumbers x → a ≡ byuidAnswer o
 unfolding byuidNumbers byuidAnswer
@@ -114,17 +114,17 @@ unfolding writtenNumbers writtenAnswer
 written-numbers (refused r) x a e f = rw e at f
 written-numbers (answered t) x a e f = rw e at f
 
-pub carried-numbers : (o : Outcome (List ℕ × List ℕ)) (x : Carried) (a : GateWrittenTwo) → x ≡ carriedOf o → a ≡ carriedNumbers x → a ≡ carriedAnswer o
-unfolding carriedNumbers carriedAnswer
-carried-numbers (refused r) x a e f = rw e at f
-carried-numbers (answered p) x a e f = rw e at f
+pub written-two-numbers : (o : Outcome (List ℕ × List ℕ)) (x : WrittenTwo) (a : GateWrittenTwo) → x ≡ writtenTwoOf o → a ≡ writtenTwoNumbers x → a ≡ writtenTwoAnswer o
+unfolding writtenTwoNumbers writtenTwoAnswer
+written-two-numbers (refused r) x a e f = rw e at f
+written-two-numbers (answered p) x a e f = rw e at f
 
-pub carried-refused : (x : Carried) (r : Refusal) (a : GateWrittenTwo) → x ≡ Carried.Refused r → a ≡ carriedNumbers (Carried.Refused r) → a ≡ carriedNumbers x
-carried-refused x r a e f = rw e f
+pub written-two-refused : (x : WrittenTwo) (r : Refusal) (a : GateWrittenTwo) → x ≡ Two.Refused r → a ≡ writtenTwoNumbers (Two.Refused r) → a ≡ writtenTwoNumbers x
+written-two-refused x r a e f = rw e f
 
-pub carried-counts : (x : Carried) (n m : ℕ) → x ≡ Carried.Counts n m → countTwo n m ≡ carriedNumbers x
-unfolding carriedNumbers
-carried-counts x n m e = rw e
+pub written-two-counts : (x : WrittenTwo) (n m : ℕ) → x ≡ Two.Counts n m → countTwo n m ≡ writtenTwoNumbers x
+unfolding writtenTwoNumbers
+written-two-counts x n m e = rw e
 
 pub read-numbers : (o : Outcome Addr) (x : AddressRead) (a : GateAddress) → x ≡ asRead o → a ≡ readNumbers x → a ≡ addressAnswer o
 unfolding readNumbers addressAnswer

@@ -5,7 +5,7 @@
 --   checkAnswer, partsAnswer                  == what checking and unpacking a sheet answer
 --   writtenAnswer                             == what a call that writes answers
 --   commandAnswer                             == what a call that decides and expands answers
---   carriedAnswer                             == what a call that writes into two outputs answers
+--   writtenTwoAnswer                          == what a call that writes into two outputs answers
 --   nextAnswer                                == what comes next in authbind's order
 --   addressAnswer                             == an address read
 -- Of a refusal all have number, section and line; all else is 0, and of an address its kind is one that no address has.
@@ -217,16 +217,16 @@ unfoldable pub writtenAnswer : Outcome (List ℕ) → GateWritten
 writtenAnswer (refused r) = refusedWritten r
 writtenAnswer (answered t) = countWritten (length t)
 
--- document 02, request 13: the plain text and the marked one
+-- document 02, requests 9 and 13: two outputs
 abbrev pub refusedTwo : Refusal → GateWrittenTwo
 refusedTwo r = record { number = faultNumber (r .fault); section = r .section; line = r .line; count = 0; «other_count» = 0 }
 
 abbrev pub countTwo : ℕ → ℕ → GateWrittenTwo
 countTwo n m = record { number = 0; section = 0; line = 0; count = n; «other_count» = m }
 
-unfoldable pub carriedAnswer : Outcome (List ℕ × List ℕ) → GateWrittenTwo
-carriedAnswer (refused r) = refusedTwo r
-carriedAnswer (answered p) = countTwo (length (p .0)) (length (p .1))
+unfoldable pub writtenTwoAnswer : Outcome (List ℕ × List ℕ) → GateWrittenTwo
+writtenTwoAnswer (refused r) = refusedTwo r
+writtenTwoAnswer (answered p) = countTwo (length (p .0)) (length (p .1))
 
 -- a verdict, and the command of the rule that decided, expanded
 pub record Command : Type 0 where

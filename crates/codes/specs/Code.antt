@@ -37,8 +37,8 @@ use Rattle.byuid.specs.declared.Ruling.{Ruling as ByuidRuling}
 use Rattle.byuid.specs.declared.Ruling.the-variants as B
 use Rattle.portacl.specs.declared.Ruling.{Ruling as PortaclRuling}
 use Rattle.portacl.specs.declared.Ruling.the-variants as P
-use Rattle.carry.specs.declared.Carried.{Carried}
-use Rattle.carry.specs.declared.Carried.the-variants as Carried
+use Rattle.section.specs.declared.WrittenTwo.{WrittenTwo}
+use Rattle.section.specs.declared.WrittenTwo.the-variants as Two
 use Rattle.authbind.specs.declared.Next.{Next}
 use Rattle.authbind.specs.declared.Next.the-variants as Step
 use Rattle.rules.specs.declared.Answer.{Answer}
@@ -176,9 +176,9 @@ unfoldable pub commandWritten : Answer → ℕ → Written → GateCommand
 commandWritten a k (W.Refused r) = withCount (refusalAnswer r) 0
 commandWritten a k (W.Count n) = withCount (answerNumbers a k) n
 
-unfoldable pub carriedNumbers : Carried → GateWrittenTwo
-carriedNumbers (Carried.Refused r) = refusedTwo r
-carriedNumbers (Carried.Counts n m) = countTwo n m
+unfoldable pub writtenTwoNumbers : WrittenTwo → GateWrittenTwo
+writtenTwoNumbers (Two.Refused r) = refusedTwo r
+writtenTwoNumbers (Two.Counts n m) = countTwo n m
 
 unfoldable pub nextNumbers : Next → GateNext
 nextNumbers (Step.Refused r) = refusedNext r

@@ -10,11 +10,11 @@ use crate::GateWrittenTwo;
 use address::Addr;
 use address::read::AddressRead;
 use authbind::Next;
-use carry::Carried;
 use matters::Matter;
 use matters::Place;
 use section::Refusal;
 use section::Written;
+use section::WrittenTwo;
 use sheet::Parts;
 use sheet::unpack::Unpacked;
 ghost use mathlib.Core.Path.{_≡_};
@@ -23,9 +23,9 @@ ghost use Rattle.section.specs.declared.Written.the-variants as W;
 ghost use Rattle.address.specs.declared.read.AddressRead.the-variants as R;
 ghost use Rattle.sheet.specs.declared.unpack.Unpacked.the-variants as Un;
 ghost use Rattle.authbind.specs.declared.Next.the-variants as N;
-ghost use Rattle.carry.specs.declared.Carried.the-variants as C;
+ghost use Rattle.section.specs.declared.WrittenTwo.the-variants as Two;
 ghost use Rattle.codes.specs.Answers.{placeNumbers, verdictWord, byuidWord, portaclWord, refusalAnswer, wordAnswer, answerNumbers, foundParts, withCount, nextWith, addressWith, addressNumbers};
-ghost use Rattle.codes.specs.Code.{matterNumbers, byuidNumbers, portaclNumbers, verdictNumbers, checkNumbers, partsNumbers, writtenNumbers, carriedNumbers, commandWritten, nextNumbers, readNumbers};
+ghost use Rattle.codes.specs.Code.{matterNumbers, byuidNumbers, portaclNumbers, verdictNumbers, checkNumbers, partsNumbers, writtenNumbers, writtenTwoNumbers, commandWritten, nextNumbers, readNumbers};
 
 // The kind of an address that was not read: no address has it.
 pub const NO_ADDRESS: u32 = 255;
@@ -287,8 +287,8 @@ pub fn written_numbers(w: Written) -> GateWritten
     }
 }
 
-fn not_carried(r: Refusal) -> GateWrittenTwo
-    ensures { λ a. ⌜ a ≡ carriedNumbers (C.Refused r) ⌝ }
+fn not_written_two(r: Refusal) -> GateWrittenTwo
+    ensures { λ a. ⌜ a ≡ writtenTwoNumbers (Two.Refused r) ⌝ }
 {
     let fault = r.fault;
     GateWrittenTwo {
@@ -301,17 +301,17 @@ fn not_carried(r: Refusal) -> GateWrittenTwo
 }
 
 // What a call that writes into two outputs answers, as numbers.
-pub fn carried_numbers(c: Carried) -> GateWrittenTwo
-    ensures { λ a. ⌜ a ≡ carriedNumbers c ⌝ }
+pub fn written_two_numbers(w: WrittenTwo) -> GateWrittenTwo
+    ensures { λ a. ⌜ a ≡ writtenTwoNumbers w ⌝ }
 {
-    match c {
-        Carried::Refused(refusal) => not_carried(refusal),
-        Carried::Counts(plain, marked) => GateWrittenTwo {
+    match w {
+        WrittenTwo::Refused(refusal) => not_written_two(refusal),
+        WrittenTwo::Counts(first, second) => GateWrittenTwo {
             number: 0,
             section: 0,
             line: 0,
-            count: plain as u64,
-            other_count: marked as u64,
+            count: first as u64,
+            other_count: second as u64,
         },
     }
 }

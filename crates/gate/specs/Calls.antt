@@ -1,11 +1,11 @@
 -- What each exported call answers, by the bytes and numbers that C hands over: one definition for each, which its promise and the claims cite.
---   wrote out o, wroteCommand out o k, wroteNext out o, wroteTwo plain marked o == what a call with the outcome o answers, and what the lent
+--   wrote out o, wroteCommand out o k, wroteNext out o, wroteTwo out other o == what a call with the outcome o answers, and what the lent
 --     outputs hold afterwards; k: how many elements were looked at
 -- Assumes nothing: these are definitions.
 use Prim.Native.Nat.{ℕ}
 use mathlib.Core.List.{List, []}
 use lib.ListN.{length}
-use Rattle.section.specs.Refusal.{Outcome, answered, _>>=_, lentAfter}
+use Rattle.section.specs.Refusal.{Outcome, answered, _>>=_, lentAfter, firstAfter, secondAfter}
 use Rattle.section.specs.Section.{bytesAt}
 use Rattle.address.specs.Address.{readAddress}
 use Rattle.tables.specs.Table.{tablesOf}
@@ -15,7 +15,8 @@ use Rattle.expansion.specs.Expand.{expand}
 use Rattle.byuid.specs.Byuid.{decideByuid}
 use Rattle.byuid.specs.Convert.{convert}
 use Rattle.authbind.specs.Authbind.{Step, nextStep, nameWritten}
-use Rattle.carry.specs.Carry.{carry, plainAfter, markedAfter}
+use Rattle.carry.specs.Carry.{carry}
+use Rattle.salvage.specs.Salvage.{salvage}
 use Rattle.portacl.specs.declared.Settings.{Settings}
 use Rattle.portacl.specs.Portacl.{decidePortacl}
 use Rattle.sheet.specs.Sheet as Sheet
@@ -32,7 +33,7 @@ use Rattle.codes.specs.declared.GateWritten.{GateWritten}
 use Rattle.codes.specs.declared.GateWrittenTwo.{GateWrittenTwo}
 use Rattle.codes.specs.Requests.{RequestNumbers, request, byuidBind, byuidFileBind, authbindAsked, portaclBind, writeBy}
 use Rattle.codes.specs.Answers.{verdictAnswer, byuidAnswer, portaclAnswer, checkAnswer, partsAnswer, writtenAnswer, addressAnswer, Command, together, commandAnswer}
-use Rattle.codes.specs.Answers.{nextAnswer, carriedAnswer, mattersAnswer}
+use Rattle.codes.specs.Answers.{nextAnswer, writtenTwoAnswer, mattersAnswer}
 
 -- ## Decisions
 
@@ -135,14 +136,19 @@ wroteNext out o = record { answer = nextAnswer o; out = lentAfter out (nameWritt
 abbrev pub gateAuthbind : ℕ → ℕ → ℕ → ℕ → ℕ → List ℕ → List ℕ → WroteNext
 gateAuthbind port kind high low uid answers out = wroteNext out (nextStep (authbindAsked port kind high low uid answers) (length out))
 
--- document 02, request 13: "write the byuid lines that grant what the portacl list grants", into two lent outputs
+-- a call with two lent outputs
 pub record WroteTwo : Type 0 where
   pub answer : GateWrittenTwo
-  pub plain : List ℕ
-  pub marked : List ℕ
+  pub out : List ℕ
+  pub other : List ℕ
 
 abbrev pub wroteTwo : List ℕ → List ℕ → Outcome (List ℕ × List ℕ) → WroteTwo
-wroteTwo plain marked o = record { answer = carriedAnswer o; plain = plainAfter plain o; marked = markedAfter marked o }
+wroteTwo out other o = record { answer = writtenTwoAnswer o; out = firstAfter out o; other = secondAfter other o }
 
+-- document 02, request 13: "write the byuid lines that grant what the portacl list grants", the plain text and the marked one
 abbrev pub gateCarry : List ℕ → ℕ → List ℕ → List ℕ → WroteTwo
 gateCarry text uid plain marked = wroteTwo plain marked (carry text uid (length plain) (length marked))
+
+-- document 02, request 9: the new sheet, and the list of "section and line of each change"
+abbrev pub gateSalvage : List ℕ → List ℕ → List ℕ → WroteTwo
+gateSalvage sheet out list = wroteTwo out list (salvage sheet (length out) (length list))

@@ -4,6 +4,7 @@
 //   gate_name_matters, gate_tables_name_matters, gate_sheet_name_matters == whether the user's name can matter to a verdict
 //   gate_check, gate_unpack, gate_pack     == sheets checked, unpacked and packed
 //   gate_upgrade                           == a sheet of four sections with an empty count of tables
+//   gate_salvage                           == a damaged sheet made into an accepted one, and the list of what was changed
 //   gate_convert                           == a byuid text with its lines of the retired form in their new one
 //   gate_expand                            == a command expanded
 //   gate_command, gate_sheet_command       == a verdict, and its command expanded
@@ -28,7 +29,7 @@ ghost use Rattle.sheet.specs.Sheet.{texts};
 ghost use Rattle.codes.specs.Requests.{hostNumbers, requestNumbers, settingsOf};
 ghost use Rattle.gate.specs.Calls.{gateVerdict, gateTablesVerdict, gateSheetVerdict, gateByuid, gateSheetByuid, gatePortacl, gateSheetPortacl};
 ghost use Rattle.gate.specs.Calls.{gateCheck, gateUnpack, gateReadAddress, gatePack, gateUpgrade, gateExpand, gateCommand, gateSheetCommand, gateWriteAddress};
-ghost use Rattle.gate.specs.Calls.{gateAuthbind, gateConvert, gateCarry, gateNameMatters, gateTablesNameMatters, gateSheetNameMatters};
+ghost use Rattle.gate.specs.Calls.{gateAuthbind, gateConvert, gateCarry, gateSalvage, gateNameMatters, gateTablesNameMatters, gateSheetNameMatters};
 
 // The verdict by two texts.
 #[no_mangle]
@@ -569,10 +570,20 @@ pub extern "C" fn gate_carry(
     uid: u32,
 ) -> GateWrittenTwo
     ensures answer { λ r. ⌜ r ≡ gateCarry (now (text .entry)) uid (now (plain .entry)) (now (marked .entry)) .answer ⌝ }
-    ensures lower { λ _. ⌜ now (plain .exit) ≡ gateCarry (now (text .entry)) uid (now (plain .entry)) (now (marked .entry)) .plain ⌝ }
-    ensures upper { λ _. ⌜ now (marked .exit) ≡ gateCarry (now (text .entry)) uid (now (plain .entry)) (now (marked .entry)) .marked ⌝ }
+    ensures lower { λ _. ⌜ now (plain .exit) ≡ gateCarry (now (text .entry)) uid (now (plain .entry)) (now (marked .entry)) .out ⌝ }
+    ensures upper { λ _. ⌜ now (marked .exit) ≡ gateCarry (now (text .entry)) uid (now (plain .entry)) (now (marked .entry)) .other ⌝ }
 {
-    codes::answer::carried_numbers(carry::carry(plain, marked, text, uid))
+    codes::answer::written_two_numbers(carry::carry(plain, marked, text, uid))
+}
+
+// A sheet that is accepted, made of one with bad lines at the front of out, and at the front of list section and line of each change.
+#[no_mangle]
+pub extern "C" fn gate_salvage(out: &mut [u8], list: &mut [u8], sheet: &[u8]) -> GateWrittenTwo
+    ensures answer { λ r. ⌜ r ≡ gateSalvage (now (sheet .entry)) (now (out .entry)) (now (list .entry)) .answer ⌝ }
+    ensures made { λ _. ⌜ now (out .exit) ≡ gateSalvage (now (sheet .entry)) (now (out .entry)) (now (list .entry)) .out ⌝ }
+    ensures changes { λ _. ⌜ now (list .exit) ≡ gateSalvage (now (sheet .entry)) (now (out .entry)) (now (list .entry)) .other ⌝ }
+{
+    codes::answer::written_two_numbers(salvage::salvage(out, list, sheet))
 }
 
 // Whether the user's name can matter to the verdict by two texts.

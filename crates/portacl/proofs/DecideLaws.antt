@@ -9,7 +9,7 @@ use native.Mathlib.Omega.{arith}
 use borrow.Author.Tests.{eq-eqb, ne-eqb, lt-ltb, le-ltb, lt-leb, le-leb}
 use lib.Dec.{ltb, eqb}
 use lib.ListN.{length}
-use Rattle.text.specs.Basics.{_>>=_, holds, any}
+use Rattle.text.specs.Basics.{_>>=_, holds, isSome, any}
 use Rattle.text.specs.Text.{bytes, splitOnce, split}
 use Rattle.text.specs.Number.{readDecimal}
 use Rattle.section.specs.declared.Fault.the-variants as F
@@ -22,6 +22,8 @@ use Rattle.portacl.specs.declared.Decision.{Decision}
 use Rattle.portacl.specs.declared.Decision.the-variants.{NotRuled, Exempt, Granted, Denied}
 use Rattle.portacl.specs.declared.Entry.{Entry}
 use Rattle.portacl.specs.declared.Protocol.{Protocol}
+use Rattle.portacl.specs.declared.EntryRead.{EntryRead}
+use Rattle.portacl.specs.declared.EntryRead.the-variants.{Nothing, Value}
 use Rattle.portacl.specs.declared.Protocol.the-variants.{Tcp, Udp}
 use Rattle.portacl.specs.declared.Ruling.{Ruling}
 use Rattle.portacl.specs.declared.Ruling.the-variants.{Refused, Answered}
@@ -29,7 +31,8 @@ use Rattle.portacl.specs.declared.Settings.{Settings}
 use Rattle.portacl.specs.declared.Walked.{Walked}
 use Rattle.portacl.specs.declared.Walked.the-variants.{Bad, Sound}
 use Rattle.portacl.specs.Portacl.{bind, Bind, portaclRuling, readWord, readEntry, entries, entryFault, portaclFault, portaclDecision, decidePortacl}
-use Rattle.portacl.specs.Code.{checkedOf, entryData, idData, protocolData, portData, grantsTo, entriesData, walk, decisionOf}
+use Rattle.portacl.specs.Code.{checkedOf, asEntry, entryData, idData, protocolData, portData, grantsTo, entriesData, walk, decisionOf}
+use Rattle.portacl.proofs.WalkLaws.{asEntry-none, asEntry-some}
 
 -- what an entry that was read grants
 abbrev pub grantsOf : Option Entry → Option (Bind → Bool)
@@ -50,6 +53,14 @@ readEntry-entryData e =
     step (splitOnce (bytes ":") (c .1)) _ _ λ d.
     step (readWord (d .0) ("tcp", Tcp) ("udp", Udp)) _ _ λ protocol.
     step (readDecimal 65535 (d .1)) _ _ λ port. refl
+
+-- whether there is an entry, from the code's answer
+module _ (e : List ℕ) (r : EntryRead) (is-r : r ≡ asEntry (entryData e)) where
+  pub entry-none : r ≡ Nothing → false ≡ isSome (readEntry e)
+  entry-none k = rw (readEntry-entryData e, asEntry-none (entryData e) (sym is-r ∙ k))
+
+  pub entry-some : (x : Entry) → r ≡ Value x → true ≡ isSome (readEntry e)
+  entry-some x k = rw (readEntry-entryData e, asEntry-some x (entryData e) (sym is-r ∙ k))
 
 -- ## The entries
 

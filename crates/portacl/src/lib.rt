@@ -1,5 +1,6 @@
 // The decision by a mac_portacl rule list. The text is walked once: each entry is read and held against the bind at the same time.
 //   decide(..)  == the call: every check, then the decision on a bind
+//   is_entry(s) == s is of the form of an entry
 //   check(text) == the refusal of the first entry that is not of its form
 //   note_ports(tcp, udp, text, uid) == the same, and the ports that the entries of a user id grant
 use section::Fault;
@@ -10,9 +11,9 @@ ghost use mathlib.Core.List.{[], _∷_};
 ghost use mathlib.Core.Option.{some};
 ghost use mathlib.Core.Path.{_≡_};
 ghost use lib.Dec.{eqb};
-ghost use Rattle.text.specs.Basics.{if_then_else_, any};
+ghost use Rattle.text.specs.Basics.{if_then_else_, isSome, any};
 ghost use Rattle.text.specs.Text.{equal};
-ghost use Rattle.portacl.specs.Portacl.{bind, protocolWord, portaclRuling, portaclFault, decidePortacl};
+ghost use Rattle.portacl.specs.Portacl.{bind, protocolWord, readEntry, portaclRuling, portaclFault, decidePortacl};
 ghost use Rattle.portacl.specs.declared.Protocol.the-variants.{Tcp, Udp};
 ghost use Rattle.portacl.specs.Code.{checkedOf, asEntry, entryData, idData, protocolData, portData, grantsTo, entriesData, walk, decisionOf, noted, notes};
 
@@ -133,6 +134,16 @@ fn read_entry(s: &[u8]) -> EntryRead
         return read_id(true, &s[after..]);
     }
     EntryRead::Nothing
+}
+
+// Whether s is of the form of an entry.
+pub fn is_entry(s: &[u8]) -> bool
+    ensures { λ r. ⌜ r ≡ isSome (readEntry (now (s .entry))) ⌝ }
+{
+    match read_entry(s) {
+        EntryRead::Nothing => false,
+        EntryRead::Value(_) => true,
+    }
 }
 
 // Whether two protocols are the same.

@@ -33,7 +33,8 @@ use Rattle.lines.proofs.RuleLaws.{parseRule-none, parseRule-parts}
 use Rattle.elements.specs.declared.Found.{Found}
 use Rattle.elements.specs.declared.Found.the-variants.{No, Yes, Ask}
 use Rattle.elements.specs.declared.Looked.{Looked}
-use Rattle.elements.specs.Code.{counted, lookedFor}
+use Rattle.elements.specs.Request.{Request}
+use Rattle.elements.specs.Code.{View, counted, lookedFor}
 use Rattle.elements.proofs.CountLaws.{capped-lt, capped-small, capped-then}
 use Rattle.tables.specs.Tried.{capped}
 use Rattle.lists.specs.declared.Checked.the-variants as Che
@@ -153,6 +154,27 @@ module _ (b : Bool) (r : Query) (s : List ℕ) (l : LineSpan) (x : LineKind) (is
 
   pub line-ruled : x ≡ Kind.HasRule → (y : Examined) → y ≡ ruleExamined b r s → y ≡ lineExamined b r (line 0 0 s (l .ended))
   line-ruled e y is-y = is-y ∙ (rw e at examined-kind)
+
+-- whether the line is faulty, from what it tells
+module _ (v : View) (l : Line) (b : Bool) (q : Request) (x : Examined) (is-x : x ≡ lineExamined b (record { view = v; request = q }) l) where
+  told : Looked
+  told = if isComment l || isBlank l then lookedFor No 0 else soughtIn b (record { view = v; request = q }) (l .raw)
+
+  pub judged-faulty : (f : Fault) → x ≡ T.Faulty f → true ≡ isSome (judgedLine v l)
+  unfolding lineExamined told
+  judged-faulty f e = by (judgedLine v l) (sym is-x ∙ e)
+    where
+      by : (o : Option Fault) → examinedAs o told ≡ T.Faulty f → true ≡ isSome o
+      by none k = let z : _≡_ {A = ℕ} 0 1 = cc in absurd (omega arith)
+      by (some g) k = refl
+
+  pub judged-sound : (y : Looked) → x ≡ T.Finds y → false ≡ isSome (judgedLine v l)
+  unfolding lineExamined told
+  judged-sound y e = by (judgedLine v l) (sym is-x ∙ e)
+    where
+      by : (o : Option Fault) → examinedAs o told ≡ T.Finds y → false ≡ isSome o
+      by none k = refl
+      by (some g) k = let z : _≡_ {A = ℕ} 0 1 = cc in absurd (omega arith)
 
 -- ## The line with dropped pairs
 

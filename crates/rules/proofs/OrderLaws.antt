@@ -214,6 +214,22 @@ module _ (t : List ℕ) (u n : ℕ) (is-n : n ≡ length (tablesIn t)) (y : Bool
     unfolding badTableBy
     sound-unsound z g is-g = rw (← is-n, ← is-y, e, ne-eqb u 0 z, is-g)
 
+-- ## Section five by itself
+
+module _ (t : List ℕ) (whole : tablesIn t ≡ tablesOf t) (c : TablesCheck) (is-c : c ≡ tablesChecked (tablesIn t)) where
+  checked-of : tablesChecked (tablesOf t) ≡ c
+  checked-of = ap tablesChecked (sym whole) ∙ sym is-c
+
+  pub five-misnamed : (c .misnamed ≡ 0 → ⊥) → (g : Refusal) → g ≡ refusal F.TableName 5 (c .misnamed)
+      → P.Faulty g ≡ passOf (tableNameFault (tablesOf t) orElse badTableFault t) none
+  five-misnamed e g is-g = rw (names-some (tablesOf t) (c .misnamed) (sym (ap (λ (x : TablesCheck). x .misnamed) checked-of)) e, is-g)
+
+  pub five-named : c .misnamed ≡ 0 → (q : Pass) → q ≡ passOf (badTableBy t (c .unsound)) none
+      → q ≡ passOf (tableNameFault (tablesOf t) orElse badTableFault t) none
+  unfolding badTableBy
+  five-named e q is-q =
+      is-q ∙ sym (rw (names-none (tablesOf t) (c .misnamed) (sym (ap (λ (x : TablesCheck). x .misnamed) checked-of)) e, bad-told t, checked-of, ← whole))
+
 -- ## The lines, then the tables
 
 module _ (allow deny t : List ℕ) (p : Pass) (is-p : p ≡ passOf (linesFault allow deny) none) where

@@ -58,7 +58,7 @@ use Rattle.rules.specs.Check.{hostsFault, namingFault, missingFault, dep
 use Rattle.rules.specs.Search.{answer, lineAnswer, search}
 use Rattle.rules.specs.Looked.{fileLooked, looked}
 use Rattle.rules.specs.FileCode.{Query, queryFound, queryLooked, hostsFaultAt, passOf, passBoth, tallied, linesLooked, bothLooked}
-use Rattle.rules.specs.Code.{Noted, linesFault, contentsFault, tablesDoubtful, searched, findingOf, findingBy}
+use Rattle.rules.specs.Code.{Noted, NamingNoted, linesFault, contentsFault, tablesDoubtful, searched, findingOf, findingBy}
 use Rattle.rules.proofs.NearLaws.{Near, rule-near, total, total-near}
 use Rattle.rules.proofs.NamingLaws.{isSome-orElse, naming-same, judged-some}
 
@@ -224,6 +224,9 @@ notes-view t names q a b notes few long is-a is-b is-v =
     noted-view (tablesIn t) (requestAt names q) notes
     (subst (λ (x : List ℕ). Viewed (tablesIn t) (endpoint (q .client) x) (endpoint (q .server) (bytesAt names (q .«server_name»))) notes) is-a
     (subst (λ (y : List ℕ). Viewed (tablesIn t) (endpoint (q .client) a) (endpoint (q .server) y) notes) is-b is-v)) few (λ e. omega arith)
+
+pub naming-noted : (ts : List Table) (r : Request) (notes : List ℕ) → Noted ts r notes → NamingNoted ts notes
+naming-noted ts r notes h = record { naming-missing = h .noted-missing; naming-deep = h .noted-deep }
 
 -- ## What the search finds
 

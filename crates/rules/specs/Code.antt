@@ -88,6 +88,11 @@ pub record Noted (ts : List Table) (r : Request) (notes : List ℕ) : Type 0 whe
   pub noted-missing : (n : List ℕ) → isMissingName (namingOf ts notes n) ≡ isMissing ts n
   pub noted-deep : tableNameFault ts ≡ none → (n : List ℕ) → isDeepName (namingOf ts notes n) ≡ leadsPast ts depth n
 
+-- the same of names alone
+pub record NamingNoted (ts : List Table) (notes : List ℕ) : Type 0 where
+  pub naming-missing : (n : List ℕ) → isMissingName (namingOf ts notes n) ≡ isMissing ts n
+  pub naming-deep : tableNameFault ts ≡ none → (n : List ℕ) → isDeepName (namingOf ts notes n) ≡ leadsPast ts depth n
+
 unfoldable pub tablesDoubtful : List ℕ → Bool
 tablesDoubtful t =
     (ltb 64 (length (tablesIn t)) || ltb (S.tables .limit) (length t))

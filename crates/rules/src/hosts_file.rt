@@ -1,4 +1,5 @@
 // One pass over an allow or deny text: its lowest fault, and its first matching rule.
+//   is_faulty(class, tables, notes, raw, span) == a line is faulty, by itself or by the tables that it names
 //   check_file(tables, notes, text, order) == the refusal of a text, if it has one
 //   pass_file(tables, notes, text, ..) == the refusal of a text, else its first match, which is looked for only if search holds, and how
 //                                         many elements were looked at for it
@@ -14,8 +15,9 @@ ghost use Rattle.lists.specs.Code.{NoNewline};
 ghost use Rattle.lines.specs.Line.{lines};
 ghost use Rattle.tables.specs.Tried.{capped};
 ghost use Rattle.rules.specs.FileCode.{queryAt, ScannedLine, lineKind, ruleExamined, lineExamined, commandPart, passLine, stepOf, passText, passOf, hostsFaultAt};
-ghost use Rattle.rules.specs.FileCode.{tallied, lineLooks, linesLooked};
+ghost use Rattle.rules.specs.FileCode.{judgedLine, tallied, lineLooks, linesLooked};
 ghost use mathlib.Core.Option.{none};
+ghost use Rattle.text.specs.Basics.{isSome};
 use super::Answer;
 use super::File;
 use super::Verdict;
@@ -439,16 +441,14 @@ pub fn pass_file(
     )
 }
 
-// The refusal of a text at its lowest faulty line, if it has one; the notes say which tables may be named.
-pub fn check_file(tables: &[u8], notes: &[u64], text: &[u8], order: u8) -> Pass
-    ensures { λ r. ⌜ r ≡ passOf (hostsFaultAt order (viewOf (now (tables .entry)) (now (notes .entry))) (now (text .entry))) none ⌝ }
-{
+// A request that nothing is known of, for passes that look for nothing.
+pub fn nobody() -> Request {
     let host = Host {
         name: Name::Unknown,
         addr: Addr::Unknown,
     };
     let none = Part { place: 0, len: 0 };
-    let nobody = Request {
+    Request {
         daemon: none,
         client: host,
         client_name: none,
@@ -456,7 +456,32 @@ pub fn check_file(tables: &[u8], notes: &[u64], text: &[u8], order: u8) -> Pass
         server_name: none,
         user: User::NotFetched,
         user_name: none,
-    };
+    }
+}
+
+// Whether a line that was scanned is faulty, by itself or by the tables that its rule names; the notes say which tables may be named.
+pub fn is_faulty(
+    class: &[u8; 256],
+    tables: &[u8],
+    notes: &[u64],
+    raw: &[u8],
+    span: LineSpan,
+) -> bool
+    requires { ⌜ Classes (now class) ⌝ }
+    requires { ⌜ ScannedLine (now raw) span ⌝ }
+    ensures { λ r.
+        ⌜ r ≡ isSome (judgedLine (viewOf (now (tables .entry)) (now (notes .entry))) (line 0 0 (now (raw .entry)) (span .ended))) ⌝ }
+{
+    match examine_line(class, tables, notes, raw, span, false, &raw[..0], nobody()) {
+        Examined::Faulty(_) => true,
+        Examined::Finds(_) => false,
+    }
+}
+
+// The refusal of a text at its lowest faulty line, if it has one; the notes say which tables may be named.
+pub fn check_file(tables: &[u8], notes: &[u64], text: &[u8], order: u8) -> Pass
+    ensures { λ r. ⌜ r ≡ passOf (hostsFaultAt order (viewOf (now (tables .entry)) (now (notes .entry))) (now (text .entry))) none ⌝ }
+{
     let tally = pass_file(
         tables,
         notes,
@@ -466,7 +491,7 @@ pub fn check_file(tables: &[u8], notes: &[u64], text: &[u8], order: u8) -> Pass
         File::Neither,
         false,
         &text[..0],
-        nobody,
+        nobody(),
     );
     let pass = tally.pass;
     pass

@@ -1,10 +1,12 @@
 // The refusal of texts and tables, in the order of document 02: the lines of both files; then 15, 16 and 17.
 //   check_lines(allow, deny)            == the refusal by the lines alone
+//   check_section_five(tables)          == the refusal of the tables themselves, by 15 and 17
 //   check_naming(allow, deny, tables)   == the refusal by 15, 16 and 17, of texts whose lines are sound
 //   check_contents(allow, deny, tables) == one, then the other
 ghost use mathlib.Core.Path.{_≡_};
 ghost use mathlib.Core.Option.{none};
-ghost use Rattle.tables.specs.Table.{tablesOf, tableNameFault};
+ghost use Rattle.text.specs.Basics.{_orElse_};
+ghost use Rattle.tables.specs.Table.{tablesOf, tableNameFault, badTableFault};
 ghost use Rattle.tables.specs.Code.{tablesIn};
 ghost use Rattle.elements.specs.Code.{viewOf};
 ghost use Rattle.rules.specs.Check.{tablesFault};
@@ -50,6 +52,18 @@ fn check_soundness(tables: &[u8], unsound: usize) -> Pass
         return Pass::Unmatched;
     }
     Pass::Faulty(Tables::refusal(Fault::BadTable, unsound))
+}
+
+// 15 and 17 of the tables themselves, whoever names them.
+pub fn check_section_five(tables: &[u8]) -> Pass
+    requires { ⌜ tablesIn (now tables) ≡ tablesOf (now tables) ⌝ }
+    ensures { λ r. ⌜ r ≡ passOf (tableNameFault (tablesOf (now (tables .entry))) orElse badTableFault (now (tables .entry))) none ⌝ }
+{
+    let found = check_tables(tables);
+    if found.misnamed == 0 {
+        return check_soundness(tables, found.unsound);
+    }
+    Pass::Faulty(Tables::refusal(Fault::TableName, found.misnamed))
 }
 
 // From 16 on, of texts that name no table that is missing.

@@ -10,12 +10,13 @@ ghost use Rattle.rules.specs.Search.{search as searchBy};
 ghost use Rattle.rules.specs.FileCode.{passBoth, queryAt};
 ghost use Rattle.tables.specs.Tried.{capped};
 ghost use Rattle.rules.specs.Looked.{looked as lookedBy};
-ghost use Rattle.rules.specs.Code.{contentsFault, Noted, searched, findingOf, findingBy, tablesDoubtful};
+ghost use Rattle.rules.specs.Code.{contentsFault, Noted, NamingNoted, searched, findingOf, findingBy, tablesDoubtful};
 use super::Answer;
 use super::File;
 use super::Verdict;
 use super::hosts_file::Pass;
 use super::hosts_file::Tally;
+use super::hosts_file::nobody;
 use super::pass_both;
 use elements::request::Request;
 use section::Part;
@@ -49,6 +50,14 @@ pub fn notes_on(tables: &[u8], names: &[u8], request: Request) -> [u64; 131]
         server,
         part_of(names, request.server_name),
     )
+}
+
+// Notes that tell which of at most 64 tables may be named.
+pub fn naming_notes(tables: &[u8]) -> [u64; 131]
+    requires { ⌜ length (tablesIn (now tables)) ≤ 64 ⌝ }
+    ensures { λ r. ⌜ NamingNoted (tablesIn (now (tables .entry))) r ⌝ }
+{
+    notes_on(tables, &tables[..0], nobody())
 }
 
 // What a pass finds.

@@ -7,9 +7,10 @@
 --   fitting p o f    == what f answers to the request in o, where its fields are within their sizes; else 13
 --   withinRoom n t   == t as output into n bytes
 --   lentAfter out o  == what the lent output out holds after the outcome o
+--   withinRooms n m p, firstAfter, secondAfter == the same of two outputs
 -- Assumes nothing: these are definitions.
 use Prim.Native.Nat.{ℕ}
-use mathlib.Core.Bool.{Bool}
+use mathlib.Core.Bool.{Bool, _||_}
 use mathlib.Core.List.{List, [], _∷_, _++_}
 use mathlib.Core.Option.{Option, none, some}
 use lib.ListN.{length, drop}
@@ -20,6 +21,8 @@ use Rattle.section.specs.declared.Fault.the-variants as F
 use Rattle.section.specs.declared.Refusal.{Refusal}
 use Rattle.section.specs.declared.Written.{Written}
 use Rattle.section.specs.declared.Written.the-variants as W
+use Rattle.section.specs.declared.WrittenTwo.{WrittenTwo}
+use Rattle.section.specs.declared.WrittenTwo.the-variants as Two
 
 -- 0 stands for "answered"; the words of each number are quoted where its test is defined
 abbrev pub faultNumber : Fault → ℕ
@@ -106,3 +109,17 @@ lentAfter out (answered t) = t ++ drop (length t) out
 abbrev pub writtenOf : Outcome (List ℕ) → Written
 writtenOf (refused r) = W.Refused r
 writtenOf (answered t) = W.Count (length t)
+
+-- "14 if either text doesn't fit, with neither written": a refusal leaves both outputs as they were
+abbrev pub withinRooms : ℕ → ℕ → List ℕ × List ℕ → Outcome (List ℕ × List ℕ)
+withinRooms room other p = refusing (given (ltb room (length (p .0)) || ltb other (length (p .1))) (placeless F.NoRoom)) p
+
+abbrev pub firstAfter : List ℕ → Outcome (List ℕ × List ℕ) → List ℕ
+firstAfter out o = lentAfter out (o >>= λ p. answered (p .0))
+
+abbrev pub secondAfter : List ℕ → Outcome (List ℕ × List ℕ) → List ℕ
+secondAfter out o = lentAfter out (o >>= λ p. answered (p .1))
+
+abbrev pub writtenTwoOf : Outcome (List ℕ × List ℕ) → WrittenTwo
+writtenTwoOf (refused r) = Two.Refused r
+writtenTwoOf (answered p) = Two.Counts (length (p .0)) (length (p .1))

@@ -71,6 +71,12 @@ pub enum Written {
     Count(usize),
 }
 
+// What a call answers that writes into two outputs: a refusal, or how many bytes it wrote into each.
+pub enum WrittenTwo {
+    Refused(Refusal),
+    Counts(usize, usize),
+}
+
 // A place in a sheet where a section's count stands, with that section's limit and order.
 pub struct Cursor {
     pub at: usize,

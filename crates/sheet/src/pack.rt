@@ -13,7 +13,7 @@ use section::Fault;
 use section::Written;
 
 // Writes the last 32 bits of n as four bytes, most significant first, from at on, and answers the place after them.
-fn put_count(out: &mut [u8], at: usize, n: usize) -> usize
+pub fn put_count(out: &mut [u8], at: usize, n: usize) -> usize
     requires { ⌜ at + 4 ≤ length (now out) ⌝ }
     ensures next { λ r. ⌜ r ≡ at + 4 ⌝ }
     ensures written { λ _. ⌜ now (out .exit) ≡ putAt (now (out .entry)) at (toDigits 256 4 n) ⌝ }

@@ -45,7 +45,7 @@ fn check_limits(allow: &[u8], deny: &[u8], byuid: &[u8], portacl: &[u8]) -> Chec
 }
 
 // The check of the counts of the tables: cut short is 1, bytes after the last table are 3.
-fn check_frame(tables: &[u8]) -> Checked
+pub fn check_frame(tables: &[u8]) -> Checked
     ensures { λ r. ⌜ r ≡ checkedOf (tablesFrame (now (tables .entry))) ⌝ }
 {
     match entry::frame(tables) {
@@ -56,7 +56,7 @@ fn check_frame(tables: &[u8]) -> Checked
 }
 
 // A pass that looks for nothing, as a check.
-fn checked_by(pass: Pass) -> Checked
+pub fn checked_by(pass: Pass) -> Checked
     ensures { λ r. ⌜ r ≡ checkedBy pass ⌝ }
 {
     match pass {

@@ -543,6 +543,27 @@ fn carry(case: &[u8], out: &mut [u8]) {
     carry_into(case, out, &mut marked);
 }
 
+fn salvage_into(case: &[u8], new: &mut [u8], list: &mut [u8]) {
+    let sheet = cases::field(case, 3);
+    let w = gate::gate_salvage(
+        cases::room(new, cases::number(case, 1)),
+        cases::room(list, cases::number(case, 2)),
+        sheet,
+    );
+    untouched(new, w.count);
+    untouched(list, w.other_count);
+    if report::refused(w.number, w.section, w.line) {
+        return;
+    }
+    packed(0, 0, 0, part(new, 0, w.count), cases::field(case, 4));
+    packed(0, 0, 0, part(list, 0, w.other_count), cases::field(case, 5));
+}
+
+fn salvage(case: &[u8], out: &mut [u8]) {
+    let mut list = [b'.'; 8192];
+    salvage_into(case, out, &mut list);
+}
+
 fn write(call: usize, case: &[u8], out: &mut [u8]) {
     match call {
         12 => pack(case, out),
@@ -552,7 +573,8 @@ fn write(call: usize, case: &[u8], out: &mut [u8]) {
         16 => write_address(case, out),
         17 => convert(case, out),
         18 => authbind(case, out),
-        _ => carry(case, out),
+        19 => carry(case, out),
+        _ => salvage(case, out),
     }
 }
 
@@ -593,14 +615,15 @@ fn call(case: &[u8]) -> usize {
     cases::call(
         b"verdict:tttttttt. tables_verdict:ttttttttt. sheet_verdict:ttttttt. name_matters:tttttttt. tables_name_matters:ttttttttt. \
           sheet_name_matters:ttttttt. byuid:ntnnt. sheet_byuid:ntnt. portacl:nnnnnnntn sheet_portacl:nnnnnnntn check:t. unpack:t. \
-          pack:ntttttt. upgrade:ntt. expand:ttttttnnt. read_address:t. write_address:nt. convert:nt. authbind:nntnt. carry:nnnttt.",
+          pack:ntttttt. upgrade:ntt. expand:ttttttnnt. read_address:t. write_address:nt. convert:nt. authbind:nntnt. carry:nnnttt. \
+          salvage:nnttt.",
         case,
     )
 }
 
 fn run_case(line: &[u8], case: &[u8]) {
     let place = call(case);
-    if 19 < place {
+    if 20 < place {
         malformed(line);
         return;
     }

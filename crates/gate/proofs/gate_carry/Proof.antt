@@ -1,6 +1,6 @@
 -- What the call answered, as numbers, and what it wrote. Assumes nothing.
 use borrow.Author.Needs.{needs}
-use Rattle.codes.proofs.AnswerLaws.{carried-numbers}
+use Rattle.codes.proofs.AnswerLaws.{written-two-numbers}
 use Rattle.gate.proofs.gate_carry.Statement.{statement}
 use Rattle.gate.proofs.gate_carry.Tie as tie
 
@@ -12,4 +12,4 @@ gate-carry-spec =
     (λ c κs. search needs)
     (λ c. search needs)
     (λ c. search needs)
-    (λ c. (search (carried-numbers, needs), (search needs, search needs))))
+    (λ c. (search (written-two-numbers, needs), (search needs, search needs))))

@@ -10,5 +10,5 @@ returns c = search (pass-unsought, needs)
 
 pub check-file-spec : {M : Type 1} → statement M
 check-file-spec =
-    let facts = tie.spec (λ c. search needs) (λ c κs. search needs) returns in
+    let facts = tie.spec (λ c. search needs) (λ c κs. search needs) (λ c κs. search needs) returns in
     tie.close facts

@@ -1,0 +1,10 @@
+pub mod WholeLaws
+pub mod HostsLaws
+pub mod PortaclLaws
+pub mod PieceLaws
+pub mod MadeLaws
+pub mod BridgeLaws
+pub mod CallLaws
+pub mod SheetLaws
+pub mod ListedLaws
+pub mod VerdictLaws
