@@ -17,10 +17,10 @@ ghost use Rattle.rules.specs.Looked.{looked, reported};
 ghost use Rattle.rules.specs.Code.{searched, findingOf};
 ghost use Rattle.byuid.specs.Byuid.{bind as byuidBind, byuidRuling};
 ghost use Rattle.portacl.specs.Portacl.{bind as portaclBind, portaclRuling};
-ghost use Rattle.sheet.specs.Sheet.{frame as frameOf, unpack as unpackOf};
-ghost use Rattle.sheet.specs.Code.{contentsFault};
+ghost use Rattle.sheet.specs.Sheet.{textsAt, textsFault, frame as frameOf, unpack as unpackOf};
+ghost use Rattle.sheet.specs.Code.{checkedOf, contentsFault};
 ghost use Rattle.station.specs.Station.{filePlace, inSheet, decideSheet, lookedSheet, decideByuidSheet, decidePortaclSheet};
-ghost use Rattle.station.specs.Code.{framedFault, refusedBy};
+ghost use Rattle.station.specs.Code.{framedFault, refusedBy, withoutList};
 use address::Addr;
 use elements::request::Request;
 use rules::Answer;
@@ -34,6 +34,8 @@ use section::part_of;
 use sheet::Parts;
 use sheet::frame;
 use sheet::frame::Framed;
+use sheet::texts::Checked;
+use sheet::texts::check_texts;
 use sheet::unpack;
 use sheet::unpack::Unpacked;
 use tables::entry::Framing;
@@ -207,8 +209,8 @@ pub fn decide_byuid(sheet: &[u8], port: u16, addr: Addr, uid: u32) -> byuid::Rul
     }
 }
 
-// The decision on a bind, by the portacl text of a sheet.
-pub fn decide_portacl(
+// The decision on a bind by the portacl text of a sheet, which is unpacked first.
+fn decide_unpacked(
     sheet: &[u8],
     settings: portacl::Settings,
     uid: u32,
@@ -228,5 +230,61 @@ pub fn decide_portacl(
             protocol,
             port,
         ),
+    }
+}
+
+// The check of the texts of a sheet without its portacl list: an empty list is as sound as one that gave a decision.
+fn check_others(sheet: &[u8], parts: Parts) -> Checked
+    ensures { λ r. ⌜ r ≡ checkedOf (textsFault (withoutList (textsAt (now (sheet .entry)) parts))) ⌝ }
+{
+    let allow = part_of(sheet, parts.allow);
+    let deny = part_of(sheet, parts.deny);
+    let byuid = part_of(sheet, parts.byuid);
+    let tables = part_of(sheet, parts.tables);
+    check_texts(allow, deny, byuid, b"", tables)
+}
+
+// The decision by the portacl text of a sheet whose frame is sound. A list that gives a decision is not read again; where it is refused, the
+// sheet is unpacked for the refusal that comes first.
+fn decide_framed(
+    sheet: &[u8],
+    parts: Parts,
+    settings: portacl::Settings,
+    uid: u32,
+    groups: &[u32],
+    protocol: portacl::Protocol,
+    port: u16,
+) -> portacl::Ruling
+    requires { ⌜ frameOf (now sheet) ≡ answered parts ⌝ }
+    ensures { λ r. ⌜ r ≡ portaclRuling (decidePortaclSheet (now (sheet .entry)) settings (some (portaclBind uid (now (groups .entry)) protocol port))) ⌝ }
+{
+    let list = part_of(sheet, parts.portacl);
+    match portacl::decide(list, settings, uid, groups, protocol, port) {
+        portacl::Ruling::Refused(_) => {
+            decide_unpacked(sheet, settings, uid, groups, protocol, port)
+        }
+        portacl::Ruling::Answered(decision) => match check_others(sheet, parts) {
+            Checked::Refused(refusal) => portacl::Ruling::Refused(refusal),
+            Checked::Sound => portacl::Ruling::Answered(decision),
+        },
+    }
+}
+
+// The decision on a bind, by the portacl text of a sheet.
+pub fn decide_portacl(
+    sheet: &[u8],
+    settings: portacl::Settings,
+    uid: u32,
+    groups: &[u32],
+    protocol: portacl::Protocol,
+    port: u16,
+) -> portacl::Ruling
+    ensures { λ r. ⌜ r ≡ portaclRuling (decidePortaclSheet (now (sheet .entry)) settings (some (portaclBind uid (now (groups .entry)) protocol port))) ⌝ }
+{
+    match frame::frame(sheet) {
+        Framed::Refused(refusal) => portacl::Ruling::Refused(refusal),
+        Framed::Parts(parts) => {
+            decide_framed(sheet, parts, settings, uid, groups, protocol, port)
+        }
     }
 }
