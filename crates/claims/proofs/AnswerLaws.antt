@@ -60,6 +60,7 @@ fault-nonzero F.TooDeep e = omega arith
 fault-nonzero F.BadTable e = omega arith
 fault-nonzero F.DottedAddress e = omega arith
 fault-nonzero F.LateAnswer e = omega arith
+fault-nonzero F.WrongIndex e = omega arith
 fault-nonzero F.RetiredForm e = omega arith
 
 pub check-answered : (o : Outcome Parts) → checkAnswer o ≡ accepted → (p : Parts) × (o ≡ answered p)
@@ -105,6 +106,7 @@ fault-range F.TooDeep = (omega arith, omega arith)
 fault-range F.BadTable = (omega arith, omega arith)
 fault-range F.DottedAddress = (omega arith, omega arith)
 fault-range F.LateAnswer = (omega arith, omega arith)
+fault-range F.WrongIndex = (omega arith, omega arith)
 fault-range F.RetiredForm = (omega arith, omega arith)
 
 refusal-decision : (r : Refusal) → Decision (refusalAnswer r)
