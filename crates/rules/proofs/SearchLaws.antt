@@ -448,3 +448,20 @@ module _ (t : List ℕ) (n : ℕ) (is-n : n ≡ length (tablesIn t)) (y : Bool) 
       → (not (eqb (c .misnamed) 0) || not (eqb (c .unsound) 0)) ≡ tablesDoubtful t
   unfolding tablesDoubtful
   doubt-checked e c is-c = rw (← is-n, ← is-y, e, is-c)
+
+-- ## What a finding tells of the texts
+
+module _ (o : Option Refusal) (x : Searched) (f : Finding) (is-f : f ≡ findingOf o x) where
+  pub sound-answer : (y : Searched) → f ≡ Finding.Answer y → true ≡ not (isSome o)
+  sound-answer y e = by o (sym is-f ∙ e)
+    where
+      by : (o : Option Refusal) → findingOf o x ≡ Finding.Answer y → true ≡ not (isSome o)
+      by none q = refl
+      by (some g) q = let z : _≡_ {A = ℕ} 0 1 = cc q in absurd (omega arith)
+
+  pub sound-doubtful : f ≡ Finding.Doubtful → false ≡ not (isSome o)
+  sound-doubtful e = by o (sym is-f ∙ e)
+    where
+      by : (o : Option Refusal) → findingOf o x ≡ Finding.Doubtful → false ≡ not (isSome o)
+      by none q = let z : _≡_ {A = ℕ} 0 1 = cc q in absurd (omega arith)
+      by (some g) q = refl

@@ -1,8 +1,11 @@
 // The search of both files for what decides, in one pass that also judges their lines and the tables that they name.
 //   find(allow, deny, tables, ..) == the answer where nothing is faulty, and how many elements were looked at for it; else that there is a doubt
+//   are_sound(allow, deny, tables) == nothing is faulty
+ghost use mathlib.Core.Bool.{not};
 ghost use mathlib.Core.Path.{_≡_};
 ghost use Prim.Native.Nat.{_≤_};
 ghost use lib.ListN.{length};
+ghost use Rattle.text.specs.Basics.{isSome};
 ghost use Rattle.tables.specs.Table.{tablesOf, matchOf};
 ghost use Rattle.tables.specs.Code.{tablesIn};
 ghost use Rattle.elements.specs.Places.{requestAt};
@@ -112,4 +115,15 @@ pub fn find(allow: &[u8], deny: &[u8], tables: &[u8], names: &[u8], request: Req
     }
     let notes = notes_on(tables, names, request);
     found_by(pass_both(tables, &notes, allow, deny, names, request))
+}
+
+// Whether two texts and a section five whose frame is sound are sound, by the same pass. Nobody's request is searched for.
+pub fn are_sound(allow: &[u8], deny: &[u8], tables: &[u8]) -> bool
+    requires { ⌜ tablesIn (now tables) ≡ tablesOf (now tables) ⌝ }
+    ensures { λ r. ⌜ r ≡ not (isSome (contentsFault (now (allow .entry)) (now (deny .entry)) (now (tables .entry)))) ⌝ }
+{
+    match find(allow, deny, tables, &tables[..0], nobody()) {
+        Finding::Answer(_) => true,
+        Finding::Doubtful => false,
+    }
 }

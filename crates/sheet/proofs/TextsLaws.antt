@@ -3,14 +3,14 @@
 -- Assumes nothing.
 use Prim.Native.Nat.{ℕ, _≤_}
 use native.Mathlib.Omega.{arith}
-use mathlib.Core.Bool.{Bool, true, false, _||_}
+use mathlib.Core.Bool.{Bool, true, false, not, _||_, true≢false}
 use mathlib.Core.List.{List, []}
 use mathlib.Core.Option.{Option, none, some}
 use mathlib.Core.Path.{_≡_, refl, sym, ap, _∙_}
 use borrow.Author.Tests.{ltb-false}
 use lib.ListN.{length}
 use lib.Dec.{ltb}
-use Rattle.text.specs.Basics.{_>>=_, _orElse_, given}
+use Rattle.text.specs.Basics.{_>>=_, _orElse_, given, isSome}
 use Rattle.section.specs.declared.Fault.the-variants as F
 use Rattle.section.specs.declared.Refusal.{Refusal}
 use Rattle.section.specs.Refusal.{refusal, placeless}
@@ -25,7 +25,7 @@ use Rattle.rules.specs.declared.Answer.{Answer}
 use Rattle.rules.specs.declared.hosts_file.Pass.{Pass}
 use Rattle.rules.specs.declared.hosts_file.Pass.the-variants as P
 use Rattle.rules.specs.Check.{hostsFault, missingFault, depthFault, tablesFault}
-use Rattle.rules.specs.Code.{linesFault}
+use Rattle.rules.specs.Code.{linesFault, contentsFault as rulesFault}
 use Rattle.rules.specs.FileCode.{passOf}
 use Rattle.byuid.specs.declared.Checked.{Checked as ByuidChecked}
 use Rattle.byuid.specs.declared.Checked.the-variants as B
@@ -170,6 +170,27 @@ module _ (a d : List ℕ) (q : Pass) (is-q : q ≡ passOf (linesFault a d) none)
         unfolding contentsFault
         contents-byuid h v is-v =
             rw (lines-sound e, checked-sound (portaclFault p) (sym is-y ∙ f), checked-sound (tablesFault a d t) (sym naming-checked ∙ h)) is-v
+
+-- rules that are sound leave the texts of the port decisions
+ports-left : (o p q b : Option Refusal) → not (isSome (o orElse q)) ≡ true → (o orElse p orElse q orElse b) ≡ (p orElse b)
+ports-left none none none b h = refl
+ports-left none (some g) none b h = refl
+ports-left none p (some f) b h = absurd (true≢false (sym h))
+ports-left (some f) p q b h = absurd (true≢false (sym h))
+
+module _ (b p : List ℕ) where
+  module _ (y : Checked) (is-y : y ≡ checkedOf (portaclFault p)) where
+    pub ports-portacl : (g : Refusal) → y ≡ C.Refused g → C.Refused g ≡ checkedOf (portaclFault p orElse byuidFault b)
+    ports-portacl g f = rw (checked-refused (portaclFault p) g (sym is-y ∙ f))
+
+    pub ports-byuid : y ≡ C.Sound → (v : Checked) → v ≡ checkedOf (byuidFault b) → v ≡ checkedOf (portaclFault p orElse byuidFault b)
+    ports-byuid f v is-v = rw (checked-sound (portaclFault p) (sym is-y ∙ f)) is-v
+
+  pub contents-ports : (a d t : List ℕ) (x : Bool) → x ≡ not (isSome (rulesFault a d t)) → x ≡ true
+      → (v : Checked) → v ≡ checkedOf (portaclFault p orElse byuidFault b) → v ≡ checkedOf (contentsFault a d b p t)
+  unfolding contentsFault rulesFault
+  contents-ports a d t x is-x e v is-v =
+      is-v ∙ ap checkedOf (sym (ports-left (linesFault a d) (portaclFault p) (tablesFault a d t) (byuidFault b) (sym is-x ∙ e)))
 
 -- ## All
 

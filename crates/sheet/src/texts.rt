@@ -2,6 +2,7 @@
 //   check_texts(allow, deny, byuid, portacl, tables) == their first refusal, if there is one: limits, the frame of the tables, contents
 ghost use mathlib.Core.Option.{none};
 ghost use mathlib.Core.Path.{_≡_};
+ghost use Rattle.text.specs.Basics.{_orElse_};
 ghost use Rattle.tables.specs.Table.{tablesFrame};
 ghost use Rattle.byuid.specs.Byuid.{byuidFault};
 ghost use Rattle.portacl.specs.Portacl.{portaclFault};
@@ -9,6 +10,7 @@ ghost use Rattle.sheet.specs.Sheet.{texts, textsFault};
 ghost use Rattle.sheet.specs.Code.{checkedOf, checkedBy, limitsFault, contentsFault};
 use rules::hosts_file::Pass;
 use rules::naming;
+use rules::search::are_sound;
 use section::Allow;
 use section::Byuid;
 use section::Deny;
@@ -86,8 +88,18 @@ fn check_byuid(text: &[u8]) -> Checked
     }
 }
 
+// The check of the texts of the port decisions.
+fn check_ports(byuid: &[u8], portacl: &[u8]) -> Checked
+    ensures { λ r. ⌜ r ≡ checkedOf (portaclFault (now (portacl .entry)) orElse byuidFault (now (byuid .entry))) ⌝ }
+{
+    match check_portacl(portacl) {
+        Checked::Refused(refusal) => Checked::Refused(refusal),
+        Checked::Sound => check_byuid(byuid),
+    }
+}
+
 // The check of the lines and entries of the rules and of portacl, then of the tables and of what names them, then of the lines of byuid.
-fn check_contents(allow: &[u8], deny: &[u8], byuid: &[u8], portacl: &[u8], tables: &[u8]) -> Checked
+fn check_in_order(allow: &[u8], deny: &[u8], byuid: &[u8], portacl: &[u8], tables: &[u8]) -> Checked
     requires { ⌜ tablesFrame (now tables) ≡ none ⌝ }
     ensures { λ r. ⌜ r
         ≡ checkedOf (contentsFault (now (allow .entry)) (now (deny .entry)) (now (byuid .entry)) (now (portacl .entry)) (now (tables .entry))) ⌝ }
@@ -102,6 +114,18 @@ fn check_contents(allow: &[u8], deny: &[u8], byuid: &[u8], portacl: &[u8], table
             },
         },
     }
+}
+
+// The same, where rules that are sound are read once.
+fn check_contents(allow: &[u8], deny: &[u8], byuid: &[u8], portacl: &[u8], tables: &[u8]) -> Checked
+    requires { ⌜ tablesFrame (now tables) ≡ none ⌝ }
+    ensures { λ r. ⌜ r
+        ≡ checkedOf (contentsFault (now (allow .entry)) (now (deny .entry)) (now (byuid .entry)) (now (portacl .entry)) (now (tables .entry))) ⌝ }
+{
+    if are_sound(allow, deny, tables) {
+        return check_ports(byuid, portacl);
+    }
+    check_in_order(allow, deny, byuid, portacl, tables)
 }
 
 // The first refusal of five texts, if there is one.
