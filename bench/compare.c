@@ -1,5 +1,6 @@
 /* compare time|count DIR GATE.so [BEFORE.so]: the calls of the gate on each case of the table below, beside
- *   before        the same calls of another build of the gate; one without tables gets sheets of four sections, and no case with tables
+ *   before        the same calls of another build of the gate; one without tables gets sheets of four sections, and no case with tables, and
+ *                 one that does not tidy no case of that
  *   tcp_wrappers  the same question put to it; its two files stand in DIR, which should be in memory, and it does not check them
  *   files         opening and reading those two files whole, as the gate's caller does
  *   sum           adding up the bytes that the call is handed, one at a time: the floor of what reads each byte
@@ -52,10 +53,14 @@ static const struct recipe byuid_lines = {.form = BYUID_FORMS, .from = 100, .siz
 static const struct recipe portacl_entries = {.form = PORTACL_ENTRY, .from = 1000000000, .lines = 41};
 static const struct recipe expanded = {.first = "/usr/bin/logger -t gate %d %p: %c (%a, %n) to %s (%A), %u at %h is 100%% known"};
 
+/* The most rules: all the same, and none like another. */
+static const struct recipe repeats = {.form = "a:b\n", .lines = 4096};
+static const struct recipe differing = {.form = "%x:b\n", .from = 1, .size = GATE_DENY_LIMIT};
+
 static const struct recipe naming = {.form = NAMING, .size = GATE_ALLOW_LIMIT};
 static const struct recipe naming_once = {.first = "sshd: /a\n"};
 
-enum call { VERDICT, TABLES_VERDICT, SHEET_VERDICT, NAME_MATTERS, BYUID, PORTACL, CHECK, EXPAND };
+enum call { VERDICT, TABLES_VERDICT, SHEET_VERDICT, NAME_MATTERS, BYUID, PORTACL, CHECK, EXPAND, PROPOSE, DROP };
 
 /* Tables by their kind: none; the four of 12,288 bytes that make most patterns to try; 64 that each name the last; those that are refused
  * only when all are read: a ring of 20,000, and 65,535 that hold nothing. */
@@ -118,6 +123,12 @@ static const struct test_case cases[] = {
     {"byuid full", BYUID, .byuid = &byuid_lines, .expected = {0, GATE_NO_LINE, 0}},
     {"portacl full", PORTACL, .portacl = &portacl_entries, .expected = {0, GATE_DENIED, 0}},
     {"checking a full sheet", CHECK, .allow = &plain, .deny = &plain, .byuid = &byuid_lines, .portacl = &portacl_entries},
+    {"repeats: verdict", VERDICT, .deny = &repeats, NONE_MATCHES},
+    {"repeats: propose", PROPOSE, .deny = &repeats, .expected = {0, 0, 4 * 4095}},
+    {"repeats: drop", DROP, .deny = &repeats, .expected = {0, 0, 4}},
+    {"differing: verdict", VERDICT, .deny = &differing, NONE_MATCHES},
+    {"differing: propose", PROPOSE, .deny = &differing, .expected = {0, 0, 0}},
+    {"differing: drop", DROP, .deny = &differing, .expected = {0, 0, GATE_DENY_LIMIT}},
     {"expansion", EXPAND, .command = &expanded, .user = GATE_USER_KNOWN, .expected = {0, 0, 148}, .wrappers = true},
 };
 
@@ -126,7 +137,7 @@ struct text {
     size_t len;
 };
 
-static struct text allow, deny, byuid, portacl, command, tables, sheet, out;
+static struct text allow, deny, byuid, portacl, command, tables, sheet, proposal, out;
 static const struct test_case *current;
 static const struct text *handed[3]; /* what the current case's call is handed, in one to three texts */
 static size_t handed_len;
@@ -143,7 +154,9 @@ struct library {
     __typeof__(gate_expand) *expand;
     __typeof__(gate_pack) *pack;
     __typeof__(gate_tables_verdict) *tables_verdict; /* null in a build without tables */
-    __typeof__(gate_name_matters) *name_matters; /* null in one that cannot tell */
+    __typeof__(gate_name_matters) *name_matters;     /* null in one that cannot tell */
+    __typeof__(gate_propose) *propose;               /* null in one that does not tidy, and so is the next */
+    __typeof__(gate_drop) *drop;
 };
 
 static struct library libraries[2];
@@ -156,13 +169,14 @@ static void fail(const char *what, const char *why) {
 
 static void load(struct library *build, const char *path) {
     static const char *const names[] = {"gate_verdict", "gate_sheet_verdict", "gate_byuid", "gate_portacl", "gate_check", "gate_expand", "gate_pack",
-                                        "gate_tables_verdict", "gate_name_matters"};
+                                        "gate_tables_verdict", "gate_name_matters", "gate_propose", "gate_drop"};
+    enum { always = 7 }; /* the others are missing in earlier builds */
     void *symbols[sizeof names / sizeof *names], *handle = dlopen(path, RTLD_NOW | RTLD_LOCAL);
     _Static_assert(sizeof symbols == sizeof *build, "a name for each export");
     if (!handle)
         fail(path, dlerror());
     for (size_t i = 0; i < sizeof names / sizeof *names; i++)
-        if (!(symbols[i] = dlsym(handle, names[i])) && strcmp(names[i], "gate_tables_verdict") && strcmp(names[i], "gate_name_matters"))
+        if (!(symbols[i] = dlsym(handle, names[i])) && i < always)
             fail(path, dlerror());
     memcpy(build, symbols, sizeof symbols);
 }
@@ -202,6 +216,12 @@ static struct outcome by_gate(const struct library *g) {
         return (struct outcome){g->check(SHEET_FOR(g)).number, 0, 0};
     case EXPAND:
         written = g->expand(out.bytes, GATE_SHEET_LIMIT, TEXT(command), FROM(CLIENT_V4), 4711);
+        return (struct outcome){written.number, 0, written.count};
+    case PROPOSE:
+        written = g->propose(out.bytes, GATE_TIDY_ROOM, TEXT(deny), TEXT(tables), GATE_DENY);
+        return (struct outcome){written.number, 0, written.count};
+    case DROP:
+        written = g->drop(out.bytes, GATE_TIDY_ROOM, TEXT(deny), TEXT(tables), GATE_DENY, TEXT(proposal));
         return (struct outcome){written.number, 0, written.count};
     }
     return (struct outcome){0, 0, 0};
@@ -250,7 +270,7 @@ static bool takes_part(enum who who) {
         return handed_len > 0;
     default:
         return (int)who < builds && (current->tables == NO_TABLES || libraries[who].tables_verdict) &&
-               (current->call != NAME_MATTERS || libraries[who].name_matters);
+               (current->call != NAME_MATTERS || libraries[who].name_matters) && (current->call < PROPOSE || libraries[who].propose);
     }
 }
 
@@ -385,7 +405,7 @@ static void write_file(const char *path, const struct text *t) {
 }
 
 static void prepare(const struct test_case *c) {
-    static const struct text *const first[] = {&allow, &allow, &sheet, &allow, &byuid, &portacl, &sheet, &command};
+    static const struct text *const first[] = {&allow, &allow, &sheet, &allow, &byuid, &portacl, &sheet, &command, &deny, &deny};
     current = c;
     make(&allow, c->allow);
     make(&deny, c->deny);
@@ -394,10 +414,11 @@ static void prepare(const struct test_case *c) {
     make(&command, c->command);
     make_tables(c->tables);
     sheet.len = libraries[0].pack(sheet.bytes, GATE_SHEET_LIMIT, TEXT(allow), TEXT(deny), TEXT(byuid), TEXT(portacl), TEXT(tables)).count;
+    proposal.len = c->call == DROP ? libraries[0].propose(proposal.bytes, GATE_TIDY_ROOM, TEXT(deny), TEXT(tables), GATE_DENY).count : 0;
     write_file(allow_path, &allow);
     write_file(deny_path, &deny);
     handed[0] = first[c->call];
-    handed[1] = c->call == VERDICT || c->call == TABLES_VERDICT || c->call == NAME_MATTERS ? &deny : NULL;
+    handed[1] = c->call == VERDICT || c->call == TABLES_VERDICT || c->call == NAME_MATTERS ? &deny : c->call == DROP ? &proposal : NULL;
     handed[2] = c->call == TABLES_VERDICT ? &tables : NULL;
     handed_len = handed[0]->len + (handed[1] ? handed[1]->len : 0) + (handed[2] ? handed[2]->len : 0);
     handed_sum = sum_handed();

@@ -72,6 +72,10 @@ def show(title, rows, columns):
     if "full sheet" in rows:
         plain = rows["full sheet"][1][GATE]
         print("to a full sheet of plain rules:", ", ".join(f"{case} {figure / plain:.3f}" for case, figure in nests.items()))
+    for kind in ("repeats", "differing"):
+        figures = [rows.get(f"{kind}: {call}", (0, {}))[1].get(GATE) for call in ("verdict", "propose", "drop")]
+        if all(figures):
+            print(f"{kind}: propose {figures[1] / figures[0]:.3f} and drop {figures[2] / figures[0]:.3f} verdicts by the same file")
     for who in (GATE, BEFORE):
         a_byte = [quotient(figures, who, size) for size, figures in growing]
         if all(a_byte):

@@ -1,4 +1,4 @@
-/* The access gate for C: verdicts, port decisions, authbind's order, station sheets, command expansion and addresses.
+/* The access gate for C: verdicts, port decisions, authbind's order, station sheets, rules that never fire, command expansion and addresses.
  *
  * Linking: libgate.a is a static archive; there is no shared library. From the C library it needs memcpy, memmove and memset, and nothing
  * else. It allocates nothing and keeps nothing between calls, so any thread may call any function at any time, with GATE_STACK bytes
@@ -17,7 +17,7 @@
  * Refusals. Every answer begins with number, section and line. Number 0 is an answer; any other number is a refusal, and then all
  * members but these three are 0, and the kind of an address is GATE_NO_ADDRESS: nothing of it can be taken for an answer. Where several
  * refusals hold, the one given is the first in the order of the papers: those of the sheet, of the texts or of the command, 15 to 17 behind
- * 12 and 22 behind these, then 13, then 14.
+ * 12 and 22 behind these, then 13, then 14; gate_propose and gate_drop have 13 first.
  *
  * Requests. The same seventeen arguments describe a request to gate_verdict, gate_tables_verdict, gate_sheet_verdict, gate_name_matters,
  * gate_tables_name_matters, gate_sheet_name_matters, gate_command, gate_sheet_command and gate_expand:
@@ -38,7 +38,7 @@
 extern "C" {
 #endif
 
-#define GATE_VERSION "4.2.0"
+#define GATE_VERSION "4.3.0"
 
 /* Numbers: of an answer, or of a refusal. */
 enum gate_number {
@@ -62,13 +62,14 @@ enum gate_number {
     GATE_BAD_TABLE = 17,       /* any other fault of the tables, their limits included */
     GATE_DOTTED_ADDRESS = 18,  /* an IPv6 address that inet_ntop may write with dots; by gate_authbind */
     GATE_LATE_ANSWER = 19,     /* an answer after the one that settles the matter, or after the last test; by gate_authbind */
-    GATE_RETIRED_FORM = 22     /* a byuid line of the form addr4/len:pmin,pmax that used to grant; 20 and 21 stand for nothing */
+    GATE_BAD_PROPOSAL = 20,    /* a proposal that is not accepted; by gate_drop */
+    GATE_RETIRED_FORM = 22     /* a byuid line of the form addr4/len:pmin,pmax that used to grant; 21 stands for nothing */
 };
 
 /* Sections. A sheet has the five in this order: four texts, each behind its count of bytes in four bytes, and the tables, whose own counts
  * say where they end: how many there are, in two bytes, and for each its name behind a count in one byte and its text behind one in four. */
 enum gate_section {
-    GATE_NO_SECTION = 0, /* of 3, 13 and 14, and of a command's refusals */
+    GATE_NO_SECTION = 0, /* of 3, 13, 14 and 18 to 20, and of a command's refusals */
     GATE_ALLOW = 1,
     GATE_DENY = 2,
     GATE_BYUID = 3,
@@ -106,15 +107,17 @@ enum gate_section {
 /* For the list of gate_salvage, eight bytes for each change: as many lines `x` as allow has room for, as many `ALL: ALL` as deny has, as many
  * lines 0.0.0.0/0:0,0 as byuid has, and the entries of a portacl text of commas alone. */
 #define GATE_CHANGES_ROOM (8 * (GATE_ALLOW_LIMIT / 2 + GATE_DENY_LIMIT / 9 + (GATE_BYUID_LIMIT + 1) / 14 + GATE_PORTACL_LIMIT + 1))
+#define GATE_TIDY_ROOM GATE_ALLOW_LIMIT /* for what gate_propose and gate_drop write: neither is longer than the file that they are given */
 #define GATE_EXPANSION_ROOM (GATE_LINE_LIMIT / 2 * (GATE_USER_LIMIT + 1 + GATE_NAME_LIMIT) + GATE_LINE_LIMIT % 2)
 
-/* The stack that any call needs, in bytes, with a margin; the caller's own frames come on top. On x86-64 the most is some 101,700, by the
- * frames of the check for 16, which finds how deep each table leads by five frames of 16,480 bytes, one in the other. A line of 2,047 bytes
- * that is `a:a EXCEPT a EXCEPT a ..` takes some 77,600: 272 bytes for each of its 227 EXCEPTs. Only the walks through client and daemon lists
- * and those through tables call themselves; the calls for a byuid or portacl text, an upgrade, a conversion, an expansion or an address stay under 5,000.
- * It was found in two ways: tests/stack.py adds up the frames of the archive's functions along the deepest path of calls, for any input, and
- * tests/stack.c paints the stack of a thread whose whole stack is this, and makes every call on the worst inputs known; some 93,500 by these.
- * The margin also covers the first call of memcpy through a dynamic linker (some 3,000). */
+/* The stack that any call needs, in bytes, with a margin; the caller's own frames come on top. On x86-64 the most is some 116,200, by
+ * gate_drop and gate_propose, and 102,100 by the others: the frames of the check for 16, which finds how deep each table leads by five frames
+ * of 16,480 bytes, one in the other; the two have a mark for each line of a file above them, in 16,500. Their search for repeats takes 74,500.
+ * A line of 2,047 bytes that is `a:a EXCEPT a EXCEPT a ..` takes some 77,600: 272 bytes for each of its 227 EXCEPTs. Only the walks through
+ * client and daemon lists and those through tables call themselves; the calls for a byuid or portacl text, an upgrade, a conversion, an
+ * expansion or an address stay under 5,000. It was found in two ways: tests/stack.py adds up the frames of the archive's functions along the
+ * deepest path of calls, for any input, and tests/stack.c paints the stack of a thread whose whole stack is this, and makes every call on the
+ * worst inputs known; some 107,800 by these. The margin also covers the first call of memcpy through a dynamic linker (some 3,000). */
 #define GATE_STACK 131072
 
 /* Words of a decision. */
@@ -392,6 +395,22 @@ struct gate_written gate_convert(uint8_t *out, size_t out_len, const uint8_t *te
  * past its limit, then by 14 where sheet or list has no room: then neither is written. GATE_SHEET_LIMIT and GATE_CHANGES_ROOM bytes are always
  * room enough. out and list do not overlap. */
 struct gate_written_two gate_salvage(uint8_t *out, size_t out_len, uint8_t *list, size_t list_len, const uint8_t *sheet, size_t sheet_len);
+
+/* Which rules of a hosts file never fire, as far as that is seen without knowing a request: writes the line numbers of the longest
+ * proposal that gate_drop accepts, four bytes each, most significant first, ascending. section says which file the text is, GATE_ALLOW or
+ * GATE_DENY; tables is a section five, two zero bytes where there are none. A section of neither is refused by 13 at once; then the text by 2,
+ * the tables by 1 and 3, and both as in a sheet; then 14. text_len bytes are room enough, and so are GATE_TIDY_ROOM. */
+struct gate_written gate_propose(uint8_t *out, size_t out_len, const uint8_t *text, size_t text_len, const uint8_t *tables, size_t tables_len,
+                                 uint32_t section);
+
+/* Writes the file without the rules that a proposal names by their lines, written as gate_propose writes them, in any order, repeats among
+ * them: each with its continuations and its ending newline. The proposal is accepted where each named line is the first of a rule, and an
+ * earlier rule that is not named either has the same elements and EXCEPTs in the same order in both lists, but for case, or is ALL: ALL. By
+ * the new file every request gets the same word, file and command; the line is less by the lines that went above it, and looked may be
+ * less. Refused as gate_propose is; then by 20 where the proposal is not accepted, as where its bytes can't be parted in fours; then by 14.
+ * text_len bytes are room enough, and so are GATE_TIDY_ROOM. */
+struct gate_written gate_drop(uint8_t *out, size_t out_len, const uint8_t *text, size_t text_len, const uint8_t *tables, size_t tables_len,
+                              uint32_t section, const uint8_t *proposal, size_t proposal_len);
 
 /* Writes a rule's command with its %a, %A, %n, %N, %h, %H, %u, %c, %d, %s, %p and %% replaced for a request: the command as a verdict
  * hands it back, or any other. It is joined and trimmed first. GATE_EXPANSION_ROOM bytes are always room enough. */
@@ -683,6 +702,7 @@ static inline const char *gate_number_text(uint32_t number) {
     case GATE_BAD_TABLE: return "a table at fault, or the tables over their limits";
     case GATE_DOTTED_ADDRESS: return "an IPv6 address that may be written with dots";
     case GATE_LATE_ANSWER: return "an answer after the matter was settled";
+    case GATE_BAD_PROPOSAL: return "a proposal that is not accepted";
     case GATE_RETIRED_FORM: return "a line of the retired form that used to grant";
     default: return "no such number";
     }

@@ -7,7 +7,7 @@
 /* Exit statuses, the same for every subcommand. */
 enum status {
     STATUS_YES = 0,      /* sound, granted, exempt, as expected */
-    STATUS_NO = 1,       /* faults found, denied, no line, not as expected */
+    STATUS_NO = 1,       /* faults or needless rules found, denied, no line, not as expected */
     STATUS_FAILED = 2,   /* wrong usage, unreadable input, failed output, a station that is refused */
     STATUS_ASK = 3,      /* the user must be fetched first */
     STATUS_NOT_RULED = 4
@@ -24,6 +24,6 @@ struct command {
 };
 
 extern const struct command check_command, match_command, byuid_command, portacl_command, authbind_command, pack_command, unpack_command,
-    fleet_command, upgrade_command, convert_command, carry_command, salvage_command, explain_command, test_command;
+    fleet_command, upgrade_command, convert_command, carry_command, salvage_command, tidy_command, explain_command, test_command;
 
 #endif

@@ -32,7 +32,7 @@ static const struct {
      "A sheet from before there were tables ends where section 5 should begin: gate upgrade OLD NEW appends it."},
     {"A section is longer than it may be: hosts.allow and hosts.deny 16384 bytes, byuid 8192, portacl 4096. The limits of the tables are 17's.",
      "byuid", "8193 bytes",
-     "Shorten the text: leave out comments, join rules that differ in one element, drop rules that are out of reach (gate check -W)."},
+     "Shorten the text: leave out comments, join rules that differ in one element, drop rules that never fire (gate tidy)."},
     {"Bytes follow the last section of the sheet.", "a sheet", "nineteen zero bytes: one behind the fifth section",
      "The sheet was written over a longer one, or two were joined: pack it anew."},
     {"The last line has no ending newline. Comments and blank lines count as lines, and a backslash before the last newline takes it away.",
@@ -77,6 +77,9 @@ static const struct {
             "a bind", "::ffff:10.20.1.2, port 80", "Ask for the IPv4 address itself: 10.20.1.2."},
     [19] = {"In authbind's order an answer was given after the one that settled the matter, or after the last test before byuid.", "a call of the library",
             "gate_authbind with the answers allowed, absent", "Stop at the first answer that is not absent, and read the byuid file after the last test."},
+    [20] = {"Rules were to be dropped from a hosts file that may not be: a line that was named is not the first of a rule, or no earlier rule that stays "
+            "has the same elements and EXCEPTs in the same order in both lists, nor is any ALL: ALL. Section and line are 0.",
+            "a call of gate", "gate tidy hosts.deny new --lines 1", "Leave --lines out: gate tidy FILE shows every rule that may be dropped."},
     [22] = {"A line of byuid is of the form ADDRESS/LENGTH:PORT,PORT, by which nothing is granted any more. Only a line that used to grant is "
             "refused: one with bits set beyond its length, or with its first port over the last, is ignored as before. The line is the first such one.",
             "byuid", "10.0.0.0/8:80,90",

@@ -246,6 +246,6 @@ size_t show_faults(const struct station *station) {
 
 void refuse_station(const struct station *station) {
     size_t faults = show_faults(station);
-    complain("gate", "%s: refused: %zu %s; gate explain NUMBER tells what a number means", shown(station->path), faults,
-             plural(faults, "fault", "faults"));
+    complain("gate", "%s: refused: %zu %s; gate explain NUMBER tells what a number means",
+             shown(station->only ? section_path(station, station->only) : station->path), faults, plural(faults, "fault", "faults"));
 }

@@ -9,7 +9,7 @@
 /* To add a subcommand: a row here, a line in command.h, and a file that defines it. */
 static const struct command *const commands[] = {&check_command,  &match_command, &byuid_command,   &portacl_command, &authbind_command, &pack_command,
                                                  &unpack_command, &fleet_command, &upgrade_command, &convert_command, &carry_command,    &salvage_command,
-                                                 &explain_command, &test_command};
+                                                 &tidy_command,   &explain_command, &test_command};
 #define COMMANDS (sizeof commands / sizeof *commands)
 
 static void show_overview(void) {
@@ -20,8 +20,8 @@ static void show_overview(void) {
            "  gate COMMAND --help   tells a command's arguments\n"
            "  gate --version        tells the version\n"
            "\n"
-           "Exit status: 0 sound, granted or exempt; 1 faults found, denied or no line;\n"
-           "2 wrong usage, an input or output error, or refused; 3 ask; 4 not ruled.\n");
+           "Exit status: 0 sound, granted or exempt; 1 faults or needless rules found, denied\n"
+           "or no line; 2 wrong usage, an input or output error, or refused; 3 ask; 4 not ruled.\n");
 }
 
 static void show_help(const struct command *command) {

@@ -1,4 +1,5 @@
 #include <errno.h>
+#include <libgen.h>
 #include <stdio.h>
 #include <stdlib.h>
 #include <string.h>
@@ -34,6 +35,8 @@ const char *section_path(const struct station *station, uint32_t section) {
         snprintf(path, sizeof path, "%s(%s)", station->path, section_file(section));
     else if (section == GATE_TABLES && station->tables_path)
         return station->tables_path;
+    else if (station->only)
+        return strcmp(station->path, "-") ? station->path : "standard input";
     else if (!join_path(path, station->path, section_file(section)))
         return section_file(section);
     return path;
@@ -158,11 +161,12 @@ static bool is_only(const char *own, const char *tables) {
     return false;
 }
 
-/* Reads the tables of a folder; where it has none, the two bytes of an empty count. */
-static bool read_folder_tables(struct station *station, const char *tables) {
+/* Reads the tables of a station in a folder, which is NULL where it is in none; where it has no tables, the two bytes of an empty count. */
+static bool read_folder_tables(struct station *station, const char *folder, const char *tables) {
     static char own[PATH_ROOM];
     static uint8_t none[2];
-    if (!find_own_tables(own, station->path) || !is_only(own, tables))
+    *own = 0;
+    if ((folder && !find_own_tables(own, folder)) || !is_only(own, tables))
         return false;
     station->tables_path = tables ? tables : *own ? own : NULL;
     station->has_own_tables = *own;
@@ -174,9 +178,23 @@ bool read_station_folder(struct station *station, const char *path, const char *
     memset(station, 0, sizeof *station);
     station->path = path;
     station->is_folder = true;
-    if (!is_folder(path) || !read_texts(station) || !read_folder_tables(station, tables))
+    if (!is_folder(path) || !read_texts(station) || !read_folder_tables(station, station->path, tables))
         return false;
     station->texts++;
+    pack_station(station);
+    return true;
+}
+
+bool read_station_text(struct station *station, const char *path, uint32_t section, const char *tables) {
+    char folder[PATH_ROOM];
+    memset(station, 0, sizeof *station);
+    station->path = path;
+    station->is_folder = true;
+    station->only = section;
+    station->texts = SECTIONS;
+    snprintf(folder, sizeof folder, "%s", path);
+    if (!read_file(path, TEXT_MOST, &station->text[section - 1]) || !read_folder_tables(station, strcmp(path, "-") ? dirname(folder) : NULL, tables))
+        return false;
     pack_station(station);
     return true;
 }

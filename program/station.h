@@ -15,6 +15,7 @@
 struct station {
     const char *path;
     bool is_folder;
+    uint32_t only;               /* the section of a text that was read alone, from the file at path; else 0 */
     const char *tables_path;     /* of a folder: that of its tables, or NULL where it has none */
     bool has_own_tables;         /* that folder is within this one: no other station has them */
     struct text text[SECTIONS];  /* the last is the bytes of section five */
@@ -38,6 +39,10 @@ const char *table_path(const struct station *station, size_t place);
 /* Reads a folder, a sheet, or a sheet on standard input where the path is -. A station that is refused is read too. The tables of a folder
  * are those of the folder `tables`, or where that is NULL of its own folder of that name, if it has one. */
 bool read_station(struct station *station, const char *path, const char *tables);
+
+/* One text alone, as if all others were empty. Its tables are those of the folder `tables`, or where that is NULL of the folder of that name
+ * beside it, if there is one. */
+bool read_station_text(struct station *station, const char *path, uint32_t section, const char *tables);
 
 /* The same from a folder alone, or from a sheet alone. */
 bool read_station_folder(struct station *station, const char *path, const char *tables);

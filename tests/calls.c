@@ -12,7 +12,7 @@ struct text {
 };
 
 static struct lent {
-    struct text allow, deny, byuid, portacl, tables, sheet, old_sheet, command, address, daemon, client_name, server_name, user_name, answers;
+    struct text allow, deny, byuid, portacl, tables, sheet, old_sheet, command, address, daemon, client_name, server_name, user_name, answers, proposal;
     uint32_t groups[2];
     uint8_t out[160], marked[80];
 } m, expected, after;
@@ -63,6 +63,7 @@ static void begin(void) {
     SET(server_name, "");
     SET(user_name, "a;b");
     SET(answers, "\0\0");
+    SET(proposal, "\0\0\0\2");
     m.groups[0] = 20;
     m.groups[1] = 21;
 }
@@ -580,6 +581,107 @@ static void most_changes(void) {
     }
 }
 
+/* Line 4 is line 2 in other case, continued in line 5, and line 7 stands behind ALL: ALL. */
+#define REPEATS "# x\nsshd: /vans EXCEPT van7\nall: 10.\nSSHD: /VANS\\\n\texcept,van7: log\nALL: ALL: %a\nftpd: van7\n"
+#define TIDIED "# x\nsshd: /vans EXCEPT van7\nall: 10.\nALL: ALL: %a\n"
+#define PROPOSE(room, section) gate_propose(OUT(room), TEXT(deny), TEXT(tables), section)
+#define DROP(room, section) gate_drop(OUT(room), TEXT(deny), TEXT(tables), section, TEXT(proposal))
+
+static void repeats(void) {
+    begin();
+    SET(deny, REPEATS);
+}
+
+static void proposals(void) {
+    repeats(), lend();
+    expect("a proposal in exact room", wrote(PROPOSE(8, GATE_DENY), "\0\0\0\4\0\0\0\7", 8));
+    repeats(), lend();
+    expect("one byte less for it", unwritten(PROPOSE(7, GATE_DENY), GATE_NO_ROOM, 0, 0));
+    expect("a section of neither file", unwritten(PROPOSE(160, GATE_BYUID), GATE_BAD_REQUEST, 0, 0));
+    expect("no section", unwritten(PROPOSE(160, GATE_NO_SECTION), GATE_BAD_REQUEST, 0, 0));
+    SET(deny, TIDIED), lend();
+    expect("nothing to propose, in no room", wrote(PROPOSE(0, GATE_ALLOW), "", 0));
+    m.deny.len = 0, lend();
+    expect("an empty file", wrote(PROPOSE(0, GATE_ALLOW), "", 0));
+}
+
+static void dropping(void) {
+    repeats(), SET(proposal, "\0\0\0\4\0\0\0\7"), lend();
+    expect("a tidied file in exact room", wrote(DROP(sizeof TIDIED - 1, GATE_DENY), TIDIED, sizeof TIDIED - 1));
+    repeats(), SET(proposal, "\0\0\0\4\0\0\0\7"), lend();
+    expect("one byte less for it", unwritten(DROP(sizeof TIDIED - 2, GATE_DENY), GATE_NO_ROOM, 0, 0));
+    SET(proposal, "\0\0\0\7\0\0\0\4\0\0\0\7"), lend();
+    expect("in any order, and repeated", wrote(DROP(160, GATE_DENY), TIDIED, sizeof TIDIED - 1));
+    repeats(), SET(proposal, ""), lend();
+    expect("no line", wrote(DROP(sizeof REPEATS - 1, GATE_ALLOW), REPEATS, sizeof REPEATS - 1));
+    repeats(), SET(proposal, "\0\0\0\7"), lend();
+    expect("one of two", wrote(DROP(160, GATE_ALLOW), REPEATS, sizeof REPEATS - 1 - 11));
+}
+
+/* Each proposal of lines is not accepted, and that comes before room. */
+static void not_accepted(void) {
+    static const uint8_t lines[] = {0, 1, 2, 3, 5, 6, 8, 255};
+    repeats();
+    for (size_t i = 0; i < sizeof lines; i++) {
+        SET(proposal, "\0\0\0\4\0\0\0\0"), m.proposal.bytes[7] = lines[i], lend();
+        expect("20 for a line of no rule, or of one that may fire", unwritten(DROP(0, GATE_DENY), GATE_BAD_PROPOSAL, 0, 0));
+    }
+    SET(proposal, "\0\0\0\4\0\0\0\7\0"), lend();
+    expect("20 for a byte more", unwritten(DROP(160, GATE_DENY), GATE_BAD_PROPOSAL, 0, 0));
+    SET(proposal, "\0\0\0\4\0\0\7"), lend();
+    expect("20 for a byte less", unwritten(DROP(160, GATE_DENY), GATE_BAD_PROPOSAL, 0, 0));
+    SET(proposal, "\1\0\0\4"), lend();
+    expect("20 for a number of four bytes", unwritten(DROP(160, GATE_DENY), GATE_BAD_PROPOSAL, 0, 0));
+    SET(proposal, "\0\0\0\6\0\0\0\7"), lend();
+    expect("20 where the rule that covers goes too", unwritten(DROP(160, GATE_DENY), GATE_BAD_PROPOSAL, 0, 0));
+}
+
+static int both_refused(uint32_t given_section, uint32_t number, uint32_t section, uint64_t line) {
+    lend();
+    return unwritten(PROPOSE(0, given_section), number, section, line) && unwritten(DROP(0, given_section), number, section, line);
+}
+
+/* The file's own checks, in their order, before 20 and 14; 13 for the section before all. */
+static void tidy_refusals(void) {
+    static uint8_t over[GATE_DENY_LIMIT + 1];
+    repeats();
+    SET(deny, "ALL: ALL\nALL: /vans\nx\n");
+    expect("7 in hosts.deny", both_refused(GATE_DENY, GATE_NO_ELEMENT, GATE_DENY, 3));
+    expect("7 in hosts.allow", both_refused(GATE_ALLOW, GATE_NO_ELEMENT, GATE_ALLOW, 3));
+    SET(deny, "x\nALL: /gone\nALL: /a");
+    SET(tables, "\0\1\1a\0\0\0\2/A");
+    m.tables.len--;
+    expect("1 for cut tables, before the lines", both_refused(GATE_DENY, GATE_CUT_SHORT, GATE_TABLES, 0));
+    expect("13 before all", both_refused(GATE_TABLES, GATE_BAD_REQUEST, 0, 0));
+    lend();
+    expect("2 before the tables", unwritten(gate_propose(OUT(0), over, sizeof over, TEXT(tables), GATE_DENY), GATE_OVER_LIMIT, GATE_DENY, 0));
+    expect("the same of dropping", unwritten(gate_drop(OUT(0), over, sizeof over, TEXT(tables), GATE_ALLOW, TEXT(proposal)), GATE_OVER_LIMIT, GATE_ALLOW, 0));
+    m.tables.len += 2;
+    expect("3 for a byte behind", both_refused(GATE_DENY, GATE_TRAILING_BYTES, 0, 0));
+    m.tables.len--;
+    expect("the lines before 15", both_refused(GATE_DENY, GATE_NO_ELEMENT, GATE_DENY, 1));
+    SET(deny, "\nALL: /a\nALL: /gone\n");
+    expect("15 before 16", both_refused(GATE_ALLOW, GATE_TABLE_NAME, GATE_ALLOW, 3));
+    m.deny.len -= 11;
+    expect("16", both_refused(GATE_DENY, GATE_TOO_DEEP, GATE_DENY, 2));
+    SET(deny, "");
+    SET(tables, "\0\1\1a\0\0\0\6EXCEPT");
+    expect("17, of an empty file too", both_refused(GATE_DENY, GATE_BAD_TABLE, GATE_TABLES, 1));
+    SET(tables, "");
+    expect("no bytes of tables are a cut", both_refused(GATE_DENY, GATE_CUT_SHORT, GATE_TABLES, 0));
+}
+
+/* By the tidied file the same word, file and command as by the file; the line is less by the two that went above it. */
+static void tidied_verdicts(void) {
+    repeats(), SET(allow, ""), SET(daemon, "x"), SET(client_name, "van9"), m.tables.len = 2, m.tables.bytes[1] = 0;
+    SET(deny, "sshd: van8\nSSHD:\\\n VAN8: log\nx: KNOWN: %a\nsshd: van8\n"), lend();
+    expect("a verdict by a file", decided(gate_tables_verdict(TEXT(allow), TEXT(deny), TEXT(tables), REQUEST(1)), GATE_DENIED, GATE_DENY, 4, 38, 3));
+    SET(proposal, "\0\0\0\2\0\0\0\5"), lend();
+    expect("the file tidied", wrote(DROP(160, GATE_DENY), "sshd: van8\nx: KNOWN: %a\n", 24));
+    SET(deny, "sshd: van8\nx: KNOWN: %a\n"), lend();
+    expect("a verdict by it", decided(gate_tables_verdict(TEXT(allow), TEXT(deny), TEXT(tables), REQUEST(1)), GATE_DENIED, GATE_DENY, 2, 20, 3));
+}
+
 /* What a refused text is read as is refused wherever an address is taken. */
 static void no_address(void) {
     begin(), lend();
@@ -603,7 +705,7 @@ static void no_address(void) {
 }
 
 /* What is handed over in each position that takes bytes or groups. */
-enum position { ALLOW, DENY, BYUID, PORTACL, TABLES, SHEET, OLD_SHEET, GIVEN_COMMAND, ADDRESS, DAEMON, CLIENT_NAME, SERVER_NAME, USER_NAME, ANSWERS, LENT_OUT, LENT_MARKED, LENT_GROUPS, POSITIONS };
+enum position { ALLOW, DENY, BYUID, PORTACL, TABLES, SHEET, OLD_SHEET, GIVEN_COMMAND, ADDRESS, DAEMON, CLIENT_NAME, SERVER_NAME, USER_NAME, ANSWERS, PROPOSAL, LENT_OUT, LENT_MARKED, LENT_GROUPS, POSITIONS };
 static struct {
     const void *start;
     size_t len;
@@ -614,7 +716,7 @@ static struct answers {
     struct gate_command_answer command, sheet_command;
     struct gate_checked check;
     struct gate_parts parts;
-    struct gate_written packed, upgraded, converted, expanded, written;
+    struct gate_written packed, upgraded, converted, expanded, written, proposed, dropped;
     struct gate_written_two carried, salvaged;
     struct gate_next next;
     uint64_t address[3];
@@ -622,10 +724,10 @@ static struct answers {
 
 static void give_all(void) {
     const struct text *t[] = {&m.allow, &m.deny, &m.byuid, &m.portacl, &m.tables, &m.sheet, &m.old_sheet, &m.command, &m.address, &m.daemon,
-                              &m.client_name, &m.server_name, &m.user_name, &m.answers};
+                              &m.client_name, &m.server_name, &m.user_name, &m.answers, &m.proposal};
     begin();
     SET(server_name, "station");
-    for (int i = ALLOW; i <= ANSWERS; i++)
+    for (int i = ALLOW; i <= PROPOSAL; i++)
         given[i].start = t[i]->bytes, given[i].len = t[i]->len;
     given[LENT_OUT].start = m.out, given[LENT_OUT].len = sizeof m.out;
     given[LENT_MARKED].start = m.marked, given[LENT_MARKED].len = sizeof m.marked;
@@ -661,6 +763,8 @@ static void call_all(struct answers *a, uint32_t state) {
     a->expanded = gate_expand(GIVEN_OUT, GIVEN(GIVEN_COMMAND), GIVEN_REQUEST(state), 7);
     a->written = gate_write_address(GIVEN_OUT, read.kind, read.high, read.low);
     a->next = gate_authbind(GIVEN_OUT, 80, read.kind, read.high, read.low, 432, GIVEN(ANSWERS));
+    a->proposed = gate_propose(GIVEN_OUT, GIVEN(DENY), GIVEN(TABLES), GATE_DENY);
+    a->dropped = gate_drop(GIVEN_OUT, GIVEN(DENY), GIVEN(TABLES), GATE_DENY, GIVEN(PROPOSAL));
     a->carried = gate_carry(GIVEN_OUT, (uint8_t *)given[LENT_MARKED].start, given[LENT_MARKED].len, GIVEN(PORTACL), 80);
     a->salvaged = gate_salvage(GIVEN_OUT, (uint8_t *)given[LENT_MARKED].start, given[LENT_MARKED].len, GIVEN(SHEET));
     a->address[0] = read.number, a->address[1] = read.high, a->address[2] = read.low;
@@ -720,6 +824,9 @@ static void null_answers(void) {
     expect("no list to carry over, and no room", without(PORTACL, 1)->carried.number == GATE_ANSWERED && without(LENT_MARKED, 1)->carried.number == GATE_ANSWERED);
     expect("no sheet to salvage, and no room", without(SHEET, 1)->salvaged.number == GATE_CUT_SHORT && without(LENT_OUT, 1)->salvaged.number == GATE_NO_ROOM);
     expect("no room is enough for no changes", without(LENT_MARKED, 1)->salvaged.number == GATE_ANSWERED && null.salvaged.count == m.sheet.len);
+    expect("no proposal", without(PROPOSAL, 1)->dropped.number == GATE_ANSWERED && null.dropped.count == m.deny.len && null.proposed.number == GATE_ANSWERED);
+    expect("no file to tidy", without(DENY, 1)->dropped.number == GATE_BAD_PROPOSAL && null.proposed.number == GATE_ANSWERED && null.proposed.count == 0);
+    expect("no tables to tidy by", without(TABLES, 1)->dropped.number == GATE_CUT_SHORT && null.proposed.number == GATE_CUT_SHORT && null.proposed.section == GATE_TABLES);
     expect("no command", without(GIVEN_COMMAND, 1)->expanded.number == GATE_ANSWERED && null.expanded.count == 0);
     expect("no address", without(ADDRESS, 1)->address[0] == GATE_BAD_REQUEST && null.written.number == GATE_BAD_REQUEST);
 }
@@ -741,6 +848,21 @@ static void rooms(void) {
     expect("the longest name of authbind", gate_authbind(out, GATE_AUTHBIND_ROOM, 1023, GATE_IPV6, UINT64_MAX, UINT64_MAX, UINT32_MAX, absent, 1).count
            == GATE_AUTHBIND_ROOM);
     expect("the longest address", gate_write_address(out, GATE_ADDRESS_ROOM, GATE_IPV6, UINT64_MAX, UINT64_MAX).count == GATE_ADDRESS_ROOM);
+}
+
+/* The same for a file of the most rules, and for one of which none goes. */
+static void tidy_rooms(void) {
+    static uint8_t file[GATE_DENY_LIMIT], proposal[GATE_TIDY_ROOM], out[GATE_TIDY_ROOM];
+    const uint8_t *none = (const uint8_t *)"\0\0";
+    for (size_t i = 0; i < sizeof file; i++)
+        file[i] = (uint8_t)"a:b\n"[i % 4];
+    struct gate_written proposed = gate_propose(proposal, sizeof proposal, file, sizeof file, none, 2, GATE_DENY);
+    expect("the longest proposal", proposed.number == GATE_ANSWERED && proposed.count == 4 * 4095 && proposal[3] == 2 && proposal[16378] == 16 && proposal[16379] == 0);
+    struct gate_written dropped = gate_drop(out, sizeof out, file, sizeof file, none, 2, GATE_DENY, proposal, (size_t)proposed.count);
+    expect("one rule is left of it", dropped.number == GATE_ANSWERED && dropped.count == 4 && !memcmp(out, "a:b\n", 4));
+    dropped = gate_drop(out, sizeof out, file, sizeof file, none, 2, GATE_DENY, NULL, 0);
+    expect("the longest file", dropped.number == GATE_ANSWERED && dropped.count == GATE_TIDY_ROOM && !memcmp(out, file, sizeof out));
+    expect("one byte less", gate_drop(out, sizeof out - 1, file, sizeof file, none, 2, GATE_DENY, NULL, 0).number == GATE_NO_ROOM);
 }
 
 /* The same for the command of a rule, which shares its line with the shortest lists that fit: a daemon a, a client in 1. */
@@ -814,10 +936,16 @@ int main(void) {
     carry();
     salvage();
     most_changes();
+    proposals();
+    dropping();
+    not_accepted();
+    tidy_refusals();
+    tidied_verdicts();
     no_address();
     nulls();
     null_answers();
     rooms();
+    tidy_rooms();
     command_rooms();
     unread();
     if (!failed)

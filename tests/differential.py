@@ -48,6 +48,7 @@ def load(path):
             ("byuid", text + [U32] + bind, Answer), ("sheet_byuid", text + bind, Answer),
             ("portacl", portacl, Answer), ("sheet_portacl", portacl, Answer),
             ("authbind", out + bind + text, Next), ("carry", out * 2 + text + [U32], WrittenTwo), ("salvage", out * 2 + text, WrittenTwo),
+            ("propose", out + text * 2 + [U32], Written), ("drop", out + text * 2 + [U32] + text, Written),
             ("check", text, Check), ("unpack", text, Parts), ("pack", out + text * 5, Written), ("upgrade", out + text, Written), ("convert", out + text, Written),
             ("expand", out + text + request + [U32], Written),
             ("read_address", text, Address), ("write_address", out + [U32, U64, U64], Written)):
@@ -439,6 +440,104 @@ def naming_text(rng, sound, names):
     return text if sound else damaged_text(rng, text)
 
 
+# Files full of repeats
+
+def tidy_words(rng, names, client):
+    """a list: its elements, and EXCEPTs between some"""
+    def reference():
+        return b"/" + rng.choice(names)
+
+    def one():
+        if names and rng.random() < 0.3:
+            return rng.choice([b"fitter@" + reference(), reference()] if client else [b"sshd@" + reference(), b"ALL@" + reference()])
+        return rng.choice([b"ALL", b"ALL", b"fitter@10.", b"KNOWN@ALL", rng.choice(SOUND_HOSTS)] if client else [b"ALL", b"ALL", b"sshd@10.0.0.1", rng.choice(DAEMONS)])
+
+    words = [one()]
+    while rng.random() < 0.4:
+        words += [b"EXCEPT"] * (rng.random() < 0.4) + [one()]
+    return words
+
+
+def nearly(rng, words):
+    """another list, mostly: in another order, an element more or less, an EXCEPT more or less; it may be at fault"""
+    words, at, kind = list(words), rng.randrange(len(words)), rng.randrange(5)
+    if kind == 0:
+        rng.shuffle(words)
+    elif kind == 1:
+        words.insert(at, words[at])
+    elif kind == 2 and len(words) > 1:
+        del words[at]
+    elif kind == 3:
+        words += [b"EXCEPT", rng.choice([b"x", b"ALL", words[0]])]
+    else:
+        words = [w for w in words if w != b"EXCEPT"]
+    return words
+
+
+def tidy_line(rng, rule):
+    """a rule in other case, parted otherwise, with any command, continued somewhere"""
+    gaps = [b" ", b" ", b",", b", ", b"\t", b" ,\t"]
+    daemons, clients = (rng.choice(gaps).join(other_case(rng, w) for w in words) for words in rule)
+    line = daemons + rng.choice([b":", b" : ", b",:\t"]) + clients + rng.choice([b"", b"", b"", b":", b": log %h", b" : %c"])
+    while rng.random() < 0.15:
+        at = rng.randrange(len(line) + 1)
+        line = line[:at] + b"\\\n" + line[at:]
+    return line
+
+
+def tidy_text(rng, sound, names):
+    """few rules again and again, near misses among them, comments and blanks between"""
+    rules = [(tidy_words(rng, names, False), tidy_words(rng, names, True)) for _ in range(rng.choice([1, 2, 3]))]
+    rules += [([b"ALL"], [b"ALL"])] * (rng.random() < 0.2)
+    lines = []
+    for _ in range(rng.choice([0, 1, 2, 3, 5, 8, 20])):
+        daemons, clients = rng.choice(rules)
+        if rng.random() < 0.25:
+            daemons, clients = rng.choice([(nearly(rng, daemons), clients), (daemons, nearly(rng, clients)), (clients, daemons)])
+        line = tidy_line(rng, (daemons, clients)) if rng.random() < 0.85 else rng.choice([b"", b" \t", b"# ALL: ALL", b"#\\\n", b"\\\n"])
+        if not sound or ref.verdict(line + b"\n", b"", NOBODY)[0] in (13, 15):
+            lines.append(line)
+    if not sound:
+        lines.insert(rng.randrange(len(lines) + 1), joined_line(rng))
+    text = b"".join(line + b"\n" for line in lines)
+    return text if sound else damaged_text(rng, text)
+
+
+def proposal_of(rng, text):
+    """of a file without a fault: the longest, a part of it, its numbers in another order and repeated, and such as are not accepted"""
+    numbers, kind = ref.needless(text), rng.random()
+    rules = [line.number for line, _ in ref.rules_in(text)]
+    if kind < 0.3:
+        return ref.proposal_of(numbers)
+    if kind < 0.5:
+        numbers = [n for n in numbers if rng.random() < 0.6]
+    elif kind < 0.65:
+        numbers = [rng.choice(numbers) for _ in range(rng.choice([1, 5, 50]))] if numbers else []
+    elif kind < 0.9:
+        physical = text.count(b"\n")
+        wrong = rng.choice([0, physical + 1, 16384, 16385, 16386, 2 ** 32 - 1, 256 * rng.randrange(1, 100), rng.randrange(physical + 2), rng.choice(rules or [7]), (rules or [1])[0]])
+        numbers.insert(rng.randrange(len(numbers) + 1), wrong)
+    elif kind < 0.94:
+        numbers = rules
+    rng.shuffle(numbers)
+    unparted = rng.choice([b"\0", b"\0\0", b"\0\0\0", rng.randbytes(3)]) if kind > 0.97 else b""
+    return ref.proposal_of(numbers) + unparted
+
+
+def vast_texts():
+    """files as long as they may be: of one rule again and again, of rules that all differ, of both, and behind a rule for all"""
+    letters = [b"%c" % c for c in b"abcdefghijklmnopqrstuvwxyz_-"]
+    differing = b"".join(a + b + b":" + c + b"\n" for a in letters for b in letters for c in letters)[:16384 // 5 * 5]
+    yield b"a:b\n" * 4096
+    yield differing
+    yield differing[:8190] + differing[:8190].upper()
+    yield b"ALL:all\n" + b"a:b\n" * 4094
+    yield b"\\\n" * 8190 + b"a:b\n"
+    yield b"a:b\n" + b"\n" * 16376 + b"A:B\n"
+    yield b"a:b\nA:\\\nB\n" * 1638
+    yield (b"a:" + b"b EXCEPT " * 200 + b"b\n") * 9
+
+
 def nest(words):
     """tables that name the next so often, and the last with so many names: the most work that one reference can ask for"""
     names = [b"a", b"b", b"c", b"d"]
@@ -776,6 +875,7 @@ KINDS = {
     "carry": {"answered", "2", "12", "13", "14"},
     "salvage": {"answered", "1", "2", "3", "14", "15", "17", "unchanged", "grown", "byuid", "portacl"}
                | {f"{section} {what}" for section in ("allow", "deny") for what in (*range(4, 12), 15, 16, "continued", "comment")},
+    "propose": {"answered", "1", "2", "3", "13", "14"} | FILES | TABLES, "drop": {"answered", "1", "2", "3", "13", "14", "20", "granted", "denied", "ask", "moved"} | FILES | TABLES,
     "authbind": {"test", "read", "granted", "denied", "not ruled", "13", "14", "18", "19"},
     "check": SHEET | {"sheet ok"}, "unpack": SHEET | {"answered"}, "pack": {"answered", "14"} | SHEET,
     "upgrade": {"answered", "1", "2", "3", "14"}, "convert": {"answered", "2", "14"},
@@ -983,6 +1083,64 @@ def main():
         compare("check", check(lib.gate_check, new), "sheet ok", sheet, new)
         compare("salvage", written_two(rng, [len(new), 0], lib.gate_salvage, *sized(new)), [new, b""], sheet, new)
 
+    def compare_drop(section, text, five, proposal, room):
+        expected = ref.drop(section, text, five, proposal, room)
+        got = written(rng, room, lib.gate_drop, *sized(text), *sized(five), section, *sized(proposal))
+        compare("drop", got, expected, section, text[:1000], five[:1000], proposal[:1000], room)
+        return expected
+
+    def compare_verdicts(section, text, new, five, proposal):
+        """by the old file and by the new one: the same word, file and command, and the line less the lines that went above it"""
+        other, r, named = rng.choice([b"", hosts_text(rng, True)]), rng.choice([request, user_request])(rng), set(ref.numbers_of(proposal))
+
+        def verdict_by(file):
+            allow, deny = (file, other) if section == 1 else (other, file)
+            return verdict(rng, lib.gate_tables_verdict, [allow, deny, five], [b"", allow, deny], r)
+
+        before, after = verdict_by(text), verdict_by(new)
+        if not ref.refused(before):
+            removed = ref.removed_above(text, named, before[2]) if before[1] == section else 0
+            seen["drop"] |= {"moved"} if removed else set()
+            before, after = (before[0], before[1], before[2] - removed, before[4]), (after[0], after[1], after[2], after[4])
+        compare("drop", after, before, section, text, new, five, other, r)
+
+    def tidy_case():
+        five, names = (ref.NO_TABLES, []) if rng.random() < 0.4 else tables_of(rng)
+        text, section = tidy_text(rng, rng.random() < 0.85, names), rng.choice([1, 2]) if rng.random() < 0.97 else rng.choice([0, 3, 5, 257, 2 ** 32 - 1])
+        if rng.random() < 0.01:
+            text = (text + b"\n" * 16385)[:rng.choice([16384, 16385])]
+        room = room_for(rng, ref.propose(section, text, five, 1 << 32))
+        got = written(rng, room, lib.gate_propose, *sized(text), *sized(five), section)
+        compare("propose", got, ref.propose(section, text, five, room), section, text, five, room)
+        faulty = ref.file_fault(section, text, five)
+        proposal = rng.randbytes(rng.choice([0, 4, 7])) if faulty else proposal_of(rng, text)
+        new = compare_drop(section, text, five, proposal, room_for(rng, ref.drop(section, text, five, proposal, 1 << 32)))
+        for _ in range(0 if ref.refused(new) else 8 if proposal else 1):
+            compare_verdicts(section, text, new, five, proposal)
+
+    def every_proposal_case():
+        """of a short file: no proposal of its lines that is accepted is longer than the one that is proposed"""
+        text = tidy_text(rng, True, [])
+        lines = range(text.count(b"\n") + 2)
+        if len(lines) > 9:
+            return
+        proposed = written(rng, len(text), lib.gate_propose, *sized(text), *sized(ref.NO_TABLES), 2)
+        for chosen in range(1 << len(lines)):
+            proposal = ref.proposal_of([n for n in lines if chosen >> n & 1])
+            accepted = not ref.refused(compare_drop(2, text, ref.NO_TABLES, proposal, len(text)))
+            if accepted and len(proposal) > len(proposed):
+                compare("propose", proposed, proposal, text)
+
+    def vast_tidy_cases():
+        for text in vast_texts():
+            expected = ref.propose(2, text, ref.NO_TABLES, 16384)
+            compare("propose", written(rng, 16384, lib.gate_propose, *sized(text), *sized(ref.NO_TABLES), 2), expected, text[:100], len(text))
+            numbers, new = ref.numbers_of(expected), ref.drop(2, text, ref.NO_TABLES, expected, 16384)
+            for room in (16384, len(new), max(0, len(new) - 1)):
+                compare_drop(2, text, ref.NO_TABLES, expected, room)
+            for proposal in (ref.proposal_of(numbers[::-1]), expected * 20, expected + b"\0", expected + b"\0\0\0\1", b"\0\0\0\1" * 50000):
+                compare_drop(2, text, ref.NO_TABLES, proposal, 16384)
+
     def portacl_request():
         settings = dict(enabled=rng.choice([0, 1, 1, 1, 2]), port_high=rng.choice([0, 79, 80, 1023, 1023, 65535, 2 ** 32 - 1]),
                         suser_exempt=rng.choice([0, 1, 7]), autoport_exempt=rng.choice([0, 1, 7]))
@@ -1033,10 +1191,13 @@ def main():
         compare("write_address", written(rng, room, lib.gate_write_address, *address_args(rng, address)), ref.write_address(address, room), address, room)
 
     vast_cases()
+    vast_tidy_cases()
     for turn in range(cases):
         if turn % 1000 == 0:
             cut_cases()
             crowd_cases()
+        if turn % 100 == 0:
+            every_proposal_case()
         hosts_case()
         tables_case()
         user_cases()
@@ -1048,6 +1209,7 @@ def main():
         authbind_case()
         carry_case()
         salvage_case()
+        tidy_case()
         sheet_cases()
         expand_case()
         address_cases()

@@ -295,7 +295,7 @@ static int texts(const char *(*text)(uint32_t), uint32_t last) {
         for (k = 0; k < i; k++)
             if (!strcmp(text(i), text(k)))
                 return 0;
-    return !strcmp(text(last + 1), text(last + 2)) && !strcmp(text(last + 1), text(0xffffffff));
+    return !strcmp(text(last + 1), text(0xfffffffe)) && !strcmp(text(last + 1), text(0xffffffff));
 }
 
 int main(void) {
@@ -309,7 +309,8 @@ int main(void) {
     commands();
     ports();
     settings();
-    expect("texts of the numbers", texts(gate_number_text, GATE_LATE_ANSWER) && !strcmp(gate_number_text(10), "no element kind fits"));
+    expect("texts of the numbers", texts(gate_number_text, GATE_BAD_PROPOSAL) && !strcmp(gate_number_text(10), "no element kind fits"));
+    expect("the text of the last number", strcmp(gate_number_text(GATE_RETIRED_FORM), gate_number_text(GATE_RETIRED_FORM + 1)) != 0);
     expect("texts of the words", texts(gate_word_text, GATE_NAME_MATTERS) && !strcmp(gate_word_text(GATE_NOT_RULED), "not ruled"));
     expect("texts of the sections", texts(gate_section_text, GATE_TABLES) && !strcmp(gate_section_text(GATE_BYUID), "byuid"));
     if (!failed)

@@ -164,6 +164,7 @@ def limits(text):
     found["GATE_CARRY_ROOM"] = found["GATE_PORTACL_LIMIT"]
     most_changed = {"ALLOW": (0, len("x\n")), "DENY": (0, len("ALL: ALL\n")), "BYUID": (1, len("0.0.0.0/0:0,0\n")), "PORTACL": (1, len(","))}
     found["GATE_CHANGES_ROOM"] = 8 * sum((found[f"GATE_{name}_LIMIT"] + unended) // least for name, (unended, least) in most_changed.items())
+    found["GATE_TIDY_ROOM"] = max(found["GATE_ALLOW_LIMIT"], found["GATE_DENY_LIMIT"])
     found["GATE_AUTHBIND_ROOM"] = len("/etc/authbind/byaddr/!") + found["GATE_ADDRESS_ROOM"] + len(",1023")
     most = max(found["GATE_DAEMON_LIMIT"], found["GATE_USER_LIMIT"]) + 1 + found["GATE_NAME_LIMIT"]
     found["GATE_EXPANSION_ROOM"] = line // 2 * most + line % 2
@@ -273,6 +274,10 @@ PLANTED = [
     (HEADER, "gate_carry(uint8_t *plain, size_t plain_len, uint8_t *marked, size_t marked_len", "gate_carry(uint8_t *marked, size_t marked_len, uint8_t *plain, size_t plain_len"),
     (HEADER, "GATE_DENY_LIMIT / 9", "GATE_DENY_LIMIT / 10"),
     (HEADER, "gate_salvage(uint8_t *out, size_t out_len, uint8_t *list, size_t list_len", "gate_salvage(uint8_t *list, size_t list_len, uint8_t *out, size_t out_len"),
+    (HEADER, "GATE_BAD_PROPOSAL = 20,", "GATE_BAD_PROPOSAL = 21,"),
+    (HEADER, "GATE_TIDY_ROOM GATE_ALLOW_LIMIT", "GATE_TIDY_ROOM GATE_BYUID_LIMIT"),
+    (HEADER, "struct gate_written gate_propose(", "struct gate_written gate_offer("),
+    (HEADER, "uint32_t section, const uint8_t *proposal, size_t proposal_len);", "const uint8_t *proposal, size_t proposal_len, uint32_t section);"),
     (HEADER, "    uint32_t word;  /* GATE_TEST", "    uint64_t word;  /* GATE_TEST"),
     (ORDER, "given (eqb n 2) Other", "given (eqb n 3) Other"),
     (ANSWERS, 'word "read" 8', 'word "read" 9'),

@@ -34,7 +34,7 @@ TEXTS = [(TOP / "sample" / name).read_bytes() for name in NAMES]
 SHEET_LIMIT = 57360
 SHEET = ref.pack(TEXTS + [ref.NO_TABLES], SHEET_LIMIT)
 OLD_SHEET = SHEET[:-2]
-COMMANDS = ("check", "match", "byuid", "portacl", "authbind", "pack", "unpack", "fleet", "upgrade", "convert", "carry", "salvage", "explain", "test")
+COMMANDS = ("check", "match", "byuid", "portacl", "authbind", "pack", "unpack", "fleet", "upgrade", "convert", "carry", "salvage", "tidy", "explain", "test")
 PAGE = os.sysconf("SC_PAGE_SIZE")
 runs, failures, statuses, skipped = 0, [], set(), []
 
@@ -135,7 +135,13 @@ def test_misread():
         expect(f"carry {case} is an error", gate("carry", *case), 2, b"", "gate: ")
     for case in ([], ["s"], ["s", "n", "x"], ["-", ""], ["-", "."], ["-", "n", "--tables", "."], ["s", "n", "-f"], ["-", "s", "-Q"]):
         expect(f"salvage {case} is an error", gate("salvage", *case), 2, b"", "gate: ")
-    for case in (["20"], ["21"], ["23"], ["x"], ["-1"], ["010"], [""], ["1", "2"], ["4294967306"]):
+    deny = SAMPLE + "/hosts.deny"
+    for case in ([], [SAMPLE], [SAMPLE + "/byuid"], ["-"], [deny, "--as"], [deny, "--as", ""], [deny, "--as", "hosts.deny"], [deny, "--as", "DENY"], [deny, "n", "x"], [deny, ""],
+                 [deny, "."], [deny, "--lines", "1"], [deny, "n", "--lines"], [deny, "n", "--lines", ""], [deny, "n", "--lines", "1,"], [deny, "n", "--lines", ",1"],
+                 [deny, "n", "--lines", "1 "], [deny, "n", "--lines", "01"], [deny, "n", "--lines", "-1"], [deny, "n", "--lines", "x"], [deny, "n", "--lines", "4294967296"],
+                 [deny, "n", "--lines", ",".join(["1"] * 4097)], [deny, "--tables", SAMPLE + "/none"], [SAMPLE + "/none/hosts.deny"], [SAMPLE, "--as", "deny"]):
+        expect(f"tidy {case} is an error", gate("tidy", *case), 2, b"", "gate: ")
+    for case in (["21"], ["23"], ["x"], ["-1"], ["010"], [""], ["1", "2"], ["4294967306"]):
         expect(f"explain {case} is an error", gate("explain", *case), 2, b"", "gate: ")
     for case in ([], ["chek"], [""], ["-q"], ["--Version"], ["--version", "x"], ["check"], ["check", SAMPLE, SAMPLE], ["pack", SAMPLE], ["unpack", "x"],
                  ["test", SAMPLE], ["fleet", SAMPLE], ["upgrade", "x"], ["convert", "x"], ["fleet", FLEET, "--tables", FLEET + "/tables"], ["check", "--warning", SAMPLE], ["check", "-q", "-q", SAMPLE], ["check", "--quiet=1", SAMPLE]):
@@ -432,7 +438,7 @@ def test_authbind(folder):
 def test_explain(folder):
     expect("explain lists all", gate("explain"), 0, "\n14  ", b"")
     expect("explain lists the last", gate("explain"), 0, "\n22  ", b"")
-    for number in [*range(20), 22]:
+    for number in [*range(21), 22]:
         done = gate("explain", str(number))
         expect(f"explain {number}", done, 0, "What to do", b"")
         example = re.search(rb"Example, in (hosts.allow|portacl|byuid|a table):\n    (.*)\n", done.stdout)
@@ -965,6 +971,110 @@ def test_damaged_sheets(folder):
             fail("a generated damaged sheet", sheet, new.read_bytes(), written)
 
 
+REPEATS = (b"# deny\nALL: 10.0.0.1, .x.example\nsshd: /vans EXCEPT van7\nall: 10.0.0.1 .X.example: log %h\nSSHD: \\\n\t/VANS except\\\n van7 \nALL: .x.example 10.0.0.1\n\n"
+           b"ALL: ALL: log %a\nftpd: ALL\nall: all\n")
+NEEDLESS = {4: 2, 5: 3, 11: 10, 12: 10}
+
+
+def shown_needless(path, text, witnesses):
+    """what is printed of each line and of the one that makes it needless"""
+    rows = text.split(b"\n")
+    return b"".join(b"%s:%d: never fires: line %d %s\n%5d | %s\n%5d | %s\n" % (
+        path, line, witness, b"is ALL: ALL" if witness == 10 else b"has the same lists", line, rows[line - 1], witness, rows[witness - 1].replace(b"\t", b"?"))
+        for line, witness in sorted(witnesses.items()))
+
+
+def test_tidy(folder):
+    """rules that never fire: shown, and dropped where a file is given"""
+    where = pathlib.Path(station(folder + "/repeats", deny=REPEATS, tables=[(b"vans", b"van7 van8")]))
+    deny, new, path = where / "hosts.deny", where / "new", os.fsencode(where / "hosts.deny")
+    five = ref.section_five([(b"vans", b"van7 van8")])
+    tidied = ref.drop(2, REPEATS, five, ref.propose(2, REPEATS, five, 16384), 16384)
+    if ref.needless(REPEATS) != sorted(NEEDLESS):
+        fail("the reference's proposal", ref.needless(REPEATS))
+    shown = shown_needless(path, REPEATS, NEEDLESS)
+    expect("rules that never fire", gate("tidy", deny), 1, shown + b"%s: 4 of 8 rules never fire\n" % path, b"")
+    expect("quietly", gate("tidy", "-q", deny), 1, b"", b"")
+    if sorted(os.listdir(where)) != sorted(NAMES + ("tables",)) or deny.read_bytes() != REPEATS:
+        fail("showing them writes nothing")
+    expect("dropping them", gate("tidy", deny, new), 0, shown + b"%s: %d bytes, 4 of 8 rules dropped\n" % (os.fsencode(new), len(tidied)), b"")
+    if new.read_bytes() != tidied or deny.read_bytes() != REPEATS or left_over(where):
+        fail("a tidied file", new.read_bytes(), tidied)
+    expect("to standard output", gate("tidy", deny, "-"), 0, tidied, b"")
+    expect("a file of another name", gate("tidy", new), 2, b"", "new: is this a hosts.allow or a hosts.deny? --as allow or --as deny tells")
+    for which in ("allow", "deny"):
+        expect("it is tidy as " + which, gate("tidy", new, "--as", which), 0, b"%s: 0 of 4 rules never fire\n" % os.fsencode(new), b"")
+    expect("from standard input", gate("tidy", "-", "-", "--as=deny", "--tables", where / "tables", stdin=REPEATS), 0, tidied, b"")
+    expect("no tables with standard input", gate("tidy", "-", "--as", "deny", stdin=REPEATS, cwd=where), 2, b"", "standard input:3: no table of this name [15]")
+    expect("that it is refused", gate("tidy", "-", "--as", "deny", stdin=b"x\n"), 2, b"", "gate: standard input: refused: 1 fault; ")
+    expect("tables twice", gate("tidy", deny, "--tables", write_tables(folder + "/other", [])), 2, b"", "this station has tables of its own")
+    expect("some lines alone", gate("tidy", deny, "-", "--lines", "12,4,12"), 0, ref.without_lines(REPEATS, {4, 12}), b"")
+    for lines, message in (("4,2", ":2: may fire: no earlier rule that stays has the same lists, or is ALL: ALL [20]\n"), ("2", ":2: may fire"), ("10,11", ":11: may fire"), ("1", ":1: no rule begins at this line [20]\n"),
+                           ("6", ":6: no rule begins"), ("9", ":9: no rule begins"), ("0", ":0: no rule begins"), ("13", ":13: no rule begins"), ("4294967295", ":4294967295: no rule begins")):
+        new.write_bytes(b"what was there")
+        expect("lines that may not be dropped: " + lines, gate("tidy", deny, new, "--lines", lines), 2, b"", message)
+        if new.read_bytes() != b"what was there" or left_over(where):
+            fail("a refused proposal changes nothing: " + lines)
+    expect("and that it is refused", gate("tidy", deny, new, "--lines", "2"), 2, b"", "refused: a proposal that is not accepted; nothing was written; without --lines every rule is shown that may be dropped\n")
+    deny.chmod(0o640)
+    expect("in place", gate("tidy", "-q", deny, deny), 0, b"", b"")
+    if deny.read_bytes() != tidied or deny.stat().st_mode & 0o777 != 0o640:
+        fail("a file tidied in place")
+    expect("what is left is sound", gate("check", where), 0, "sound", None)
+    test_tidy_refusals(where)
+
+
+def test_tidy_refusals(where):
+    deny, allow, new = where / "hosts.deny", where / "hosts.allow", where / "new"
+    new.write_bytes(b"what was there")
+    for what, text, message in (
+            ("a bad line", b"ALL: ALL\nALL: ALL\nx\n", "hosts.allow:3: no colon, or a list with no element [7]"), ("no last newline", b"ALL: ALL", "hosts.allow:1: the last line has no ending newline [4]"),
+            ("a table that is missing", b"ALL: /none\n", "write its hosts into"), ("16,385 bytes", b"\n" * 16385, "16385 bytes, and the most is 16384 [2]"),
+            ("a megabyte", b"\n" * (1 << 20), "over 65536 bytes, and the most is 16384 [2]"), ("a zero", b"\0\n", "[5]")):
+        allow.write_bytes(text)
+        expect("tidying " + what, gate("tidy", allow, new), 2, b"", message)
+        expect("showing " + what, gate("tidy", allow), 2, b"", "refused: ")
+    allow.write_bytes(b"ALL: ALL\n" * 2)
+    write_tables(where / "tables", [(b"vans", b"EXCEPT")])
+    expect("a bad table", gate("tidy", allow, new), 2, b"", "tables/vans:1: table 1: no host pattern [17]")
+    write_tables(where / "tables", [])
+    if new.read_bytes() != b"what was there" or left_over(where):
+        fail("a refused file changes nothing")
+    expect("a folder for NEW", gate("tidy", allow, where), 2, b"", "is a folder")
+    os.symlink(new, where / "link")
+    expect("a link for NEW", gate("tidy", allow, where / "link"), 2, b"", "is a symbolic link")
+    allow.write_bytes(b"a:b\n" * 4096)
+    before = time.monotonic()
+    expect("the most rules", gate("tidy", allow, new), 0, b": 4 bytes, 4095 of 4096 rules dropped\n".decode(), b"")
+    if new.read_bytes() != b"a:b\n" or time.monotonic() - before > 5:
+        fail("the most rules, in time")
+    allow.write_bytes(b"")
+    expect("an empty file", gate("tidy", allow), 0, b"%s: 0 of 0 rules never fire\n" % os.fsencode(allow), b"")
+    expect("an empty file, written", gate("tidy", allow, "-"), 0, b"", b"")
+
+
+def test_generated_tidying(folder, rng):
+    """generated files with their tables: what is dropped is what the reference drops, and a file at fault is refused"""
+    answered = 0
+    for _ in range(STATIONS // 3):
+        tables, names = generated_tables(rng)
+        tables = as_files(tables)
+        text, five, section = gen.tidy_text(rng, rng.random() < 0.8, names), ref.section_five(tables or []), rng.choice([1, 2])
+        where = station(folder + "/generated", **{("allow", "deny")[section - 1]: text}, tables=tables)
+        file = f"{where}/{NAMES[section - 1]}"
+        expected = ref.propose(section, text, five, 16384)
+        if ref.refused(expected):
+            expect("a generated file at fault", gate("tidy", file, "-"), 2, b"", f"[{expected[0]}]")
+            continue
+        answered += 1
+        expect("a generated file", gate("tidy", file, "-"), 0, ref.drop(section, text, five, expected, 16384), b"")
+        done = gate("tidy", file)
+        if [int(n) for n in re.findall(rb":(\d+): never fires: ", done.stdout)] != ref.numbers_of(expected) or done.returncode != bool(expected):
+            fail("the lines of a generated file", done.stdout, ref.numbers_of(expected))
+    if not answered:
+        fail("no generated file was tidied")
+
+
 RETIRED = b"# x\n10.0.0.0/8:80,90\n10.0.0.1/8:80,90\n::/0,80\r\n192.0.2.7/32:443,443"
 RENEWED = b"# x\n10.0.0.0/8,80-90\n10.0.0.1/8:80,90\n::/0,80\r\n192.0.2.7/32,443-443"
 
@@ -1036,6 +1146,13 @@ def test_faults(folder):
         expect_old(f"{error} at {call} of pack", 2, *pack, message=message, env=faulty(library, call, 1, errno=error))
         expect_old(f"{error} at {call} of unpack", 2, *unpack, message=message, env=faulty(library, call, 1, errno=error))
         expect_old(f"{error} at {call} of salvage", 2, "salvage", folder + "/one.sheet", sheet, message=message, env=faulty(library, call, 1, errno=error))
+    deny, repeats = pathlib.Path(folder) / "hosts.deny", b"ALL: x\nall: X\n"
+    deny.write_bytes(repeats)
+    for call, error in (("write", errno.ENOSPC), ("fsync", errno.EIO), ("rename", errno.EACCES)):
+        expect(f"{error} at {call} of tidy", gate("tidy", deny, deny, env=faulty(library, call, 1, errno=error)), 2, b"", os.strerror(error) + "; nothing was written")
+    expect("a signal at fsync of tidy", gate("tidy", deny, deny, env=faulty(library, "fsync", 1, signal=signal.SIGTERM)), -signal.SIGTERM, b"", None)
+    if deny.read_bytes() != repeats or left_over(folder):
+        fail("a file that could not be tidied is as it was", deny.read_bytes(), left_over(folder))
     test_faults_with_tables(folder, library)
     expect_old("a folder that can't be synced", 2, *pack, message="perhaps not on disk", kept=False, env=faulty(library, "fsync", 2, errno=errno.EIO))
     if sheet.read_bytes() != SHEET:
@@ -1361,11 +1478,11 @@ def run_all():
     os.chmod(SCRATCH, 0o755)
     test_misread()
     test_read()
-    for test in (test_answers, test_checks, test_marked, test_authbind, test_carry, test_salvage, test_explain, test_requests, test_reading, test_pack, test_unpack, test_tables, test_fleet, test_convert,
+    for test in (test_answers, test_checks, test_marked, test_authbind, test_carry, test_salvage, test_tidy, test_explain, test_requests, test_reading, test_pack, test_unpack, test_tables, test_fleet, test_convert,
                  test_upgrade, test_faults, test_full_disk):
         with tempfile.TemporaryDirectory(dir=SCRATCH) as folder:
             test(folder)
-    for test in (test_generated_checks, test_generated_answers):
+    for test in (test_generated_checks, test_generated_answers, test_generated_tidying):
         with tempfile.TemporaryDirectory(dir=SCRATCH) as folder:
             test(folder, rng)
 

@@ -613,6 +613,88 @@ def name_matters(allow, deny, r, five=None):
     return "name matters" if len(places) > 1 else places.pop()
 
 
+# Dropping rules that never fire (document 02, request 6)
+
+EVERYONE = ((b"all",), (b"all",))
+
+
+@again
+def rules_in(text):
+    """the rules of a file without a fault: each line, and the elements and EXCEPTs of both lists, in order and in lower case"""
+    found = []
+    for line in lines(text):
+        if not line.text.startswith(b"#") and line.text.strip(BLANKS):
+            daemons, clients, _ = rule(line)
+            found.append((line, (tuple(map(lower, daemons)), tuple(map(lower, clients)))))
+    return found
+
+
+@again
+def file_fault(section, text, five):
+    """the file's own checks, with those of the tables; a section that is neither is 13 at once"""
+    if section not in (1, 2):
+        return (13, 0, 0)
+    files = (text, b"") if section == 1 else (b"", text)
+    return over(section, text) or frame_five(five) or hosts_fault(section, text) or naming_fault(*files, five)
+
+
+def accepted(text, named):
+    """each named line is a rule, and an earlier kept rule has the same lists or is ALL: ALL"""
+    kept, left = set(), set(named)
+    for line, lists in rules_in(text):
+        if line.number not in left:
+            kept.add(lists)
+        elif lists not in kept and EVERYONE not in kept:
+            return False
+        left.discard(line.number)
+    return not left
+
+
+def needless(text):
+    """as many lines as can be accepted: whatever is kept can only help those behind it, so each is dropped that can be"""
+    kept, found = set(), []
+    for line, lists in rules_in(text):
+        if lists in kept or EVERYONE in kept:
+            found.append(line.number)
+        else:
+            kept.add(lists)
+    return found
+
+
+def without_lines(text, named):
+    """the file with only those lines gone, their dropped pairs and their ending newlines with them"""
+    return b"".join(line.raw + b"\n" * line.ended for line in lines(text) if line.number not in named)
+
+
+def removed_above(text, named, number):
+    """how many physical lines go with the named ones above a line"""
+    return sum(1 + line.raw.count(b"\n") for line in lines(text) if line.number in named and line.number < number)
+
+
+def numbers_of(proposal):
+    """of four bytes each, most significant first; None where it can't be parted so"""
+    if len(proposal) % 4:
+        return None
+    return [int.from_bytes(proposal[at:at + 4], "big") for at in range(0, len(proposal), 4)]
+
+
+def proposal_of(numbers):
+    return b"".join(n.to_bytes(4, "big") for n in numbers)
+
+
+def propose(section, text, five, room):
+    """a refusal, or the proposal's bytes"""
+    return file_fault(section, text, five) or within(room, proposal_of(needless(text)))
+
+
+def drop(section, text, five, proposal, room):
+    """a refusal, or the bytes of the new file"""
+    fault, named = file_fault(section, text, five), numbers_of(proposal)
+    if not fault and (named is None or not accepted(text, named)):
+        fault = (20, 0, 0)
+    return fault or within(room, without_lines(text, set(named)))
+
+
 # Ports
 
 def net(text, kind, read, width):

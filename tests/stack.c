@@ -19,7 +19,7 @@ enum { PAGE = 4096, PAINT = 0xa5, BEYOND = 3 };
 /* In the order of `exports`; NOTHING is no call at all, and its bytes are not counted. */
 enum export { VERDICT, TABLES_VERDICT, SHEET_VERDICT, NAME_MATTERS, TABLES_NAME_MATTERS, SHEET_NAME_MATTERS, COMMAND, SHEET_COMMAND, BYUID,
               SHEET_BYUID, PORTACL, SHEET_PORTACL, CHECK, UNPACK, PACK, UPGRADE, CONVERT, EXPAND, READ_ADDRESS, WRITE_ADDRESS, AUTHBIND, CARRY,
-              SALVAGE, NOTHING };
+              SALVAGE, PROPOSE, DROP, NOTHING };
 
 /* For tables over all limits too. */
 enum { TABLES_ROOM = 1 << 20 };
@@ -140,6 +140,17 @@ static uint32_t salvage(void) {
     static uint8_t list[GATE_CHANGES_ROOM];
     return gate_salvage(out, GATE_SHEET_LIMIT, list, sizeof list, sheet, sheet_len).number;
 }
+/* What is proposed is what is dropped next. */
+static uint8_t proposal[GATE_TIDY_ROOM];
+static size_t proposal_len;
+static uint32_t propose(void) {
+    struct gate_written written = gate_propose(proposal, sizeof proposal, deny.bytes, deny.len, tables.bytes, tables.len, GATE_DENY);
+    proposal_len = (size_t)written.count;
+    return written.number;
+}
+static uint32_t drop(void) {
+    return gate_drop(out, sizeof out, deny.bytes, deny.len, tables.bytes, tables.len, GATE_DENY, proposal, proposal_len).number;
+}
 static uint32_t nothing(void) { return 0; }
 
 static const struct {
@@ -150,7 +161,8 @@ static const struct {
                {"gate_command", with_command}, {"gate_sheet_command", sheet_command},
                {"gate_byuid", by_uid}, {"gate_sheet_byuid", sheet_byuid}, {"gate_portacl", port_acl}, {"gate_sheet_portacl", sheet_portacl},
                {"gate_check", check}, {"gate_unpack", unpack}, {"gate_pack", pack}, {"gate_upgrade", upgrade}, {"gate_convert", convert}, {"gate_expand", expand}, {"gate_read_address", read_address},
-               {"gate_write_address", write_address}, {"gate_authbind", authbind}, {"gate_carry", carry}, {"gate_salvage", salvage}, {"nothing", nothing}};
+               {"gate_write_address", write_address}, {"gate_authbind", authbind}, {"gate_carry", carry}, {"gate_salvage", salvage},
+               {"gate_propose", propose}, {"gate_drop", drop}, {"nothing", nothing}};
 
 /* In the thread. */
 
@@ -262,8 +274,23 @@ static void hosts_files(const char *what, const char *s, uint32_t number) {
     ask(what, number);
 }
 
+/* No two of them have the same lists. */
+static void differing_rules(void) {
+    static const char letters[] = "abcdefghijklmnopqrstuvwxyz";
+    char rule[8];
+    deny.len = 0;
+    for (size_t i = 0; i < GATE_DENY_LIMIT / 5; i++) {
+        sprintf(rule, "%c%c:%c\n", letters[i / 676], letters[i / 26 % 26], letters[i % 26]);
+        add(&deny, rule);
+    }
+    allow = deny;
+    ask("files of rules that all differ", 0);
+}
+
 static void files(void) {
     hosts_files("files of short rules", "b:b\n", 0);
+    hosts_files("files of repeats over two lines", "b:\\\nB\n", 0);
+    differing_rules();
     hosts_files("files of empty lines", "\n", 0);
     hosts_files("files of comments", "#\n", 0);
     hosts_files("files of dropped pairs", "\\\n", GATE_UNENDED);

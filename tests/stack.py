@@ -29,6 +29,10 @@ DEPTHS = 5
 RECURSIVE = {"lists::walk::clients_included": LEVELS, "lists::walk::daemons_included": LEVELS, "views::level::raised": DEPTHS, "views::deep_notes": DEPTHS}
 
 
+# a frame of many pages is taken page by page, in a loop: it is read as taken at once
+PAGES = re.compile(r"\tmov +%rsp,%r11\n.*\tsub +\$(0x[0-9a-f]+),%r11\n.*\tsub +\$0x1000,%rsp\n.*\tmovq +\$0x0,\(%rsp\)\n.*\tcmp +%r11,%rsp\n.*\tjne .*\n")
+
+
 def fail(what):
     print("stack: " + what)
     sys.exit(1)
@@ -47,7 +51,7 @@ def functions(archive):
     if "elf64-x86-64" not in listing:
         fail("the archive is not for x86-64")
     found, now = {}, None
-    for line in listing.split("\n"):
+    for line in PAGES.sub(r"\tsub    $\1,%rsp\n", listing).split("\n"):
         if begin := re.match(r"[0-9a-f]+ <(.+)>:$", line):
             now = found.setdefault(begin.group(1), [8, set()])
         elif take := re.search(r"\t(sub|add) +\$(0x[0-9a-f]+),%rsp", line):

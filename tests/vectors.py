@@ -172,6 +172,14 @@ def salvage(room, other, sheet, new, changes):
     return refusal(answer) if ref.refused(answer) else packed(answer[0], new) + b"\n" + packed(answer[1], changes)
 
 
+def propose(room, section, text, tables, proposal):
+    return packed(ref.propose(section, text, tables, min(room, BLOCK)), proposal)
+
+
+def drop(room, section, text, tables, proposal, new):
+    return packed(ref.drop(section, text, tables, proposal, min(room, BLOCK)), new)
+
+
 # Each call with the kinds of its fields: t a text, n a number, N any number of numbers.
 CALLS = {
     b"verdict": ("tttttttt", lambda *f: ruling(ref.verdict(*f[6:], request(*f[:6])))),
@@ -193,6 +201,8 @@ CALLS = {
     b"authbind": ("nntnt", authbind),
     b"carry": ("nnnttt", carry),
     b"salvage": ("nnttt", salvage),
+    b"propose": ("nnttt", propose),
+    b"drop": ("nntttt", drop),
     b"read_address": ("t", read_address),
     b"write_address": ("nt", lambda room, text: shown(ref.write_address(address(text), min(room, BLOCK)))),
 }

@@ -37,6 +37,7 @@ use Rattle.codes.specs.Answers.{refusalAnswer, wordAnswer, answerNumbers, accep
 use Rattle.codes.specs.Answers.{Command, together, commandAnswer, nextAnswer, writtenTwoAnswer}
 use Rattle.carry.specs.Carry.{carry}
 use Rattle.salvage.specs.Salvage.{salvage}
+use Rattle.tidy.specs.Tidy.{propose, dropRules}
 use Rattle.gate.specs.Calls.{wrote}
 use Rattle.claims.specs.Claims.{Accepted, front, Decision, by-word, by-refusal, EveryDecision, EveryNumber, RefusalWritesNothing}
 
@@ -60,6 +61,7 @@ fault-nonzero F.TooDeep e = omega arith
 fault-nonzero F.BadTable e = omega arith
 fault-nonzero F.DottedAddress e = omega arith
 fault-nonzero F.LateAnswer e = omega arith
+fault-nonzero F.BadProposal e = omega arith
 fault-nonzero F.RetiredForm e = omega arith
 
 pub check-answered : (o : Outcome Parts) → checkAnswer o ≡ accepted → (p : Parts) × (o ≡ answered p)
@@ -105,6 +107,7 @@ fault-range F.TooDeep = (omega arith, omega arith)
 fault-range F.BadTable = (omega arith, omega arith)
 fault-range F.DottedAddress = (omega arith, omega arith)
 fault-range F.LateAnswer = (omega arith, omega arith)
+fault-range F.BadProposal = (omega arith, omega arith)
 fault-range F.RetiredForm = (omega arith, omega arith)
 
 refusal-decision : (r : Refusal) → Decision (refusalAnswer r)
@@ -204,6 +207,8 @@ every-number = record {
   authbind-number = λ port kind high low uid answers out. next-most (nextStep (authbindAsked port kind high low uid answers) (length out));
   carry-number = λ list uid plain marked. two-most (carry list uid (length plain) (length marked));
   salvage-number = λ sheet out list. two-most (salvage sheet (length out) (length list));
+  propose-number = λ text tables section out. written-most (propose section text tables (length out));
+  drop-number = λ text tables section proposal out. written-most (dropRules section text tables proposal (length out));
 }
 
 -- ## A refusal writes nothing
@@ -243,4 +248,6 @@ refusal-writes-nothing = record {
   naming = λ port kind high low uid answers out. name-kept out (nextStep (authbindAsked port kind high low uid answers) (length out));
   carrying = λ list uid plain marked. two-kept plain marked (carry list uid (length plain) (length marked));
   salvaging = λ sheet out list. two-kept out list (salvage sheet (length out) (length list));
+  proposing = λ text tables section out. kept out (propose section text tables (length out));
+  dropping = λ text tables section proposal out. kept out (dropRules section text tables proposal (length out));
 }

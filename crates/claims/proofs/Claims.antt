@@ -14,6 +14,7 @@ use Rattle.claims.proofs.OrderClaims.{absent-goes-on, answer-settles, n
 use Rattle.claims.proofs.LimitClaims.{old-boxes}
 use Rattle.claims.proofs.RetiredClaims.{retired-refused, converted, refusal-numbers}
 use Rattle.claims.proofs.CarryClaims.{carried-over}
+use Rattle.claims.proofs.TidiedClaims.{tidy-proposals, tidied-files, tidied-verdicts}
 use Rattle.claims.proofs.SalvageClaims.{salvaged-sheets}
 use Rattle.claims.proofs.MattersClaims.{name-matters}
 
@@ -55,6 +56,9 @@ claims = record {
   converted = converted;
   refusal-numbers = refusal-numbers;
   carried-over = carried-over;
+  tidy-proposals = tidy-proposals;
+  tidied-files = tidied-files;
+  tidied-verdicts = tidied-verdicts;
   salvaged-sheets = salvaged-sheets;
   name-matters = name-matters;
   matters-examples = matters-examples;

@@ -12,5 +12,6 @@ pub mod LimitClaims
 pub mod RetiredClaims
 pub mod CarryClaims
 pub mod SalvageClaims
+pub mod TidiedClaims
 pub mod MattersClaims
 pub mod Claims

@@ -144,7 +144,7 @@ converted = record {
 
 -- ## Numbers
 
-fault-number : (f : Fault) → (inRange 1 19 (faultNumber f) || eqb (faultNumber f) 22) ≡ true
+fault-number : (f : Fault) → (inRange 1 20 (faultNumber f) || eqb (faultNumber f) 22) ≡ true
 fault-number F.CutShort = refl
 fault-number F.OverLimit = refl
 fault-number F.TrailingBytes = refl
@@ -164,6 +164,7 @@ fault-number F.TooDeep = refl
 fault-number F.BadTable = refl
 fault-number F.DottedAddress = refl
 fault-number F.LateAnswer = refl
+fault-number F.BadProposal = refl
 fault-number F.RetiredForm = refl
 
 pub refusal-numbers : RefusalNumbers

@@ -98,7 +98,7 @@ upgraded sheet out e =
 -- ## By a sheet as by its texts
 
 -- texts without a fault are decided over their tables
-sound-texts : (ts : Texts) (o : Option Request) → textsFault ts ≡ none
+pub sound-texts : (ts : Texts) (o : Option Request) → textsFault ts ≡ none
     → decideTables (ts .allow) (ts .deny) (ts .tables) o ≡ decideOver (tablesOf (ts .tables)) (ts .allow) (ts .deny) o
 unfolding textsFault decideTables
 sound-texts ts o e = by (overLimit S.allow (ts .allow)) (overLimit S.deny (ts .deny)) (overLimit S.byuid (ts .byuid)) (overLimit S.portacl (ts .portacl))

@@ -36,7 +36,7 @@ use Rattle.codes.specs.Answers.{refusalAnswer, refusedCheck, accepted, refusedP
 use Rattle.gate.specs.Calls.{gateVerdict, gateTablesVerdict, gateSheetVerdict, gateByuid, gateSheetByuid, gatePortacl, gateSheetPortacl}
 use Rattle.gate.specs.Calls.{gateCheck, gateUnpack, gateReadAddress, Wrote, gatePack, gateUpgrade, gateExpand, gateWriteAddress}
 use Rattle.gate.specs.Calls.{WroteCommand, gateCommand, gateSheetCommand, gateAuthbind, gateCarry, gateSalvage}
-use Rattle.gate.specs.Calls.{gateNameMatters, gateTablesNameMatters, gateSheetNameMatters}
+use Rattle.gate.specs.Calls.{gateNameMatters, gateTablesNameMatters, gateSheetNameMatters, gatePropose, gateDrop}
 use Rattle.claims.specs.Examples.{Examples}
 use Rattle.claims.specs.MaskExamples.{MaskExamples}
 use Rattle.claims.specs.MappedExamples.{MappedExamples}
@@ -46,6 +46,7 @@ use Rattle.claims.specs.Retired.{RetiredRefused, Converted, RefusalNumbe
 use Rattle.claims.specs.LookedExamples.{LookedExamples}
 use Rattle.claims.specs.CarriedOver.{CarriedOver}
 use Rattle.claims.specs.Salvaged.{SalvagedSheets}
+use Rattle.claims.specs.Tidied.{TidyProposals, TidiedFiles, TidiedVerdicts}
 use Rattle.claims.specs.MattersExamples.{MattersExamples}
 use Rattle.claims.specs.AuthbindOrder.{AbsentGoesOn, AnswerSettles, NamesDiffer, ReadsItsFile, ManualExample}
 
@@ -108,6 +109,10 @@ pub record RefusalWritesNothing : Type 0 where
       → (gateCarry list uid plain marked .out ≡ plain) × (gateCarry list uid plain marked .other ≡ marked)
   pub salvaging : (sheet out list : List ℕ) → (gateSalvage sheet out list .answer .number ≡ 0 → ⊥)
       → (gateSalvage sheet out list .out ≡ out) × (gateSalvage sheet out list .other ≡ list)
+  pub proposing : (text tables : List ℕ) (section : ℕ) (out : List ℕ) → (gatePropose text tables section out .answer .number ≡ 0 → ⊥)
+      → gatePropose text tables section out .out ≡ out
+  pub dropping : (text tables : List ℕ) (section : ℕ) (proposal out : List ℕ) → (gateDrop text tables section proposal out .answer .number ≡ 0 → ⊥)
+      → gateDrop text tables section proposal out .out ≡ out
 
 -- a decision is a word, or a refusal by one of the papers' numbers "and gives no verdict"
 pub data Decision : GateAnswer → Type 0 where
@@ -136,6 +141,8 @@ pub record EveryNumber : Type 0 where
   pub authbind-number : (port kind high low uid : ℕ) (answers out : List ℕ) → gateAuthbind port kind high low uid answers out .answer .number ≤ 22
   pub carry-number : (list : List ℕ) (uid : ℕ) (plain marked : List ℕ) → gateCarry list uid plain marked .answer .number ≤ 22
   pub salvage-number : (sheet out list : List ℕ) → gateSalvage sheet out list .answer .number ≤ 22
+  pub propose-number : (text tables : List ℕ) (section : ℕ) (out : List ℕ) → gatePropose text tables section out .answer .number ≤ 22
+  pub drop-number : (text tables : List ℕ) (section : ℕ) (proposal out : List ℕ) → gateDrop text tables section proposal out .answer .number ≤ 22
 
 -- ## Demand 2
 
@@ -426,6 +433,10 @@ pub record Claims : Type 0 where
   pub refusal-numbers : RefusalNumbers
   -- document 02, request 13
   pub carried-over : CarriedOver
+  -- document 02, request 6
+  pub tidy-proposals : TidyProposals
+  pub tidied-files : TidiedFiles
+  pub tidied-verdicts : TidiedVerdicts
   -- document 02, request 9
   pub salvaged-sheets : SalvagedSheets
   -- document 02, request 14

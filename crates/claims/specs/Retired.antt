@@ -62,6 +62,6 @@ pub record Converted : Type 0 where
   -- "A refusal .. writes nothing"
   pub refused-writes-nothing : (text out : List ℕ) → (gateConvert text out .answer .number ≡ 0 → ⊥) → gateConvert text out .out ≡ out
 
--- the papers' numbers: 20 and 21 stand for nothing
+-- the papers' numbers: 21 stands for nothing
 abbrev pub RefusalNumbers : Type 0
-RefusalNumbers = (r : Refusal) → (inRange 1 19 (refusalAnswer r .number) || eqb (refusalAnswer r .number) 22) ≡ true
+RefusalNumbers = (r : Refusal) → (inRange 1 20 (refusalAnswer r .number) || eqb (refusalAnswer r .number) 22) ≡ true

@@ -3,3 +3,4 @@ pub mod ElementLaws
 pub mod SeenLaws
 pub mod HeldLaws
 pub mod Examples
+pub mod CaseLaws

@@ -15,6 +15,7 @@ use Rattle.expansion.specs.Expand.{expand}
 use Rattle.byuid.specs.Byuid.{decideByuid}
 use Rattle.byuid.specs.Convert.{convert}
 use Rattle.authbind.specs.Authbind.{Step, nextStep, nameWritten}
+use Rattle.tidy.specs.Tidy.{propose, dropRules}
 use Rattle.carry.specs.Carry.{carry}
 use Rattle.salvage.specs.Salvage.{salvage}
 use Rattle.portacl.specs.declared.Settings.{Settings}
@@ -96,6 +97,13 @@ gatePack ts out = wrote out (Sheet.pack ts (length out))
 -- document 02, request 1: "a small program appends the two zero bytes of an empty count"
 abbrev pub gateUpgrade : List ℕ → List ℕ → Wrote
 gateUpgrade sheet out = wrote out (Sheet.upgrade sheet (length out))
+
+-- document 02, request 6: the lines to drop, of a file and its tables, and the file without those of an accepted proposal
+abbrev pub gatePropose : List ℕ → List ℕ → ℕ → List ℕ → Wrote
+gatePropose text tables section out = wrote out (propose section text tables (length out))
+
+abbrev pub gateDrop : List ℕ → List ℕ → ℕ → List ℕ → List ℕ → Wrote
+gateDrop text tables section proposal out = wrote out (dropRules section text tables proposal (length out))
 
 -- document 02, request 11: "a converter for byuid texts"
 abbrev pub gateConvert : List ℕ → List ℕ → Wrote

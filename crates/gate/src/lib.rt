@@ -5,6 +5,7 @@
 //   gate_check, gate_unpack, gate_pack     == sheets checked, unpacked and packed
 //   gate_upgrade                           == a sheet of four sections with an empty count of tables
 //   gate_salvage                           == a damaged sheet made into an accepted one, and the list of what was changed
+//   gate_propose, gate_drop                == which rules of a file never fire, and the file without them
 //   gate_convert                           == a byuid text with its lines of the retired form in their new one
 //   gate_expand                            == a command expanded
 //   gate_command, gate_sheet_command       == a verdict, and its command expanded
@@ -29,6 +30,7 @@ ghost use Rattle.sheet.specs.Sheet.{texts};
 ghost use Rattle.codes.specs.Requests.{hostNumbers, requestNumbers, settingsOf};
 ghost use Rattle.gate.specs.Calls.{gateVerdict, gateTablesVerdict, gateSheetVerdict, gateByuid, gateSheetByuid, gatePortacl, gateSheetPortacl};
 ghost use Rattle.gate.specs.Calls.{gateCheck, gateUnpack, gateReadAddress, gatePack, gateUpgrade, gateExpand, gateCommand, gateSheetCommand, gateWriteAddress};
+ghost use Rattle.gate.specs.Calls.{gatePropose, gateDrop};
 ghost use Rattle.gate.specs.Calls.{gateAuthbind, gateConvert, gateCarry, gateSalvage, gateNameMatters, gateTablesNameMatters, gateSheetNameMatters};
 
 // The verdict by two texts.
@@ -725,4 +727,35 @@ pub extern "C" fn gate_sheet_name_matters(
         user_name,
     );
     codes::answer::matter_numbers(matters::name_matters_sheet(sheet, &names, request))
+}
+
+// The lines of a file that can be dropped, as numbers of four bytes at the front of out.
+#[no_mangle]
+pub extern "C" fn gate_propose(
+    out: &mut [u8],
+    text: &[u8],
+    tables: &[u8],
+    section: u32,
+) -> GateWritten
+    ensures answer { λ r. ⌜ r ≡ gatePropose (now (text .entry)) (now (tables .entry)) section (now (out .entry)) .answer ⌝ }
+    ensures holds { λ _. ⌜ now (out .exit) ≡ gatePropose (now (text .entry)) (now (tables .entry)) section (now (out .entry)) .out ⌝ }
+{
+    codes::answer::written_numbers(tidy::propose(out, text, tables, section))
+}
+
+// The file without the rules of a proposal that is accepted.
+#[no_mangle]
+pub extern "C" fn gate_drop(
+    out: &mut [u8],
+    text: &[u8],
+    tables: &[u8],
+    section: u32,
+    proposal: &[u8],
+) -> GateWritten
+    ensures answer { λ r.
+        ⌜ r ≡ gateDrop (now (text .entry)) (now (tables .entry)) section (now (proposal .entry)) (now (out .entry)) .answer ⌝ }
+    ensures holds { λ _.
+        ⌜ now (out .exit) ≡ gateDrop (now (text .entry)) (now (tables .entry)) section (now (proposal .entry)) (now (out .entry)) .out ⌝ }
+{
+    codes::answer::written_numbers(tidy::drop_rules(out, text, tables, section, proposal))
 }

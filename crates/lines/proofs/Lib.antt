@@ -3,3 +3,4 @@ pub mod LineLaws
 pub mod RuleLaws
 pub mod CommandLaws
 pub mod Examples
+pub mod RewriteLaws

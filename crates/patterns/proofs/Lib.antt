@@ -5,3 +5,4 @@ pub mod DottedLaws
 pub mod CoverLaws
 pub mod SeenLaws
 pub mod Examples
+pub mod CaseLaws

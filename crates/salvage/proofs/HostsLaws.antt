@@ -15,11 +15,12 @@ use lib.ListN.{length, take, drop}
 use Rattle.text.specs.Basics.{if_then_else_, _orElse_, isSome, first}
 use Rattle.text.specs.Text.{bytes, split}
 use Rattle.lines.specs.Line.{Line, line, logicalLines, lines}
+use Rattle.lines.specs.Rewrite.{lineBytes}
 use Rattle.lines.specs.Scan.{scanLine}
 use Rattle.lines.proofs.LineLaws.{logicalLines-cons, logicalLines-nil}
+use Rattle.lines.proofs.RewriteLaws.{Whole, whole-cons, scan-whole, scan-text, scan-length, line-ind}
 use Rattle.rules.proofs.NamingLaws.{orElse-nones}
-use Rattle.salvage.specs.Salvage.{keep, lineBytes, salvageLine, salvageHosts, badLines}
-use Rattle.salvage.proofs.WholeLaws.{Whole, whole-cons, scan-whole, scan-text, scan-length, line-ind}
+use Rattle.salvage.specs.Salvage.{keep, salvageLine, salvageHosts, badLines}
 
 cons-empty : {A : Type 0} {x : A} {xs : List A} {B : Type 1} → x ∷ xs ≡ [] → B
 cons-empty e = let z : _≡_ {A = ℕ} 0 1 = cc in absurd (omega arith)

@@ -1,4 +1,3 @@
-pub mod WholeLaws
 pub mod HostsLaws
 pub mod PortaclLaws
 pub mod PieceLaws

@@ -31,6 +31,7 @@ use Rattle.lines.specs.Line.{line, lines}
 use Rattle.lines.specs.Rule as Rule
 use Rattle.lines.specs.Command as Command
 use Rattle.lines.specs.Scan.{scan, scanLine}
+use Rattle.lines.proofs.RewriteLaws.{Whole, whole-nil}
 use Rattle.patterns.specs.Pattern as Pattern
 use Rattle.tables.specs.Table as Table
 use Rattle.tables.specs.Table.{tablesOf, isMissing, leadsPast, depth, tablesFrame, tableNameFault, badTableFault}
@@ -49,7 +50,6 @@ use Rattle.sheet.proofs.FrameLaws.{Framed, bind-answered, refusing-answered, gi
 use Rattle.sheet.proofs.FrameLaws.{textsAt-partsOf, answered-frame, frame-answered, answered-unpack, unpack-answered, sheetOf-textsAt}
 use Rattle.salvage.specs.Salvage.{keep, places, badLine, salvageHosts, salvagePortacl, salvagedBy, salvaged, badLines, badEntries, changesBy}
 use Rattle.salvage.specs.Salvage.{changes, listBytes, fiveFault, grown, handedOut, salvageTexts, salvage}
-use Rattle.salvage.proofs.WholeLaws.{Whole, whole-nil}
 use Rattle.salvage.proofs.HostsLaws.{Stands, none-first, first-none, salvageHosts-good, salvageHosts-same, salvageHosts-lines}
 use Rattle.salvage.proofs.PortaclLaws.{salvagePortacl-sound, salvagePortacl-same}
 use Rattle.salvage.proofs.BridgeLaws.{judge-tables}

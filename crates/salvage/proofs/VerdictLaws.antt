@@ -23,6 +23,7 @@ use Rattle.section.specs.Section as S
 use Rattle.section.specs.Section.{part, overLimit}
 use Rattle.lines.specs.Line as Line
 use Rattle.lines.specs.Line.{line, lines, isComment, isBlank}
+use Rattle.lines.specs.Rewrite.{lineBytes}
 use Rattle.lines.specs.Rule as Rule
 use Rattle.lines.specs.Rule.{parseRule}
 use Rattle.patterns.specs.Pattern as Pattern
@@ -43,7 +44,7 @@ use Rattle.rules.specs.Search.{answer, ruleAnswer, lineAnswer, search, decideOv
 use Rattle.rules.proofs.NamingLaws.{orElse-nones}
 use Rattle.sheet.specs.Sheet.{Texts, textsFault}
 use Rattle.sheet.proofs.FrameLaws.{given-none}
-use Rattle.salvage.specs.Salvage.{badLine, lineBytes, salvageLine, salvageHosts, salvagedBy, salvaged, grown}
+use Rattle.salvage.specs.Salvage.{badLine, salvageLine, salvageHosts, salvagedBy, salvaged, grown}
 use Rattle.salvage.proofs.HostsLaws.{salvageHosts-good, salvageHosts-lines}
 use Rattle.salvage.proofs.BridgeLaws.{judge-tables}
 use Rattle.salvage.proofs.CallLaws.{Sound, five-sound}

@@ -17,6 +17,7 @@ use Rattle.section.specs.Refusal.{Outcome, refused, answered, _>>=_, refusing, 
 use Rattle.section.specs.Section as S
 use Rattle.section.specs.Section.{Section, overLimit}
 use Rattle.lines.specs.Line.{Line, lines}
+use Rattle.lines.specs.Rewrite.{lineBytes}
 use Rattle.tables.specs.Table.{Table, tablesOf, isMissing, leadsPast, depth, tablesFrame, tableNameFault, badTableFault}
 use Rattle.rules.specs.Check.{lineFault, lineNames}
 use Rattle.byuid.specs.Byuid.{isRetired}
@@ -40,10 +41,6 @@ module _ {A : Type 0} where
 -- a "bad logical line" is one that is refused; "a rule refused by 15 or 16 is a bad line"
 unfoldable pub badLine : List Table → Line → Bool
 badLine ts l = isSome (lineFault l) || lineNames (isMissing ts) l || lineNames (leadsPast ts depth) l
-
--- all bytes of a line, its ending newline too
-abbrev pub lineBytes : Line → List ℕ
-lineBytes l = l .raw ++ (if l .ended then bytes "\n" else [])
 
 -- "into nothing", or into a rule, "both ended by a newline where the bad one had none, and leaves every other byte"
 abbrev pub salvageLine : (Line → Bool) → List ℕ → Line → List ℕ

@@ -33,6 +33,7 @@ pub enum Fault {
     BadTable,
     DottedAddress,
     LateAnswer,
+    BadProposal,
     RetiredForm,
 }
 
@@ -107,6 +108,7 @@ pub fn fault_number(f: Fault) -> u8
         Fault::BadTable => 17,
         Fault::DottedAddress => 18,
         Fault::LateAnswer => 19,
+        Fault::BadProposal => 20,
         Fault::RetiredForm => 22,
     }
 }

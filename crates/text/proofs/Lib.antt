@@ -7,3 +7,4 @@ pub mod Numeral
 pub mod Intercalate
 pub mod PasteLaws
 pub mod Writing
+pub mod CaseLaws

@@ -564,6 +564,43 @@ fn salvage(case: &[u8], out: &mut [u8]) {
     salvage_into(case, out, &mut list);
 }
 
+fn propose(case: &[u8], out: &mut [u8]) {
+    let section = cases::number(case, 2);
+    let w = gate::gate_propose(
+        cases::room(out, cases::number(case, 1)),
+        cases::field(case, 3),
+        cases::field(case, 4),
+        section,
+    );
+    untouched(out, w.count);
+    packed(
+        w.number,
+        w.section,
+        w.line,
+        part(out, 0, w.count),
+        cases::field(case, 5),
+    );
+}
+
+fn drop(case: &[u8], out: &mut [u8]) {
+    let section = cases::number(case, 2);
+    let w = gate::gate_drop(
+        cases::room(out, cases::number(case, 1)),
+        cases::field(case, 3),
+        cases::field(case, 4),
+        section,
+        cases::field(case, 5),
+    );
+    untouched(out, w.count);
+    packed(
+        w.number,
+        w.section,
+        w.line,
+        part(out, 0, w.count),
+        cases::field(case, 6),
+    );
+}
+
 fn write(call: usize, case: &[u8], out: &mut [u8]) {
     match call {
         12 => pack(case, out),
@@ -574,7 +611,9 @@ fn write(call: usize, case: &[u8], out: &mut [u8]) {
         17 => convert(case, out),
         18 => authbind(case, out),
         19 => carry(case, out),
-        _ => salvage(case, out),
+        20 => salvage(case, out),
+        21 => propose(case, out),
+        _ => drop(case, out),
     }
 }
 
@@ -616,14 +655,15 @@ fn call(case: &[u8]) -> usize {
         b"verdict:tttttttt. tables_verdict:ttttttttt. sheet_verdict:ttttttt. name_matters:tttttttt. tables_name_matters:ttttttttt. \
           sheet_name_matters:ttttttt. byuid:ntnnt. sheet_byuid:ntnt. portacl:nnnnnnntn sheet_portacl:nnnnnnntn check:t. unpack:t. \
           pack:ntttttt. upgrade:ntt. expand:ttttttnnt. read_address:t. write_address:nt. convert:nt. authbind:nntnt. carry:nnnttt. \
-          salvage:nnttt.",
+          salvage:nnttt. \
+          propose:nnttt. drop:nntttt.",
         case,
     )
 }
 
 fn run_case(line: &[u8], case: &[u8]) {
     let place = call(case);
-    if 20 < place {
+    if 22 < place {
         malformed(line);
         return;
     }

@@ -1,0 +1,14 @@
+pub mod ListLaws
+pub mod RuleLaws
+pub mod WalkLaws
+pub mod SearchLaws
+pub mod ProposalLaws
+pub mod RepeatLaws
+pub mod NumberLaws
+pub mod KeptLaws
+pub mod CheckLaws
+pub mod FileLaws
+pub mod NewFileLaws
+pub mod CommandLaws
+pub mod VerdictLaws
+pub mod CallLaws

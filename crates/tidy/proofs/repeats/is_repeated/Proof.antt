@@ -1,0 +1,29 @@
+-- `tidy::repeats::is_repeated` meets its contract: the invariant is Seeking: the rest of the chain decides. The measure is what may be left of it. Assumes nothing.
+use borrow.Author.Needs.{needs}
+use Rattle.tidy.proofs.RepeatLaws.{Seeking, seeking-start, seeking-ended, seeking-past, seeking-found, seeking-on, seeking-end, place-some, place-within, place-link}
+use Rattle.tidy.proofs.repeats.is_repeated.Statement.{statement}
+use Rattle.tidy.proofs.repeats.is_repeated.Tie as tie
+
+abbrev Inv-loop : tie.InvT-loop
+Inv-loop text links first t at₀ left₀ at left = Seeking text links t first at left
+
+abbrev μ-loop : tie.MeasureT-loop
+μ-loop text links first t at₀ left₀ at left = left
+
+pub is-repeated-spec : {M : Type 1} → statement M
+is-repeated-spec =
+    let facts = tie.spec
+    Inv-loop
+    μ-loop
+    (λ c. search (seeking-start, needs))
+    (λ c. search (seeking-ended, needs))
+    (λ c. search (seeking-past, needs))
+    (λ c. search (place-some, needs))
+    (λ c κs. search (place-within, needs))
+    (λ c. search (seeking-found, needs))
+    (λ c κs. search (place-link, needs))
+    (λ c. search needs)
+    (λ c. search needs)
+    (λ c. search (seeking-on, needs))
+    (λ c. search (seeking-end, needs)) in
+    tie.close facts

@@ -1,0 +1,30 @@
+-- `tidy::same::parting_length` meets its contract: the invariant is `Passed`: the bytes passed part elements. The measure is what is left. Assumes nothing.
+use borrow.Author.Needs.{needs}
+use Prim.Native.Nat.{_-_}
+use lib.ListN.{length}
+use Rattle.text.proofs.ScanLaws.{spanLen-end}
+use Rattle.lines.specs.Parts.{isParting}
+use Rattle.lines.proofs.RuleLaws.{Passed, passed-more, passed-stop}
+use Rattle.tidy.proofs.same.parting_length.Statement.{statement}
+use Rattle.tidy.proofs.same.parting_length.Tie as tie
+
+abbrev Inv-loop : tie.InvT-loop
+Inv-loop s i₀ i = Passed isParting s i
+
+abbrev μ-loop : tie.MeasureT-loop
+μ-loop s i₀ i = length s - i
+
+pub parting-length-spec : {M : Type 1} → statement M
+parting-length-spec =
+    let facts = tie.spec
+    Inv-loop
+    μ-loop
+    (λ c. search needs)
+    (λ c. search needs)
+    (λ c κs. search needs)
+    (λ c. search needs)
+    (λ c. search needs)
+    (λ c. search (passed-more, needs))
+    (λ c. search (passed-stop, needs))
+    (λ c. search (spanLen-end, needs)) in
+    tie.close facts
