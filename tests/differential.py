@@ -1,12 +1,20 @@
 #!/usr/bin/env python3
-"""differential.py LIBRARY CASES [SEED]: every export of the gate beside tests/reference.py, on generated inputs.
+"""differential.py LIBRARY CASES [SEED [NAME..]]: every export of the gate beside tests/reference.py, on generated inputs.
 
 Inputs are rule-shaped, near misses and damaged texts, tables, sheets and commands, and requests with numbers outside their kinds. Each
 answer is compared whole, and every byte of the lent output, with some beyond it. Prints one line, and exits with 1 at the first
-difference, which it shows, or where some kind of answer never came up.
+difference, which it shows, or where some kind of answer never came up. With names, such as tidy_case, only the cases of these functions
+are compared, whatever kinds come up.
+
+There is a process for each processor. What a case is handed follows from the seed, its function's name and its turn alone, so that the cases
+are the same on any machine.
 """
 import collections
+import concurrent.futures
 import ctypes
+import functools
+import multiprocessing
+import os
 import random
 import sys
 
@@ -217,6 +225,13 @@ def read_address(call, text):
 
 # Generated inputs
 
+class Random(random.Random):
+    """with a choice that takes a third of the time"""
+
+    def choice(self, seq):
+        return seq[int(self.random() * len(seq))]
+
+
 NAMES = [b"p.x.example", b"q.x.example", b"x.example", b"host", b"HOST", b"10.0.0.1", b"a.b", b"unknown", b"all", b"a;b"]
 DAEMONS = [b"sshd", b"in.tftpd", b"SSHD", b"all", b"console"]
 USERS = [b"fitter", b"FITTER", b"a;b", b"known", b"x" * 64]
@@ -287,13 +302,25 @@ def joined_line(rng):
     return line
 
 
-def sound_lines(rng, most, known=[]):
-    """out of some thousands that name no table, found once"""
+@functools.cache
+def known_lines():
+    """some thousands without a fault that name no table"""
+    rng, known = Random(1), []
     while len(known) < 5000:
         line = joined_line(rng)
         if ref.verdict(line + b"\n", b"", NOBODY) == (13, 0, 0):
             known.append(line)
-    return [rng.choice(known) for _ in range(most)]
+    return known
+
+
+def sound_lines(rng, most):
+    return [rng.choice(known_lines()) for _ in range(most)]
+
+
+def padding(rng, length):
+    """so many bytes of lines that hold no rule: mostly long comments"""
+    comments = 0 if rng.random() < 0.1 else max(0, length) // 1024
+    return (b"#" * 1023 + b"\n") * comments + b"\n" * (length - 1024 * comments)
 
 
 def damaged_text(rng, text):
@@ -495,7 +522,7 @@ def tidy_text(rng, sound, names):
         if rng.random() < 0.25:
             daemons, clients = rng.choice([(nearly(rng, daemons), clients), (daemons, nearly(rng, clients)), (clients, daemons)])
         line = tidy_line(rng, (daemons, clients)) if rng.random() < 0.85 else rng.choice([b"", b" \t", b"# ALL: ALL", b"#\\\n", b"\\\n"])
-        if not sound or ref.verdict(line + b"\n", b"", NOBODY)[0] in (13, 15):
+        if not sound or not ref.hosts_fault(1, line + b"\n"):
             lines.append(line)
     if not sound:
         lines.insert(rng.randrange(len(lines) + 1), joined_line(rng))
@@ -594,10 +621,13 @@ def near_mapped(rng):
     return "6", front << 32 | rng.choice([rng.choice(SMALL), rng.choice(SMALL), rng.getrandbits(32)])
 
 
+ADDRESSES = [lambda rng: None, lambda rng: ("4", rng.choice(SMALL)), lambda rng: ("4", rng.getrandbits(32)), lambda rng: ("6", rng.choice(WIDE)),
+             lambda rng: ("6", rng.getrandbits(128)), near_mapped, near_mapped]
+
+
 def host(rng):
     name = rng.choice([None, False, rng.choice(NAMES), rng.choice(NAMES), rng.choice(NAMES)])
-    address = rng.choice([None, ("4", rng.choice(SMALL)), ("4", rng.getrandbits(32)), ("6", rng.choice(WIDE)), ("6", rng.getrandbits(128)),
-                          near_mapped(rng), near_mapped(rng)])
+    address = rng.choice(ADDRESSES)(rng)
     if rng.random() < 0.015:
         name = rng.choice([b"", b"n" * 255, b"n" * 256, BAD])
     if rng.random() < 0.005:
@@ -623,8 +653,10 @@ def near_prefix(rng, width):
 def byuid_text(rng, old=0.5):
     """old: how often lines of the retired form are likely"""
     def address():
+        if rng.random() < 0.11:
+            return ref.address_text(rng.choice([("4", rng.getrandbits(32)), ("6", rng.getrandbits(128))]))
         return rng.choice([b"10.0.0.0", b"10.0.0.0", b"10.0.0.1", b"0.0.0.0", b"0.0.0.0", b"::", b"::", b"255.255.255.255", b"::", b"::1", b"3ffe:505:2:1::9", b"3ffe:505:2:1::",
-                           b"010.0.0.1", b"10.0", b"::ffff:10.0.0.1", b"::ffff:0:0", ref.address_text(("4", rng.getrandbits(32))), ref.address_text(("6", rng.getrandbits(128)))])
+                           b"010.0.0.1", b"10.0", b"::ffff:10.0.0.1", b"::ffff:0:0"])
 
     def port():
         return rng.choice([b"80", b"80", b"80", b"0", b"1", b"1023", b"65535", b"65536", b"080", b"", b"511", b"512", b"1023", b"%d" % rng.randrange(1200)])
@@ -753,7 +785,7 @@ def grown(rng, deny, five):
     if ref.frame_five(five):
         return deny
     length = len(ref.salvaged_hosts(deny, b"ALL: ALL", ref.Tables(ref.read_tables(five)[0]))[0])
-    return b"\n" * max(0, ref.LIMITS[2] - length + rng.choice([-1, 0, 0, 1, 2, 8])) + deny
+    return padding(rng, ref.LIMITS[2] - length + rng.choice([-1, 0, 0, 1, 2, 8])) + deny
 
 
 def salvaged_portacl(rng):
@@ -888,19 +920,24 @@ def kind_of(answer):
     return answer if isinstance(answer, str) else str(answer[0]) if isinstance(answer, tuple) else "answered"
 
 
-def main():
-    lib, cases = load(sys.argv[1]), int(sys.argv[2])
-    rng = random.Random(int(sys.argv[3]) if len(sys.argv) > 3 else 1)
+class Difference(Exception):
+    """its text says where"""
+
+
+# How many turns a process takes at a time.
+BLOCK = 100
+
+
+def run_block(library, seed, names, turns):
+    """compares the cases of these turns; answers what each export was seen to answer, and what rules that look at users got"""
+    lib, rng = load(library), Random()
     seen = {name: set() for name in KINDS}
     answers, asks = collections.Counter(), collections.Counter()
 
     def compare(name, got, expected, *inputs):
         seen[name].add(kind_of(expected))
         if got != expected:
-            print(f"{name}: got {got}, expected {expected}")
-            for each in inputs:
-                print("   ", each)
-            sys.exit(1)
+            raise Difference("\n    ".join([f"{name}: got {got}, expected {expected}", *map(str, inputs)]))
 
     def command_case(name, call, texts, whole, answer, r):
         """of an expected verdict: the same call, with the command written"""
@@ -915,7 +952,7 @@ def main():
         if rng.random() < 0.5:
             allow, deny = rng.choice([(allow + command_line(rng), deny), (allow, deny + command_line(rng))])
         if rng.random() < 0.003:
-            allow = (allow + b"\n" * 16385)[:rng.choice([16384, 16385])]
+            allow += padding(rng, rng.choice([16384, 16385]) - len(allow))
         expected = ref.verdict(allow, deny, r)
         compare("verdict", verdict(rng, lib.gate_verdict, [allow, deny], [b"", allow, deny], r), expected, allow, deny, r)
         compare("name_matters", name_matters(rng, lib.gate_name_matters, [allow, deny], r), ref.name_matters(allow, deny, r), allow, deny, r)
@@ -926,7 +963,7 @@ def main():
         five, names = tables_of(rng)
         allow, deny, r = naming_text(rng, sound, names), naming_text(rng, sound, names), rng.choice([request, expansion_request])(rng)
         if rng.random() < 0.01:
-            allow = (allow + b"\n" * 16385)[:rng.choice([16384, 16385])]
+            allow += padding(rng, rng.choice([16384, 16385]) - len(allow))
         expected = ref.verdict(allow, deny, r, five)
         got = verdict(rng, lib.gate_tables_verdict, [allow, deny, five], [b"", allow, deny], r)
         compare("tables_verdict", got, expected, allow, deny, five, r)
@@ -1108,7 +1145,7 @@ def main():
         five, names = (ref.NO_TABLES, []) if rng.random() < 0.4 else tables_of(rng)
         text, section = tidy_text(rng, rng.random() < 0.85, names), rng.choice([1, 2]) if rng.random() < 0.97 else rng.choice([0, 3, 5, 257, 2 ** 32 - 1])
         if rng.random() < 0.01:
-            text = (text + b"\n" * 16385)[:rng.choice([16384, 16385])]
+            text += padding(rng, rng.choice([16384, 16385]) - len(text))
         room = room_for(rng, ref.propose(section, text, five, 1 << 32))
         got = written(rng, room, lib.gate_propose, *sized(text), *sized(five), section)
         compare("propose", got, ref.propose(section, text, five, room), section, text, five, room)
@@ -1172,7 +1209,7 @@ def main():
         compare("sheet_portacl", portacl(rng, lib.gate_sheet_portacl, sheet, *case), ref.sheet_portacl(sheet, *case), sheet, case)
         if rng.random() < 0.01:
             section = rng.randrange(4)
-            texts[section] = (texts[section] + b"\n" * 16385)[:ref.LIMITS[section + 1] + rng.randrange(2)]
+            texts[section] += padding(rng, ref.LIMITS[section + 1] + rng.randrange(2) - len(texts[section]))
         room = room_for(rng, ref.pack(texts, 1 << 32))
         got = written(rng, room, lib.gate_pack, *(x for text in texts for x in sized(text)))
         compare("pack", got, ref.pack(texts, room), texts, room)
@@ -1190,39 +1227,56 @@ def main():
         room = room_for(rng, ref.write_address(address, 39))
         compare("write_address", written(rng, room, lib.gate_write_address, *address_args(rng, address)), ref.write_address(address, room), address, room)
 
-    vast_cases()
-    vast_tidy_cases()
-    for turn in range(cases):
-        if turn % 1000 == 0:
-            cut_cases()
-            crowd_cases()
-        if turn % 100 == 0:
-            every_proposal_case()
-        hosts_case()
-        tables_case()
-        user_cases()
-        upgrade_case()
-        prefix_cases()
-        mapped_cases()
-        port_cases()
-        convert_case()
-        authbind_case()
-        carry_case()
-        salvage_case()
-        tidy_case()
-        sheet_cases()
-        expand_case()
-        address_cases()
+    every = {1: [hosts_case, tables_case, user_cases, upgrade_case, prefix_cases, mapped_cases, port_cases, convert_case, authbind_case, carry_case, salvage_case,
+                 tidy_case, sheet_cases, expand_case, address_cases],
+             100: [every_proposal_case], 1000: [cut_cases, crowd_cases], 1 << 32: [vast_cases, vast_tidy_cases]}
+    for turn in turns:
+        for case in (case for step in every if turn % step == 0 for case in every[step] if not names or case.__name__ in names):
+            rng.seed(f"{seed} {case.__name__} {turn}")
+            try:
+                case()
+            except Difference as difference:
+                raise Difference(f"{case.__name__} of turn {turn}, seed {seed}: {difference}") from None
+    return seen, answers, asks
+
+
+def run_blocks(library, cases, seed, names):
+    """the same of all turns; the difference that is shown is the first"""
+    seen = {name: set() for name in KINDS}
+    answers, asks = collections.Counter(), collections.Counter()
+    blocks = [range(at, min(at + BLOCK, cases)) for at in range(0, cases, BLOCK)]
+    known_lines()  # before the processes part
+    with concurrent.futures.ProcessPoolExecutor(len(os.sched_getaffinity(0)), multiprocessing.get_context("fork")) as pool:
+        for block in pool.map(functools.partial(run_block, library, seed, names), blocks):
+            for name in KINDS:
+                seen[name] |= block[0][name]
+            answers += block[1]
+            asks += block[2]
+    return seen, answers, asks
+
+
+def missing(cases, seen, answers, asks):
+    """what was never seen of an export, and what came up too rarely"""
     never = [f"{name} {kind}" for name in KINDS for kind in sorted(KINDS[name] - seen[name])]
-    if never:
-        print("differential: never seen:", ", ".join(never))
-        sys.exit(1)
     rare = [kind for kind in ("granted", "denied", "name matters") if answers[kind] < cases // 20]
     rare += ["ask where no name matters"] * (sum(asks["ask", kind] for kind in ("granted", "denied")) < cases // 20)
-    if rare:
-        print("differential: too rarely seen of rules that look at users:", ", ".join(rare))
+    return ["never seen: " + ", ".join(never)] * bool(never) + ["too rarely seen of rules that look at users: " + ", ".join(rare)] * bool(rare)
+
+
+def main():
+    library, cases, seed, names = sys.argv[1], int(sys.argv[2]), (sys.argv[3:4] or ["1"])[0], sys.argv[4:]
+    try:
+        seen, answers, asks = run_blocks(library, cases, seed, names)
+    except Difference as difference:
+        print(difference)
         sys.exit(1)
-    print(f"differential: {cases} cases of each of {len(KINDS)} exports agree; every kind of answer was among them")
+    compared = [name for name in KINDS if seen[name]]
+    faults = missing(cases, seen, answers, asks) if not names else [] if compared else ["no case has such a name"]
+    for fault in faults:
+        print("differential:", fault)
+    if faults:
+        sys.exit(1)
+    print(f"differential: {cases} cases of each of {len(compared)} exports agree" + ("" if names else "; every kind of answer was among them"))
 
 
 if __name__ == "__main__":

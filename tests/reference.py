@@ -69,6 +69,7 @@ def read_address(text):
     return (13, 0, 0)
 
 
+@again
 def address_text(address):
     if address is None:
         return b"unknown"
@@ -109,6 +110,7 @@ class Line:
     def __init__(self, number, place, raw, ended):
         self.number, self.place, self.raw, self.ended = number, place, raw, ended
         self.text = raw.replace(b"\\\n", b"")
+        self.is_rule = not self.text.startswith(b"#") and self.text.strip(BLANKS) != b""  # neither a comment nor blank
 
 
 @again
@@ -137,19 +139,19 @@ def separators(raw):
 
 
 def words(part):
-    return [w for w in re.split(rb"[ \t,]", part.replace(b"\\\n", b"")) if w]
+    return tuple(w for w in re.split(rb"[ \t,]", part.replace(b"\\\n", b"")) if w)
 
 
 @again
-def rule(line):
+def rule(raw):
     """daemons, clients, raw command (None where there is no second separator)"""
-    at = separators(line.raw)
+    at = separators(raw)
     if not at:
         return None
-    daemons = words(line.raw[:at[0]])
+    daemons = words(raw[:at[0]])
     if len(at) == 1:
-        return daemons, words(line.raw[at[0] + 1:]), None
-    return daemons, words(line.raw[at[0] + 1:at[1]]), line.raw[at[1] + 1:]
+        return daemons, words(raw[at[0] + 1:]), None
+    return daemons, words(raw[at[0] + 1:at[1]]), raw[at[1] + 1:]
 
 
 def trimmed(raw):
@@ -304,6 +306,7 @@ def client_element(e):
 
 # Tables (document 02, request 1)
 
+@again
 def read_tables(text):
     """None where section five is cut short; else the tables, and the bytes after the last"""
     if len(text) < 2:
@@ -327,6 +330,7 @@ def section_five(tables):
     return len(tables).to_bytes(2, "big") + b"".join(bytes([len(n)]) + n + len(t).to_bytes(4, "big") + t for n, t in tables)
 
 
+@again
 def table_words(text):
     return [w for w in re.split(rb"[ \t\n]", text) if w]
 
@@ -376,7 +380,6 @@ class Tables:
         match = host_pattern(w)
         return match is not None and match(self, host)
 
-
     def tried(self, name, host, depth=TABLES_DEEP):
         """how many patterns are tried in that table, in order until one matches (document 02, request 12); what is tried in a table that
         one of them names counts besides"""
@@ -391,18 +394,33 @@ class Tables:
         return self.counts[key]
 
 
-def looked_at(tables, e, host):
-    """what an element counts (document 02, request 12): itself, and what is tried in the table that it names, behind an @ or not"""
+@again
+def tables_of(five):
+    """those of a section five that is soundly framed, none where it is None"""
+    return Tables([] if five is None else read_tables(five)[0])
+
+
+@again
+def table_in(e):
+    """the name of a table that an element names, behind an @ or not"""
     first, second = halves(e)
-    name = table_named(first if second is None else second)
+    return table_named(first if second is None else second)
+
+
+def looked_at(tables, e, host):
+    """what an element counts (document 02, request 12): itself, and what is tried in the table that it names"""
+    name = table_in(e)
     return 1 if name is None else 1 + tables.tried(name, host)
 
 
 def named_in_rule(line):
     """the names of tables in the elements of both lists"""
-    if line.text.startswith(b"#") or all(b in BLANKS for b in line.text):
-        return []
-    daemons, clients, _ = rule(line)
+    return named_in(line.raw) if line.is_rule else []
+
+
+@again
+def named_in(raw):
+    daemons, clients, _ = rule(raw)
     found = []
     for ws, in_daemons in ((daemons, True), (clients, False)):
         for w in ws:
@@ -449,10 +467,11 @@ def frame_five(five):
     return (1, TABLES, 0) if read is None else (3, 0, 0) if read[1] else None
 
 
+@again
 def naming_fault(allow, deny, five):
     """15, 16 and 17, in that order; five is None in a call without tables, and else soundly framed"""
     pairs = [] if five is None else read_tables(five)[0]
-    tables, files = Tables(pairs), ((1, allow), (2, deny))
+    tables, files = tables_of(five), ((1, allow), (2, deny))
     return (rule_fault(15, files, lambda name: not tables.has(name)) or misnamed_table(pairs, tables)
             or rule_fault(16, files, tables.leads_past) or (None if five is None else bad_table(five, pairs)))
 
@@ -466,21 +485,20 @@ def misplaced(ws):
 
 def line_faults(line):
     """every number that the line is given"""
-    text = line.text
-    comment = text.startswith(b"#")
-    blank = all(b in BLANKS for b in text)
-    found = set()
-    if not line.ended:
-        found.add(4)
-    if not comment and OUTSIDE.search(text):
+    found = set() if line.ended else {4}
+    if not line.text.startswith(b"#") and OUTSIDE.search(line.text):
         found.add(5)
-    if len(text) > 2047:
+    if len(line.text) > 2047:
         found.add(6)
-    if comment or blank:
-        return found
-    parts = rule(line)
+    return found | rule_faults(line.raw) if line.is_rule else found
+
+
+@again
+def rule_faults(raw):
+    """those of the numbers 7 to 11"""
+    found, parts = set(), rule(raw)
     if parts is None:
-        return found | {7}
+        return {7}
     daemons, clients, command = parts
     for ws, kind, in_daemons in ((daemons, daemon_element, True), (clients, client_element, False)):
         if all(same(w, b"EXCEPT") for w in ws):
@@ -538,10 +556,16 @@ class Asks(Exception):
     pass
 
 
+@again
+def at_except(ws):
+    """a list before its first EXCEPT, and what follows that, None where it has none"""
+    cut = next((i for i, w in enumerate(ws) if same(w, b"EXCEPT")), None)
+    return (ws, None) if cut is None else (ws[:cut], ws[cut + 1:])
+
+
 def list_matches(ws, look):
     """What follows EXCEPT is itself a list."""
-    cut = next((i for i, w in enumerate(ws) if same(w, b"EXCEPT")), None)
-    left, right = (ws, None) if cut is None else (ws[:cut], ws[cut + 1:])
+    left, right = at_except(ws)
     for w in left:
         found = look(w)
         if found == "ask":
@@ -557,7 +581,7 @@ def verdict(allow, deny, r, five=None):
     r = held(r)
     fault = (over(1, allow) or over(2, deny) or (None if five is None else frame_five(five)) or hosts_fault(1, allow)
              or hosts_fault(2, deny) or naming_fault(allow, deny, five) or request_fault(r))
-    return fault or search(allow, deny, r, Tables([] if five is None else read_tables(five)[0]))
+    return fault or search(allow, deny, r, tables_of(five))
 
 
 def search(allow, deny, r, tables):
@@ -574,9 +598,9 @@ def search(allow, deny, r, tables):
 
     for number, text, word in ((1, allow, "granted"), (2, deny, "denied")):
         for line in lines(text):
-            if line.text.startswith(b"#") or all(b in BLANKS for b in line.text):
+            if not line.is_rule:
                 continue
-            daemons, clients, command = rule(line)
+            daemons, clients, command = rule(line.raw)
             try:
                 if not list_matches(daemons, look(daemon_element, "server")):
                     continue
@@ -592,6 +616,7 @@ def search(allow, deny, r, tables):
 
 # Does the name matter? (document 02, request 14)
 
+@again
 def users_named(text):
     """every half before an @ in a file, in whatever place and of whatever bytes, that has the size of a name"""
     return {half for w in re.split(rb"[ \t,:\n]", text.replace(b"\\\n", b"")) for half in halves(w)[:1] if b"@" in w[1:] and 1 <= len(half) <= 64}
@@ -608,7 +633,7 @@ def name_matters(allow, deny, r, five=None):
     own = verdict(allow, deny, r, five)
     if refused(own):
         return own
-    r, tables, named = held(r), Tables([] if five is None else read_tables(five)[0]), users_named(allow) | users_named(deny)
+    r, tables, named = held(r), tables_of(five), users_named(allow) | users_named(deny)
     places = {search(allow, deny, dict(r, user=user), tables)[:3] for user in named | {None, unnamed(named)}}
     return "name matters" if len(places) > 1 else places.pop()
 
@@ -623,8 +648,8 @@ def rules_in(text):
     """the rules of a file without a fault: each line, and the elements and EXCEPTs of both lists, in order and in lower case"""
     found = []
     for line in lines(text):
-        if not line.text.startswith(b"#") and line.text.strip(BLANKS):
-            daemons, clients, _ = rule(line)
+        if line.is_rule:
+            daemons, clients, _ = rule(line.raw)
             found.append((line, (tuple(map(lower, daemons)), tuple(map(lower, clients)))))
     return found
 
@@ -827,6 +852,7 @@ def authbind(port, address, uid, answers, room):
     return (14, 0, 0) if len(name) > room else (word, name)
 
 
+@again
 def entry(text):
     form = re.fullmatch(rb"(uid|gid):(%s):(tcp|udp):(%s)" % (FIELD, FIELD), text)
     if not form or int(form.group(2)) > 2 ** 32 - 1 or int(form.group(4)) > 65535:
@@ -1003,14 +1029,14 @@ def is_bad_line(line, tables):
 
 def salvaged_hosts(text, instead, tables):
     """the new text, and the numbers of the bad lines"""
-    new, bad = b"", []
+    new, bad = [], []
     for line in lines(text):
         if is_bad_line(line, tables):
             bad.append(line.number)
-            new += instead + b"\n"
+            new.append(instead)
         else:
-            new += line.raw + b"\n"
-    return new, bad
+            new.append(line.raw)
+    return b"".join(raw + b"\n" for raw in new), bad
 
 
 @again
@@ -1023,8 +1049,7 @@ def salvaged(sheet):
     five = sheet[framed[1]:]
     if frame_five(five):
         return frame_five(five)
-    pairs = read_tables(five)[0]
-    tables = Tables(pairs)
+    pairs, tables = read_tables(five)[0], tables_of(five)
     if misnamed_table(pairs, tables) or bad_table(five, pairs):
         return misnamed_table(pairs, tables) or bad_table(five, pairs)
     new_allow, in_allow = salvaged_hosts(allow, b"", tables)
