@@ -1,6 +1,6 @@
 /* compare time|count DIR GATE.so [BEFORE.so]: the calls of the gate on each case of the table below, beside
  *   before        the same calls of another build of the gate; one without tables gets sheets of four sections, and no case with tables, and
- *                 one that does not tidy no case of that
+ *                 one that does not tidy or has no index no case of that
  *   tcp_wrappers  the same question put to it; its two files stand in DIR, which should be in memory, and it does not check them
  *   files         opening and reading those two files whole, as the gate's caller does
  *   sum           adding up the bytes that the call is handed, one at a time: the floor of what reads each byte
@@ -29,6 +29,7 @@ struct recipe {
 #define PLAIN "sshd: .depot%u.example, van%u.x.example, 10.%u.%u.\n"
 #define BRACKETED "sshd: [2001:db8:%x::]/48, [2001:db8:1:%x::2], [fe80::%x:0:%x]/64\n"
 #define PREFIXES "sshd: [2001:db8:ffff:%x::]/64, [2001:db8:ffff::%x]/127, [2001:db8:ffff:0:1:%x::]/96\n" /* each differs in its last word */
+#define DAEMONS "d%u: .depot%u.example, van%u.x.example, 10.%u.\n" /* as PLAIN, each for another daemon */
 #define BYUID_FORMS "10.%u.0.0/16,80\n10.1.0.0-10.1.%u.255,1-1023\n10.0.%u.0/24,1-1023\n2001:db8:%x::/48,80\n"
 #define PORTACL_ENTRY "gid:%u:tcp:10001,"
 #define NAMING "sshd: /a, /a, /a, /a, /a, /a, /a, /a, /a, /a, /a, /a, /a, /a, /a, /a, /a, /a, /a, /a\n"
@@ -57,10 +58,14 @@ static const struct recipe expanded = {.first = "/usr/bin/logger -t gate %d %p: 
 static const struct recipe repeats = {.form = "a:b\n", .lines = 4096};
 static const struct recipe differing = {.form = "%x:b\n", .from = 1, .size = GATE_DENY_LIMIT};
 
+/* 299 rules of allow that a burst of requests goes past, to one of deny: every element of each is looked at, or its daemon alone. */
+static const struct recipe passed = {.form = PLAIN, .lines = 299};
+static const struct recipe passed_daemons = {.form = DAEMONS, .lines = 299};
+
 static const struct recipe naming = {.form = NAMING, .size = GATE_ALLOW_LIMIT};
 static const struct recipe naming_once = {.first = "sshd: /a\n"};
 
-enum call { VERDICT, TABLES_VERDICT, SHEET_VERDICT, NAME_MATTERS, BYUID, PORTACL, CHECK, EXPAND, PROPOSE, DROP };
+enum call { VERDICT, TABLES_VERDICT, SHEET_VERDICT, NAME_MATTERS, BYUID, PORTACL, CHECK, EXPAND, PROPOSE, DROP, LONE_CALLS, ONE_CALL };
 
 /* Tables by their kind: none; the four of 12,288 bytes that make most patterns to try; 64 that each name the last; those that are refused
  * only when all are read: a ring of 20,000, and 65,535 that hold nothing. */
@@ -68,7 +73,8 @@ enum tables { NO_TABLES, NEST, STAR, RING, SMALL };
 
 enum client { V4, V6 };
 
-/* Of an answer: its number and word; the line of a rule or of a fault, or how many bytes were written. */
+/* Of an answer: its number and word; the line of a rule or of a fault, or how many bytes were written; of a burst: the lines and the elements
+ * looked at of all its answers together. */
 struct outcome {
     uint32_t number, word;
     uint64_t detail;
@@ -84,6 +90,7 @@ struct test_case {
     bool wrappers; /* tcp_wrappers answers the same question */
     enum tables tables;
     bool slow;     /* timed once, and its instructions not counted */
+    size_t requests; /* of a burst */
 };
 
 #define NONE_MATCHES .expected = {0, GATE_GRANTED, 0}, .wrappers = true
@@ -123,6 +130,14 @@ static const struct test_case cases[] = {
     {"byuid full", BYUID, .byuid = &byuid_lines, .expected = {0, GATE_NO_LINE, 0}},
     {"portacl full", PORTACL, .portacl = &portacl_entries, .expected = {0, GATE_DENIED, 0}},
     {"checking a full sheet", CHECK, .allow = &plain, .deny = &plain, .byuid = &byuid_lines, .portacl = &portacl_entries},
+    {"burst: 32 lone calls", LONE_CALLS, .allow = &passed, .deny = &all, .requests = 32, .expected = {0, GATE_DENIED, 32 * (1 + 299 * 4 + 2)}},
+    {"burst: one call", ONE_CALL, .allow = &passed, .deny = &all, .requests = 32, .expected = {0, GATE_DENIED, 32 * (1 + 299 * 4 + 2)}},
+    {"burst: of none", ONE_CALL, .allow = &passed, .deny = &all},
+    {"burst: the sheet's check", CHECK, .allow = &passed, .deny = &all},
+    {"daemons: 32 lone calls", LONE_CALLS, .allow = &passed_daemons, .deny = &all, .requests = 32, .expected = {0, GATE_DENIED, 32 * (1 + 299 + 2)}},
+    {"daemons: one call", ONE_CALL, .allow = &passed_daemons, .deny = &all, .requests = 32, .expected = {0, GATE_DENIED, 32 * (1 + 299 + 2)}},
+    {"daemons: of none", ONE_CALL, .allow = &passed_daemons, .deny = &all},
+    {"daemons: the sheet's check", CHECK, .allow = &passed_daemons, .deny = &all},
     {"repeats: verdict", VERDICT, .deny = &repeats, NONE_MATCHES},
     {"repeats: propose", PROPOSE, .deny = &repeats, .expected = {0, 0, 4 * 4095}},
     {"repeats: drop", DROP, .deny = &repeats, .expected = {0, 0, 4}},
@@ -137,7 +152,8 @@ struct text {
     size_t len;
 };
 
-static struct text allow, deny, byuid, portacl, command, tables, sheet, proposal, out;
+static struct text allow, deny, byuid, portacl, command, tables, sheet, proposal, index_bytes, requests, out;
+static struct gate_request burst[GATE_REQUESTS];
 static const struct test_case *current;
 static const struct text *handed[3]; /* what the current case's call is handed, in one to three texts */
 static size_t handed_len;
@@ -157,6 +173,8 @@ struct library {
     __typeof__(gate_name_matters) *name_matters;     /* null in one that cannot tell */
     __typeof__(gate_propose) *propose;               /* null in one that does not tidy, and so is the next */
     __typeof__(gate_drop) *drop;
+    __typeof__(gate_index) *index;                   /* null in one that has no index, and so is the next */
+    __typeof__(gate_verdicts) *verdicts;
 };
 
 static struct library libraries[2];
@@ -169,7 +187,7 @@ static void fail(const char *what, const char *why) {
 
 static void load(struct library *build, const char *path) {
     static const char *const names[] = {"gate_verdict", "gate_sheet_verdict", "gate_byuid", "gate_portacl", "gate_check", "gate_expand", "gate_pack",
-                                        "gate_tables_verdict", "gate_name_matters", "gate_propose", "gate_drop"};
+                                        "gate_tables_verdict", "gate_name_matters", "gate_propose", "gate_drop", "gate_index", "gate_verdicts"};
     enum { always = 7 }; /* the others are missing in earlier builds */
     void *symbols[sizeof names / sizeof *names], *handle = dlopen(path, RTLD_NOW | RTLD_LOCAL);
     _Static_assert(sizeof symbols == sizeof *build, "a name for each export");
@@ -193,6 +211,34 @@ static const char *const client_texts[] = {[V4] = "192.0.2.1", [V6] = "2001:db8:
 
 static struct outcome outcome_of(struct gate_answer a) {
     return (struct outcome){a.number, a.word, a.line};
+}
+
+/* One more answer of a burst. */
+static void add_answer(struct outcome *all, const struct gate_answer *a) {
+    all->number |= a->number;
+    all->word |= a->word;
+    all->detail += a->line + a->looked;
+}
+
+/* A burst by lone calls, one after the other. */
+static struct outcome by_lone_calls(const struct library *g) {
+    struct outcome all = {0, 0, 0};
+    for (size_t i = 0; i < current->requests; i++) {
+        struct gate_answer a = g->sheet_verdict(SHEET_FOR(g), GATE_REQUEST_ARGUMENTS(&burst[i]));
+        add_answer(&all, &a);
+    }
+    return all;
+}
+
+/* The same by one call, with its answers read. */
+static struct outcome by_one_call(const struct library *g) {
+    struct gate_written written = g->verdicts(out.bytes, GATE_SHEET_LIMIT, TEXT(sheet), TEXT(index_bytes), TEXT(requests));
+    struct outcome all = {written.number, 0, 0};
+    for (size_t at = 0; at < written.count; at += GATE_ANSWER_BYTES) {
+        struct gate_answer a = gate_answer_read(out.bytes + at);
+        add_answer(&all, &a);
+    }
+    return all;
 }
 
 static struct outcome by_gate(const struct library *g) {
@@ -223,6 +269,10 @@ static struct outcome by_gate(const struct library *g) {
     case DROP:
         written = g->drop(out.bytes, GATE_TIDY_ROOM, TEXT(deny), TEXT(tables), GATE_DENY, TEXT(proposal));
         return (struct outcome){written.number, 0, written.count};
+    case LONE_CALLS:
+        return by_lone_calls(g);
+    case ONE_CALL:
+        return by_one_call(g);
     }
     return (struct outcome){0, 0, 0};
 }
@@ -270,7 +320,8 @@ static bool takes_part(enum who who) {
         return handed_len > 0;
     default:
         return (int)who < builds && (current->tables == NO_TABLES || libraries[who].tables_verdict) &&
-               (current->call != NAME_MATTERS || libraries[who].name_matters) && (current->call < PROPOSE || libraries[who].propose);
+               (current->call != NAME_MATTERS || libraries[who].name_matters) &&
+               ((current->call != PROPOSE && current->call != DROP) || libraries[who].propose) && (current->call != ONE_CALL || libraries[who].verdicts);
     }
 }
 
@@ -404,8 +455,26 @@ static void write_file(const char *path, const struct text *t) {
         fail(path, "cannot be written");
 }
 
+/* Requests of a burst, each of another client, and their bytes; the sheet's index. */
+static void make_burst(size_t count) {
+    static char names[GATE_REQUESTS][32];
+    requests.len = 0;
+    for (size_t i = 0; i < count; i++) {
+        burst[i] = gate_request_to("sshd", 4);
+        burst[i].client.kind = burst[i].server.kind = GATE_IPV4;
+        burst[i].client.low = 0xc0000200 + i;
+        burst[i].server.low = 0xc0000301;
+        gate_host_set_name(&burst[i].client, names[i], (size_t)sprintf(names[i], "pump%zu.example", i));
+        gate_request_set_user(&burst[i], "fitter", 6);
+        requests.len += gate_request_write(requests.bytes + requests.len, GATE_REQUEST_ROOM, &burst[i]).count;
+    }
+    index_bytes.len = libraries[0].index(index_bytes.bytes, GATE_INDEX_ROOM, TEXT(sheet)).count;
+}
+
 static void prepare(const struct test_case *c) {
-    static const struct text *const first[] = {&allow, &allow, &sheet, &allow, &byuid, &portacl, &sheet, &command, &deny, &deny};
+    static const struct text *const first[] = {&allow, &allow, &sheet, &allow, &byuid, &portacl, &sheet, &command, &deny, &deny, &sheet, &sheet};
+    static const struct text *const second[] = {
+        [VERDICT] = &deny, [TABLES_VERDICT] = &deny, [NAME_MATTERS] = &deny, [DROP] = &proposal, [ONE_CALL] = &index_bytes};
     current = c;
     make(&allow, c->allow);
     make(&deny, c->deny);
@@ -415,11 +484,13 @@ static void prepare(const struct test_case *c) {
     make_tables(c->tables);
     sheet.len = libraries[0].pack(sheet.bytes, GATE_SHEET_LIMIT, TEXT(allow), TEXT(deny), TEXT(byuid), TEXT(portacl), TEXT(tables)).count;
     proposal.len = c->call == DROP ? libraries[0].propose(proposal.bytes, GATE_TIDY_ROOM, TEXT(deny), TEXT(tables), GATE_DENY).count : 0;
+    if (c->call == LONE_CALLS || c->call == ONE_CALL)
+        make_burst(c->requests);
     write_file(allow_path, &allow);
     write_file(deny_path, &deny);
     handed[0] = first[c->call];
-    handed[1] = c->call == VERDICT || c->call == TABLES_VERDICT || c->call == NAME_MATTERS ? &deny : c->call == DROP ? &proposal : NULL;
-    handed[2] = c->call == TABLES_VERDICT ? &tables : NULL;
+    handed[1] = second[c->call];
+    handed[2] = c->call == TABLES_VERDICT ? &tables : c->call == ONE_CALL ? &requests : NULL;
     handed_len = handed[0]->len + (handed[1] ? handed[1]->len : 0) + (handed[2] ? handed[2]->len : 0);
     handed_sum = sum_handed();
 }

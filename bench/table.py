@@ -76,6 +76,11 @@ def show(title, rows, columns):
         figures = [rows.get(f"{kind}: {call}", (0, {}))[1].get(GATE) for call in ("verdict", "propose", "drop")]
         if all(figures):
             print(f"{kind}: propose {figures[1] / figures[0]:.3f} and drop {figures[2] / figures[0]:.3f} verdicts by the same file")
+    for kind in ("burst", "daemons"):
+        lone, one, none = [rows.get(f"{kind}: {call}", (0, {}))[1].get(GATE) for call in ("32 lone calls", "one call", "of none")]
+        if lone and one and none:
+            print(f"{kind}: one call for 32 requests {one / lone:.3f} of 32 lone calls; to check sheet and index {none / one:.3f} of it, "
+                  f"to go past the rules {(one - none) / one:.3f}")
     for who in (GATE, BEFORE):
         a_byte = [quotient(figures, who, size) for size, figures in growing]
         if all(a_byte):

@@ -1,9 +1,14 @@
-/* An inetd in small, as an example of the gate's calls. Listens on the loopback addresses, reads the sheet anew at each connection, asks
- * the gate, tells the client the word, and logs to standard error, with the command of the rule as it would be run. Runs nothing.
+/* An inetd in small, as an example of the gate's calls. Listens on the loopback addresses, takes all connections that wait, up to 32, reads
+ * the sheet anew, asks the gate for all of them in one call, tells each client the word, and logs to standard error, with the command of the
+ * rule as it would be run. Runs nothing.
  *   inetd [-p PORT] [-i IDENT_PORT] [-t MILLISECONDS] SHEET DAEMON
  * PORT 0 is any free port; the ports are written to standard output. The client's user is asked of its ident server (RFC 1413) only when
  * the gate says "ask" and that the name matters, and is unknown where no sound answer comes in time. Names are not looked up, so rules by
- * name match nothing. */
+ * name match nothing.
+ *
+ * The sheet's index is kept in memory, and made again where the gate says that it is not this sheet's [21]. So nothing has to be watched: a
+ * file's times may stay while its bytes change, and an index in a file of its own would be one more file that can be old, cut or missing,
+ * while making it costs no more than a check of the sheet. */
 #define _GNU_SOURCE
 #include <arpa/inet.h>
 #include <errno.h>
@@ -29,6 +34,10 @@ struct connection {
     struct sockaddr_storage client, server;
     socklen_t client_len, server_len;
 };
+
+/* The sheet as it was read last, and the index that was made last. */
+static uint8_t sheet[GATE_SHEET_LIMIT + 1], sheet_index[GATE_INDEX_ROOM];
+static size_t sheet_len, index_len;
 
 static void fail(const char *what) {
     perror(what);
@@ -129,20 +138,33 @@ static void fetch_user(struct connection *c, struct gate_request *request, char 
 
 /* The gate */
 
-/* Reads the sheet: its length, or -1. One byte over the limit is enough to have a longer file refused. */
-static ssize_t read_sheet(uint8_t *sheet, size_t room) {
-    size_t len = 0;
+/* Reads the sheet; 0, or errno where it can't be read. One byte over the limit is enough to have a longer file refused. */
+static int read_sheet(void) {
     ssize_t n = 1;
     int fd = open(sheet_path, O_RDONLY | O_CLOEXEC);
-    while (fd >= 0 && n > 0 && len < room) {
-        n = read(fd, sheet + len, room - len);
-        len += n > 0 ? (size_t)n : 0;
+    sheet_len = 0;
+    while (fd >= 0 && n > 0 && sheet_len < sizeof sheet) {
+        n = read(fd, sheet + sheet_len, sizeof sheet - sheet_len);
+        sheet_len += n > 0 ? (size_t)n : 0;
     }
     int fault = errno;
     if (fd >= 0)
         close(fd);
-    errno = fault;
-    return fd < 0 || n < 0 ? -1 : (ssize_t)len;
+    return fd < 0 || n < 0 ? fault : 0;
+}
+
+static struct gate_checked ask_all(struct gate_answer *answers, const struct gate_request *requests, size_t count) {
+    return gate_verdicts_for(answers, sheet, sheet_len, sheet_index, index_len, requests, count);
+}
+
+/* The gate's answers to requests, by the sheet that was read and the kept index, which is made again where it is not that sheet's. */
+static struct gate_checked decide(struct gate_answer *answers, const struct gate_request *requests, size_t count) {
+    struct gate_checked whole = ask_all(answers, requests, count);
+    if (whole.number != GATE_WRONG_INDEX)
+        return whole;
+    index_len = (size_t)gate_index(sheet_index, sizeof sheet_index, sheet, sheet_len).count;
+    dprintf(2, "inetd: index of %zu rules made\n", (index_len - 8) / 32);
+    return ask_all(answers, requests, count);
 }
 
 static void log_refusal(const struct gate_request *request, uint32_t number, uint32_t section, uint64_t line) {
@@ -153,49 +175,37 @@ static void log_refusal(const struct gate_request *request, uint32_t number, uin
 }
 
 /* Logs a verdict with its rule, and the rule's command as it would be run. */
-static void log_verdict(const struct gate_request *request, const struct gate_command_answer *a, const char *command) {
-    static char what[100 + GATE_EXPANSION_ROOM];
+static void log_verdict(const struct gate_request *request, const struct gate_answer *a) {
+    static char what[100 + GATE_EXPANSION_ROOM], command[GATE_EXPANSION_ROOM];
+    struct gate_written w = gate_expand_for(command, sizeof command, sheet + a->place, (size_t)a->len, request, (uint32_t)getpid());
     snprintf(what, sizeof what, "%s, %s line %llu%s%.*s", gate_word_text(a->word), a->file ? gate_section_text(a->file) : "no rule,",
-             (unsigned long long)a->line, a->count ? ", would run: " : "", (int)a->count, command);
+             (unsigned long long)a->line, w.count ? ", would run: " : "", (int)w.count, command);
     log_line(request, what);
 }
 
 /* Sets the request's user where the gate asks for him. A lookup makes the client wait, so there is none where every user gets the same
  * answer: unknown is then as good as any, and is what %u writes. */
-static void settle_user(struct connection *c, struct gate_request *request, const uint8_t *sheet, size_t len, char *name) {
-    if (gate_sheet_name_matters_for(sheet, len, request).word == GATE_NAME_MATTERS)
+static void settle_user(struct connection *c, struct gate_request *request, char *name) {
+    if (gate_sheet_name_matters_for(sheet, sheet_len, request).word == GATE_NAME_MATTERS)
         fetch_user(c, request, name);
     else
         gate_request_set_user(request, NULL, 0);
 }
 
-/* Is the connection granted? Whatever is not answered "granted" is not. */
-static int granted(struct connection *c) {
-    static uint8_t sheet[GATE_SHEET_LIMIT + 1];
-    static char command[GATE_EXPANSION_ROOM];
+/* Is the connection granted, by the answer to its request? Whatever is not answered "granted" is not. A lookup of the user takes its time, so
+ * it is made here, in the child, and the second question goes by the sheet alone. */
+static int granted(struct connection *c, struct gate_request *request, struct gate_answer answer) {
     char user[IDENT_LINE];
-    struct gate_request request = gate_request_to(daemon_name, strlen(daemon_name));
-    request.client = host_of(&c->client);
-    request.server = host_of(&c->server);
-    ssize_t len = read_sheet(sheet, sizeof sheet);
-    if (len < 0) {
-        char what[200];
-        snprintf(what, sizeof what, "refused, no sheet: %s", strerror(errno));
-        log_line(&request, what);
+    if (answer.number == GATE_ANSWERED && answer.word == GATE_ASK) {
+        settle_user(c, request, user);
+        answer = gate_sheet_verdict_for(sheet, sheet_len, request);
+    }
+    if (answer.number != GATE_ANSWERED) {
+        log_refusal(request, answer.number, answer.section, answer.line);
         return 0;
     }
-    uint32_t process = (uint32_t)getpid();
-    struct gate_command_answer a = gate_sheet_command_for(command, sizeof command, sheet, (size_t)len, &request, process);
-    if (a.number == GATE_ANSWERED && a.word == GATE_ASK) {
-        settle_user(c, &request, sheet, (size_t)len, user);
-        a = gate_sheet_command_for(command, sizeof command, sheet, (size_t)len, &request, process);
-    }
-    if (a.number != GATE_ANSWERED) {
-        log_refusal(&request, a.number, a.section, a.line);
-        return 0;
-    }
-    log_verdict(&request, &a, command);
-    return a.word == GATE_GRANTED;
+    log_verdict(request, &answer);
+    return answer.word == GATE_GRANTED;
 }
 
 /* Connections */
@@ -217,22 +227,71 @@ static int listen_at(int family) {
     return fd;
 }
 
-/* Answers one connection in a child, as a child of inetd would go on to be the daemon. How many children that makes. */
-static int serve(int listener) {
-    struct connection c = {.client_len = sizeof c.client, .server_len = sizeof c.server};
-    c.fd = accept(listener, (struct sockaddr *)&c.client, &c.client_len);
-    if (c.fd < 0)
-        return 0;
-    pid_t child = fork();
-    if (child < 0)
-        perror("fork");
-    if (child == 0) {
-        const char *word = getsockname(c.fd, (struct sockaddr *)&c.server, &c.server_len) == 0 && granted(&c) ? "granted\n" : "refused\n";
-        send(c.fd, word, strlen(word), MSG_NOSIGNAL);
-        _exit(0);
+/* A connection that waits; 0 where there is none. */
+static int next_connection(int listener, struct connection *c) {
+    for (;;) {
+        c->client_len = sizeof c->client;
+        c->server_len = sizeof c->server;
+        c->fd = accept(listener, (struct sockaddr *)&c->client, &c->client_len);
+        if (c->fd < 0)
+            return 0;
+        if (getsockname(c->fd, (struct sockaddr *)&c->server, &c->server_len) == 0)
+            return 1;
+        close(c->fd);
     }
-    close(c.fd);
-    return child > 0;
+}
+
+/* Tells a client the word; no_sheet says why there is no sheet, and is 0 where there is one. */
+static void tell(struct connection *c, struct gate_request *request, int no_sheet, struct gate_answer answer) {
+    char what[200];
+    snprintf(what, sizeof what, "refused, no sheet: %s", strerror(no_sheet));
+    if (no_sheet)
+        log_line(request, what);
+    const char *word = !no_sheet && granted(c, request, answer) ? "granted\n" : "refused\n";
+    send(c->fd, word, strlen(word), MSG_NOSIGNAL);
+}
+
+static void close_all(const struct connection *connections, size_t count) {
+    for (size_t i = 0; i < count; i++)
+        close(connections[i].fd);
+}
+
+/* The answers to a burst. Where the whole call is refused, each connection is. */
+static int ask_burst(struct gate_answer *answers, struct gate_request *requests, const struct connection *burst, size_t count) {
+    int no_sheet = read_sheet();
+    for (size_t i = 0; i < count; i++) {
+        requests[i] = gate_request_to(daemon_name, strlen(daemon_name));
+        requests[i].client = host_of(&burst[i].client);
+        requests[i].server = host_of(&burst[i].server);
+    }
+    struct gate_checked whole = no_sheet ? (struct gate_checked){0, 0, 0} : decide(answers, requests, count);
+    for (size_t i = 0; i < count && whole.number != GATE_ANSWERED; i++)
+        answers[i] = (struct gate_answer){.number = whole.number, .section = whole.section, .line = whole.line};
+    return no_sheet;
+}
+
+/* Asks for all of a burst at once, and answers each in a child, as a child of inetd would go on to be the daemon. How many children that makes.
+ * A child has none of the other connections: a client waits for the end of its own alone. */
+static int serve(const struct connection *burst, size_t count) {
+    struct gate_request requests[GATE_REQUESTS];
+    struct gate_answer answers[GATE_REQUESTS] = {{0}};
+    int children = 0, no_sheet = ask_burst(answers, requests, burst, count);
+    if (count > 1)
+        dprintf(2, "inetd: %zu connections at once\n", count);
+    for (size_t i = 0; i < count; i++) {
+        struct connection c = burst[i];
+        pid_t child = fork();
+        if (child < 0)
+            perror("fork");
+        if (child == 0) {
+            close_all(burst + i + 1, count - i - 1);
+            tell(&c, &requests[i], no_sheet, answers[i]);
+            _exit(0);
+        }
+        close(c.fd);
+        children += child > 0;
+    }
+    return children;
 }
 
 /* Children that have ended are counted off; where there are too many, one is waited for. */
@@ -271,11 +330,14 @@ static void read_options(int argc, char **argv) {
     daemon_name = argv[optind + 1];
 }
 
-static int serve_each(const struct pollfd *listeners, int children) {
+/* All connections that wait at both addresses, as many as may be asked for at once. */
+static int serve_all(const struct pollfd *listeners, int children) {
+    struct connection burst[GATE_REQUESTS];
+    size_t count = 0;
     for (int i = 0; i < 2; i++)
-        if (listeners[i].revents & POLLIN)
-            children += serve(listeners[i].fd);
-    return children;
+        while (listeners[i].revents & POLLIN && count < GATE_REQUESTS && next_connection(listeners[i].fd, &burst[count]))
+            count++;
+    return count ? children + serve(burst, count) : children;
 }
 
 int main(int argc, char **argv) {
@@ -284,8 +346,9 @@ int main(int argc, char **argv) {
     struct pollfd listeners[2] = {{.fd = listen_at(AF_INET), .events = POLLIN}, {.fd = listen_at(AF_INET6), .events = POLLIN}};
     fflush(stdout);
     for (;;) {
-        if (poll(listeners, 2, 1000) < 0 && errno != EINTR)
+        int ready = poll(listeners, 2, 1000);
+        if (ready < 0 && errno != EINTR)
             fail("poll");
-        children = reap(serve_each(listeners, children));
+        children = reap(ready > 0 ? serve_all(listeners, children) : children);
     }
 }

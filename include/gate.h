@@ -1,4 +1,5 @@
-/* The access gate for C: verdicts, port decisions, authbind's order, station sheets, rules that never fire, command expansion and addresses.
+/* The access gate for C: verdicts, one or many at once, port decisions, authbind's order, station sheets and their indexes, rules that never
+ * fire, command expansion and addresses.
  *
  * Linking: libgate.a is a static archive; there is no shared library. From the C library it needs memcpy, memmove and memset, and nothing
  * else. It allocates nothing and keeps nothing between calls, so any thread may call any function at any time, with GATE_STACK bytes
@@ -17,7 +18,7 @@
  * Refusals. Every answer begins with number, section and line. Number 0 is an answer; any other number is a refusal, and then all
  * members but these three are 0, and the kind of an address is GATE_NO_ADDRESS: nothing of it can be taken for an answer. Where several
  * refusals hold, the one given is the first in the order of the papers: those of the sheet, of the texts or of the command, 15 to 17 behind
- * 12 and 22 behind these, then 13, then 14; gate_propose and gate_drop have 13 first.
+ * 12 and 22 behind these, then 13, then 14; gate_propose and gate_drop have 13 first, and gate_verdicts has 21 before it.
  *
  * Requests. The same seventeen arguments describe a request to gate_verdict, gate_tables_verdict, gate_sheet_verdict, gate_name_matters,
  * gate_tables_name_matters, gate_sheet_name_matters, gate_command, gate_sheet_command and gate_expand:
@@ -38,7 +39,7 @@
 extern "C" {
 #endif
 
-#define GATE_VERSION "4.3.0"
+#define GATE_VERSION "4.4.0"
 
 /* Numbers: of an answer, or of a refusal. */
 enum gate_number {
@@ -63,13 +64,14 @@ enum gate_number {
     GATE_DOTTED_ADDRESS = 18,  /* an IPv6 address that inet_ntop may write with dots; by gate_authbind */
     GATE_LATE_ANSWER = 19,     /* an answer after the one that settles the matter, or after the last test; by gate_authbind */
     GATE_BAD_PROPOSAL = 20,    /* a proposal that is not accepted; by gate_drop */
-    GATE_RETIRED_FORM = 22     /* a byuid line of the form addr4/len:pmin,pmax that used to grant; 21 stands for nothing */
+    GATE_WRONG_INDEX = 21,     /* an index that is not the one of the sheet; by gate_verdicts */
+    GATE_RETIRED_FORM = 22     /* a byuid line of the form addr4/len:pmin,pmax that used to grant */
 };
 
 /* Sections. A sheet has the five in this order: four texts, each behind its count of bytes in four bytes, and the tables, whose own counts
  * say where they end: how many there are, in two bytes, and for each its name behind a count in one byte and its text behind one in four. */
 enum gate_section {
-    GATE_NO_SECTION = 0, /* of 3, 13, 14 and 18 to 20, and of a command's refusals */
+    GATE_NO_SECTION = 0, /* of 3, 13, 14 and 18 to 21, and of a command's refusals */
     GATE_ALLOW = 1,
     GATE_DENY = 2,
     GATE_BYUID = 3,
@@ -108,6 +110,12 @@ enum gate_section {
  * lines 0.0.0.0/0:0,0 as byuid has, and the entries of a portacl text of commas alone. */
 #define GATE_CHANGES_ROOM (8 * (GATE_ALLOW_LIMIT / 2 + GATE_DENY_LIMIT / 9 + (GATE_BYUID_LIMIT + 1) / 14 + GATE_PORTACL_LIMIT + 1))
 #define GATE_TIDY_ROOM GATE_ALLOW_LIMIT /* for what gate_propose and gate_drop write: neither is longer than the file that they are given */
+/* For the index of a sheet: two numbers, and eight for each rule, of four bytes each. No rule is shorter than `a:b` and its newline. */
+#define GATE_INDEX_ROOM (8 + 32 * (GATE_ALLOW_LIMIT / 4 + GATE_DENY_LIMIT / 4))
+/* The most requests of gate_verdicts; the most bytes of one, 41 and four texts behind counts of one byte; and the bytes of an answer. */
+#define GATE_REQUESTS 32
+#define GATE_REQUEST_ROOM (41 + 4 * 255)
+#define GATE_ANSWER_BYTES 36
 #define GATE_EXPANSION_ROOM (GATE_LINE_LIMIT / 2 * (GATE_USER_LIMIT + 1 + GATE_NAME_LIMIT) + GATE_LINE_LIMIT % 2)
 
 /* The stack that any call needs, in bytes, with a margin; the caller's own frames come on top. On x86-64 the most is some 116,200, by
@@ -412,6 +420,20 @@ struct gate_written gate_propose(uint8_t *out, size_t out_len, const uint8_t *te
 struct gate_written gate_drop(uint8_t *out, size_t out_len, const uint8_t *text, size_t text_len, const uint8_t *tables, size_t tables_len,
                               uint32_t section, const uint8_t *proposal, size_t proposal_len);
 
+/* Writes the index of a sheet: for each rule of allow, then of deny, its lines, and where it and its two lists begin and end in the sheet.
+ * docs/FORMATS.md fixes its bytes. It is the sheet's while the sheet stays as it is, to the byte. A sheet that gate_check refuses is refused in
+ * the same way; then 14. GATE_INDEX_ROOM bytes are always room enough. */
+struct gate_written gate_index(uint8_t *out, size_t out_len, const uint8_t *sheet, size_t sheet_len);
+
+/* Answers up to GATE_REQUESTS requests by a sheet and its index: sheet and index are checked once for all of them, and the rules are found by
+ * the index. requests has them one after the other, as docs/FORMATS.md fixes and gate_request_write writes them; out gets GATE_ANSWER_BYTES for each, in their order, as gate_answer_read reads them: what gate_sheet_verdict answers to that
+ * request, its looked too. A request with a bad field gets its own 13 in its place, and the others are answered. None are answered by nothing.
+ *
+ * The whole call is refused by what gate_check says of the sheet, then by 21 where the index is not the one that gate_index writes for it, to
+ * the byte, then by 13 where there are more than GATE_REQUESTS or the bytes end within a request, then by 14 where the answers have no room. */
+struct gate_written gate_verdicts(uint8_t *out, size_t out_len, const uint8_t *sheet, size_t sheet_len, const uint8_t *index, size_t index_len,
+                                  const uint8_t *requests, size_t requests_len);
+
 /* Writes a rule's command with its %a, %A, %n, %N, %h, %H, %u, %c, %d, %s, %p and %% replaced for a request: the command as a verdict
  * hands it back, or any other. It is joined and trimmed first. GATE_EXPANSION_ROOM bytes are always room enough. */
 struct gate_written gate_expand(uint8_t *out, size_t out_len, const uint8_t *command, size_t command_len,
@@ -489,6 +511,14 @@ static inline uint64_t gate_wire_number(const uint8_t *bytes, size_t count) {
     for (i = 0; i < count; i++)
         number = number << 8 | bytes[i];
     return number;
+}
+
+/* The same written. */
+static inline void gate_wire_write(uint8_t *bytes, size_t count, uint64_t number) {
+    while (count > 0) {
+        bytes[--count] = (uint8_t)(number & 255);
+        number >>= 8;
+    }
 }
 
 /* A host of unknown name, by the four bytes of its address as they are on the wire: &sockaddr_in.sin_addr. */
@@ -601,6 +631,91 @@ static inline struct gate_answer gate_sheet_verdict_for(const void *sheet, size_
     return gate_sheet_verdict(gate_bytes(sheet, sheet_len), sheet_len, GATE_REQUEST_ARGUMENTS(request));
 }
 
+/* A number in one byte; what is over a byte is of no kind, and stays so. */
+static inline uint8_t gate_one_byte(uint32_t number) {
+    return (uint8_t)(number < 255 ? number : 255);
+}
+
+/* A text behind its count, and how many bytes that makes. One over 255 bytes is written as none: either is refused by 13 in its place. */
+static inline size_t gate_text_write(uint8_t *out, const uint8_t *text, size_t len) {
+    size_t i, count = len < 256 ? len : 0;
+    out[0] = (uint8_t)count;
+    for (i = 0; i < count; i++)
+        out[1 + i] = text[i];
+    return 1 + count;
+}
+static inline size_t gate_text_size(size_t len) {
+    return 1 + (len < 256 ? len : 0);
+}
+
+/* A host as requests have it, and how many bytes that makes. */
+static inline size_t gate_end_write(uint8_t *out, const struct gate_host *host) {
+    int known = host->name_state == GATE_NAME_KNOWN;
+    out[0] = gate_one_byte(host->name_state);
+    out[1] = gate_one_byte(host->kind);
+    gate_wire_write(out + 2, 8, host->high);
+    gate_wire_write(out + 10, 8, host->low);
+    return 18 + gate_text_write(out + 18, gate_known_name(host->name, host->name_len, known), gate_known_len(host->name_len, known));
+}
+
+/* Writes a request as gate_verdicts takes it; the bytes of a name that is not known are left out. Refused by 14 alone, whatever its fields are:
+ * a bad field is refused in the request's place. GATE_REQUEST_ROOM bytes are always room enough. */
+static inline struct gate_written gate_request_write(void *out, size_t out_len, const struct gate_request *request) {
+    struct gate_written written = {GATE_NO_ROOM, 0, 0, 0};
+    int known = request->user == GATE_USER_KNOWN;
+    size_t user_len = gate_known_len(request->user_name_len, known);
+    size_t size = gate_text_size(request->daemon_len) + 37 + gate_text_size(user_len) +
+                  gate_text_size(gate_known_len(request->client.name_len, request->client.name_state == GATE_NAME_KNOWN)) +
+                  gate_text_size(gate_known_len(request->server.name_len, request->server.name_state == GATE_NAME_KNOWN));
+    uint8_t *at = (uint8_t *)out;
+    if (out_len < size)
+        return written;
+    at += gate_text_write(at, gate_bytes(request->daemon, request->daemon_len), request->daemon_len);
+    at += gate_end_write(at, &request->client);
+    at += gate_end_write(at, &request->server);
+    *at++ = gate_one_byte(request->user);
+    gate_text_write(at, gate_known_name(request->user_name, request->user_name_len, known), user_len);
+    written.number = GATE_ANSWERED;
+    written.count = size;
+    return written;
+}
+
+/* Reads one answer of gate_verdicts, of GATE_ANSWER_BYTES. */
+static inline struct gate_answer gate_answer_read(const void *bytes) {
+    const uint8_t *at = (const uint8_t *)bytes;
+    struct gate_answer answer;
+    answer.number = (uint32_t)gate_wire_number(at, 4);
+    answer.section = (uint32_t)gate_wire_number(at + 4, 4);
+    answer.line = gate_wire_number(at + 8, 4);
+    answer.word = (uint32_t)gate_wire_number(at + 12, 4);
+    answer.file = (uint32_t)gate_wire_number(at + 16, 4);
+    answer.place = gate_wire_number(at + 20, 4);
+    answer.len = gate_wire_number(at + 24, 4);
+    answer.looked = gate_wire_number(at + 28, 8);
+    return answer;
+}
+
+/* gate_verdicts for requests, at most GATE_REQUESTS: answers gets one for each, and stays as it was at a refusal of the whole call. Takes some
+ * 35,000 bytes of stack besides GATE_STACK: those of the requests and of the answers. */
+static inline struct gate_checked gate_verdicts_for(struct gate_answer *answers, const void *sheet, size_t sheet_len, const void *index,
+                                                    size_t index_len, const struct gate_request *requests, size_t count) {
+    uint8_t bytes[GATE_REQUESTS * GATE_REQUEST_ROOM], out[GATE_REQUESTS * GATE_ANSWER_BYTES];
+    size_t i, len = 0;
+    struct gate_written written;
+    struct gate_checked checked;
+    bytes[0] = 0;
+    for (i = 0; i < count && count <= GATE_REQUESTS; i++)
+        len += (size_t)gate_request_write(bytes + len, sizeof bytes - len, &requests[i]).count;
+    written = gate_verdicts(out, sizeof out, gate_bytes(sheet, sheet_len), sheet_len, gate_bytes(index, index_len), index_len, bytes,
+                            count <= GATE_REQUESTS ? len : 1);
+    for (i = 0; written.number == GATE_ANSWERED && i < count; i++)
+        answers[i] = gate_answer_read(out + i * GATE_ANSWER_BYTES);
+    checked.number = written.number;
+    checked.section = written.section;
+    checked.line = written.line;
+    return checked;
+}
+
 /* gate_name_matters, gate_tables_name_matters and gate_sheet_name_matters for a request. */
 static inline struct gate_answer gate_name_matters_for(const void *allow, size_t allow_len, const void *deny, size_t deny_len,
                                                        const struct gate_request *request) {
@@ -703,6 +818,7 @@ static inline const char *gate_number_text(uint32_t number) {
     case GATE_DOTTED_ADDRESS: return "an IPv6 address that may be written with dots";
     case GATE_LATE_ANSWER: return "an answer after the matter was settled";
     case GATE_BAD_PROPOSAL: return "a proposal that is not accepted";
+    case GATE_WRONG_INDEX: return "not the index of this sheet";
     case GATE_RETIRED_FORM: return "a line of the retired form that used to grant";
     default: return "no such number";
     }

@@ -112,7 +112,7 @@ static const char *why_byuid(const struct reply *reply) {
     return reply->word == GATE_NOT_RULED ? "byuid rules ports 1 to 1023, and every account but root (uid 0)" : NULL;
 }
 
-const struct query byuid_query = {"byuid", options, 2, read_byuid, ask_byuid, why_byuid};
+const struct query byuid_query = {"byuid", options, 2, 2, read_byuid, ask_byuid, why_byuid};
 
 static enum status run(const struct arguments *arguments) {
     return run_query(&byuid_query, arguments);

@@ -24,6 +24,6 @@ struct command {
 };
 
 extern const struct command check_command, match_command, byuid_command, portacl_command, authbind_command, pack_command, unpack_command,
-    fleet_command, upgrade_command, convert_command, carry_command, salvage_command, tidy_command, explain_command, test_command;
+    fleet_command, upgrade_command, convert_command, carry_command, salvage_command, tidy_command, index_command, explain_command, test_command;
 
 #endif

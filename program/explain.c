@@ -80,6 +80,10 @@ static const struct {
     [20] = {"Rules were to be dropped from a hosts file that may not be: a line that was named is not the first of a rule, or no earlier rule that stays "
             "has the same elements and EXCEPTs in the same order in both lists, nor is any ALL: ALL. Section and line are 0.",
             "a call of gate", "gate tidy hosts.deny new --lines 1", "Leave --lines out: gate tidy FILE shows every rule that may be dropped."},
+    [21] = {"An index was given with a sheet that is not its own: the sheet changed since the index was written, or either was damaged on its way, by as "
+            "little as a byte. Section and line are 0.",
+            "a call of gate", "gate match new.sheet sshd 10.20.30.40 --index old.index",
+            "Write it again: gate index SHEET INDEX. It takes little longer than a check."},
     [22] = {"A line of byuid is of the form ADDRESS/LENGTH:PORT,PORT, by which nothing is granted any more. Only a line that used to grant is "
             "refused: one with bits set beyond its length, or with its first port over the last, is ignored as before. The line is the first such one.",
             "byuid", "10.0.0.0/8:80,90",

@@ -9,7 +9,7 @@
 /* To add a subcommand: a row here, a line in command.h, and a file that defines it. */
 static const struct command *const commands[] = {&check_command,  &match_command, &byuid_command,   &portacl_command, &authbind_command, &pack_command,
                                                  &unpack_command, &fleet_command, &upgrade_command, &convert_command, &carry_command,    &salvage_command,
-                                                 &tidy_command,   &explain_command, &test_command};
+                                                 &tidy_command,   &index_command, &explain_command, &test_command};
 #define COMMANDS (sizeof commands / sizeof *commands)
 
 static void show_overview(void) {

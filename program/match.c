@@ -5,11 +5,11 @@
 #include "question.h"
 #include "reading.h"
 
-enum { QUIET, TABLES, NAME, PARANOID, UNKNOWN_USER, SERVER_NAME, SERVER_PARANOID, PROCESS };
+enum { QUIET, TABLES, INDEX, NAME, PARANOID, UNKNOWN_USER, SERVER_NAME, SERVER_PARANOID, PROCESS };
 
 static const struct option options[] = {
-    {"quiet", 'q', NULL},        {"tables", 0, "FOLDER"},    {"name", 0, "NAME"},           {"paranoid", 0, NULL},    {"unknown-user", 0, NULL},
-    {"server-name", 0, "NAME"},  {"server-paranoid", 0, NULL},  {"process", 0, "NUMBER"}, {NULL, 0, NULL}};
+    {"quiet", 'q', NULL},         {"tables", 0, "FOLDER"},    {"index", 0, "INDEX"},        {"name", 0, "NAME"},      {"paranoid", 0, NULL},
+    {"unknown-user", 0, NULL},    {"server-name", 0, "NAME"}, {"server-paranoid", 0, NULL}, {"process", 0, "NUMBER"}, {NULL, 0, NULL}};
 
 static const char help[] =
     "STATION is a sheet, a folder with the four texts, or - for a sheet on standard\n"
@@ -26,6 +26,8 @@ static const char help[] =
     "CLIENT   the client's address, or unknown.\n"
     "\n"
     "  --tables FOLDER       the tables of a folder's rules; without it STATION/tables\n"
+    "  --index INDEX         find the rules by the station's index, which gate index\n"
+    "                        wrote; the answer is the same, and another index an error\n"
     "  --name NAME           the client's name; without it the name is unknown\n"
     "  --paranoid            the client's name and address disagree\n"
     "  --unknown-user        the user was asked for, and no name came\n"
@@ -38,7 +40,8 @@ static const char help[] =
     "\n"
     "For example:\n"
     "  gate match sample sshd 10.20.30.40 --name van7.vans.example\n"
-    "  gate match sample sshd@192.0.2.1 fitter@10.20.30.41\n";
+    "  gate match sample sshd@192.0.2.1 fitter@10.20.30.41\n"
+    "  gate match station.sheet sshd 10.20.30.40 --index station.index\n";
 
 /* The first @ that is not in first place, as in the rules; NULL where there is none. */
 static const char *parting_at(const char *text) {
@@ -100,8 +103,10 @@ static bool read_client(struct gate_request *request, const char *where, const c
 static bool read_match(struct question *question, const char *where, char const *const *operand, const struct arguments *arguments) {
     const char *process = arguments->option[PROCESS];
     question->process = 0;
+    question->index_path = arguments->option[INDEX];
     return read_daemon(&question->request, where, operand[0], arguments) && read_client(&question->request, where, operand[1], arguments) &&
-           (!process || read_number(where, "process number", process, UINT32_MAX, &question->process));
+           (!process || read_number(where, "process number", process, UINT32_MAX, &question->process)) &&
+           (!question->index_path || read_file(question->index_path, GATE_INDEX_ROOM, &question->index));
 }
 
 static void find_rule(struct reply *reply, const struct station *station) {
@@ -122,10 +127,27 @@ static void ask_name(struct reply *reply, const struct text *sheet, const struct
     reply->name_line = told.line;
 }
 
+/* The verdict and its command, by the index of the station. */
+static struct gate_command_answer ask_by_index(uint8_t *out, size_t out_len, const struct text *sheet, const struct question *question) {
+    struct gate_answer found = {0};
+    struct gate_checked whole = gate_verdicts_for(&found, sheet->bytes, sheet->len, question->index.bytes, question->index.len, &question->request, 1);
+    struct gate_written written = {0};
+    if (whole.number == GATE_ANSWERED && found.len)
+        written = gate_expand_for(out, out_len, sheet->bytes + found.place, (size_t)found.len, &question->request, question->process);
+    return (struct gate_command_answer){.number = whole.number ? whole.number : found.number ? found.number : written.number, .word = found.word,
+                                        .file = found.file, .line = found.line, .place = found.place, .len = found.len, .count = written.count,
+                                        .looked = found.looked};
+}
+
+static struct gate_command_answer ask_gate(uint8_t *out, size_t out_len, const struct text *sheet, const struct question *question) {
+    if (question->index_path)
+        return ask_by_index(out, out_len, sheet, question);
+    return gate_sheet_command_for(out, out_len, sheet->bytes, sheet->len, &question->request, question->process);
+}
+
 static void ask_match(struct reply *reply, const struct station *station, const struct question *question) {
     const struct text *sheet = &station->sheet;
-    struct gate_command_answer answer =
-        gate_sheet_command_for(reply->expanded, sizeof reply->expanded, sheet->bytes, sheet->len, &question->request, question->process);
+    struct gate_command_answer answer = ask_gate(reply->expanded, sizeof reply->expanded, sheet, question);
     reply->number = answer.number;
     reply->word = answer.word;
     reply->section = answer.file;
@@ -148,9 +170,14 @@ static const char *why_match(const struct reply *reply) {
     return reply->section ? NULL : "no rule of hosts.allow and none of hosts.deny matches";
 }
 
-const struct query match_query = {"match", options, 2, read_match, ask_match, why_match};
+const struct query match_query = {"match", options, 3, 2, read_match, ask_match, why_match};
 
 static enum status run(const struct arguments *arguments) {
+    const char *index = arguments->option[INDEX];
+    if (index && !strcmp(index, "-") && !strcmp(arguments->operand[0], "-")) {
+        complain("gate", "-: the sheet and its index can't both come from standard input");
+        return STATUS_FAILED;
+    }
     return run_query(&match_query, arguments);
 }
 

@@ -201,6 +201,12 @@ bool may_write(const char *path) {
     return !what;
 }
 
+bool is_input(const char *path, const char *from) {
+    struct stat read, there;
+    return !(strcmp(from, "-") ? stat(from, &read) : fstat(STDIN_FILENO, &read)) && !stat(path, &there) && read.st_dev == there.st_dev &&
+           read.st_ino == there.st_ino;
+}
+
 bool write_file(const char *path, const uint8_t *bytes, size_t len) {
     watch_signals();
     if (!write_listed(path, true, bytes, len) || !take_place(path))

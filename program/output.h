@@ -9,6 +9,9 @@
 /* May a file be written here: nothing is there, or a regular file. */
 bool may_write(const char *path);
 
+/* Whether a file that is to be written is the one that was read: from a path, or from standard input where that is -. */
+bool is_input(const char *path, const char *from);
+
 /* Writes a file whole or not at all, and keeps the mode and owner of one that it replaces: the bytes go to a temporary file beside it,
  * which takes its place once it is on disk. A signal removes the temporary file. */
 bool write_file(const char *path, const uint8_t *bytes, size_t len);

@@ -111,7 +111,7 @@ static const char *why_portacl(const struct reply *reply) {
     return reply->word == GATE_DENIED ? "no entry grants" : NULL;
 }
 
-const struct query portacl_query = {"portacl", options, 2, read_portacl, ask_portacl, why_portacl};
+const struct query portacl_query = {"portacl", options, 2, 2, read_portacl, ask_portacl, why_portacl};
 
 static enum status run(const struct arguments *arguments) {
     return run_query(&portacl_query, arguments);

@@ -100,7 +100,9 @@ enum status run_query(const struct query *query, const struct arguments *argumen
         !read_sound_station(&station, arguments->operand[0], arguments->option[1]))
         return STATUS_FAILED;
     query->ask(&reply, &station, &question);
-    if (reply.number != GATE_ANSWERED)
+    if (reply.number == GATE_WRONG_INDEX)
+        complain("gate", "%s: not the index of %s [%u]: gate index writes it", shown(question.index_path), shown(station.path), (unsigned)reply.number);
+    else if (reply.number != GATE_ANSWERED)
         complain("gate", "refused: %s [%u]", gate_number_text(reply.number), (unsigned)reply.number);
     else if (!arguments->option[0])
         show_reply(query, &station, &reply);

@@ -9,6 +9,8 @@
 struct question {
     struct gate_request request; /* of match */
     uint32_t process;
+    const char *index_path;      /* of match: the station's index, or NULL where none is given */
+    struct text index;
     struct gate_host at;         /* of byuid; the rest is of both */
     struct gate_settings settings;
     uint32_t groups[GATE_GROUPS_LIMIT];
@@ -39,6 +41,7 @@ struct reply {
 struct query {
     const char *name;
     const struct option *options; /* the first is quiet, the second tables */
+    size_t station_options;       /* so many of them are for the command line alone, and not for a line of requests */
     size_t operands;              /* behind the station */
     bool (*read)(struct question *question, const char *where, char const *const *operand, const struct arguments *arguments);
     void (*ask)(struct reply *reply, const struct station *station, const struct question *question);

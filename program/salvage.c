@@ -1,8 +1,6 @@
 /* gate salvage: a damaged sheet into one that is accepted, and what was changed for it. */
 #include <stdio.h>
 #include <string.h>
-#include <sys/stat.h>
-#include <unistd.h>
 #include "command.h"
 #include "fault.h"
 #include "message.h"
@@ -113,9 +111,7 @@ static void show_written(const char *path, size_t len, size_t changes) {
 
 /* Whether the new sheet would take the place of the damaged one. */
 static bool is_own_sheet(const char *sheet, const char *new) {
-    struct stat from, there;
-    bool same = !(strcmp(sheet, "-") ? stat(sheet, &from) : fstat(STDIN_FILENO, &from)) && !stat(new, &there) && from.st_dev == there.st_dev &&
-                from.st_ino == there.st_ino;
+    bool same = is_input(new, sheet);
     if (same)
         complain("gate", "%s: is the sheet to be salvaged: give another name, so that the damaged one is kept", shown(new));
     return same;

@@ -89,6 +89,15 @@ static bool begins_with_word(const char *answer) {
     return false;
 }
 
+/* Whether an option is given that is for the command line alone. */
+static bool has_station_option(const struct query *query, const struct arguments *arguments) {
+    for (size_t i = 0; i < query->station_options; i++) {
+        if (arguments->option[i])
+            return true;
+    }
+    return false;
+}
+
 static bool read_question(const struct query **query, struct question *question, const char *where, const struct entry *entry) {
     struct arguments arguments;
     *query = find_query(entry->words[0]);
@@ -98,8 +107,8 @@ static bool read_question(const struct query **query, struct question *question,
     }
     if (!read_arguments(&arguments, (*query)->options, where, entry->count - 1, entry->words + 1))
         return false;
-    if (arguments.operands != (*query)->operands || arguments.option[QUIET] || arguments.option[TABLES]) {
-        complain(where, "%s: wrong arguments: as of gate %s --help, without the station, --tables and -q", (*query)->name, (*query)->name);
+    if (arguments.operands != (*query)->operands || has_station_option(*query, &arguments)) {
+        complain(where, "%s: wrong arguments: as of gate %s --help, without the station, --tables, --index and -q", (*query)->name, (*query)->name);
         return false;
     }
     return (*query)->read(question, where, arguments.operand, &arguments);

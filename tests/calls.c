@@ -12,7 +12,7 @@ struct text {
 };
 
 static struct lent {
-    struct text allow, deny, byuid, portacl, tables, sheet, old_sheet, command, address, daemon, client_name, server_name, user_name, answers, proposal;
+    struct text allow, deny, byuid, portacl, tables, sheet, old_sheet, command, address, daemon, client_name, server_name, user_name, answers, proposal, index, requests;
     uint32_t groups[2];
     uint8_t out[160], marked[80];
 } m, expected, after;
@@ -47,6 +47,20 @@ static void set(struct text *t, const char *s, size_t len) {
 #define VANS_AND_DEPOT "\0\2\4vans\0\0\0\x0c" "van8 /Depot\n\5depot\0\0\0\x08" "10.0.0.1"
 #define FOUR_SECTIONS "\0\0\0\x15\nsshd: LOCAL: log %h\n\0\0\0\x09" "ALL: ALL\n\0\0\0\x0d" "10.0.0.0/8,80\0\0\0\x1buid:80:tcp:80,gid:20:udp:53"
 
+/* The index of that sheet: a rule of allow in line 2, one of deny in line 1. */
+#define INDEX \
+    "\0\0\0\1\0\0\0\1" "\0\0\0\2\0\0\0\2\0\0\0\5\0\0\0\x18\0\0\0\5\0\0\0\x09\0\0\0\x0a\0\0\0\x10" \
+    "\0\0\0\1\0\0\0\1\0\0\0\x1d\0\0\0\x25\0\0\0\x1d\0\0\0\x20\0\0\0\x21\0\0\0\x25"
+/* REQUEST(1) in bytes, but for the daemon and the state of the user. */
+#define ENDS "\2\4\0\0\0\0\0\0\0\0\0\0\0\0\x0a\0\0\1\4van7" "\0\6\0\0\0\0\0\0\0\1\0\0\0\0\0\0\0\2\0"
+#define ASKED "\4sshd" ENDS "\1\0"
+#define ASKED_X "\1x" ENDS "\1\0"
+#define ASKED_BADLY "\4sshd" ENDS "\3\0"
+/* Their answers: by line 2 of allow with its command, by line 1 of deny with none, and 13. */
+#define GRANTED_ANSWER "\0\0\0\0\0\0\0\0\0\0\0\2\0\0\0\1\0\0\0\1\0\0\0\x11\0\0\0\7\0\0\0\0\0\0\0\2"
+#define DENIED_ANSWER "\0\0\0\0\0\0\0\0\0\0\0\1\0\0\0\2\0\0\0\2\0\0\0\x25\0\0\0\0\0\0\0\0\0\0\0\3"
+#define BAD_ANSWER "\0\0\0\x0d\0\0\0\0\0\0\0\0\0\0\0\0\0\0\0\0\0\0\0\0\0\0\0\0\0\0\0\0\0\0\0\0"
+
 static void begin(void) {
     memset(&m, 0xa5, sizeof m);
     SET(allow, "\nsshd: LOCAL: log %h\n");
@@ -64,6 +78,8 @@ static void begin(void) {
     SET(user_name, "a;b");
     SET(answers, "\0\0");
     SET(proposal, "\0\0\0\2");
+    SET(index, INDEX);
+    SET(requests, ASKED);
     m.groups[0] = 20;
     m.groups[1] = 21;
 }
@@ -682,6 +698,117 @@ static void tidied_verdicts(void) {
     expect("a verdict by it", decided(gate_tables_verdict(TEXT(allow), TEXT(deny), TEXT(tables), REQUEST(1)), GATE_DENIED, GATE_DENY, 2, 20, 3));
 }
 
+/* An index of rules: what is written for a sheet, and each refusal of it. */
+static void indexes(void) {
+    begin(), lend();
+    expect("an index in exact room", wrote(gate_index(OUT(72), TEXT(sheet)), TEXT(index)));
+    begin(), lend();
+    expect("one byte less for it", unwritten(gate_index(OUT(71), TEXT(sheet)), GATE_NO_ROOM, 0, 0));
+    expect("more room than that", wrote(gate_index(OUT(160), TEXT(sheet)), TEXT(index)));
+    begin(), m.sheet.len--, lend();
+    expect("of a cut sheet, before room", unwritten(gate_index(OUT(0), TEXT(sheet)), GATE_CUT_SHORT, GATE_TABLES, 0));
+    SET(sheet, "\0\0\0\4a:b\n\0\0\0\3a:b\0\0\0\0\0\0\0\0\0\0"), lend();
+    expect("of a sheet with a bad line", unwritten(gate_index(OUT(160), TEXT(sheet)), GATE_UNENDED, GATE_DENY, 1));
+    SET(sheet, "\0\0\0\2#\n\0\0\0\0\0\0\0\0\0\0\0\0\0\0"), lend();
+    expect("of a sheet without rules", wrote(gate_index(OUT(8), TEXT(sheet)), "\0\0\0\0\0\0\0\0", 8));
+    begin(), SET(sheet, "\0\0\0\0\0\0\0\x0a\na\\\n:b: c\n\0\0\0\0\0\0\0\0\0\0"), lend();
+    SET(index, "\0\0\0\0\0\0\0\1\0\0\0\2\0\0\0\3\0\0\0\x09\0\0\0\x11\0\0\0\x09\0\0\0\x0c\0\0\0\x0d\0\0\0\x0e"), lend();
+    expect("of a rule over two lines", wrote(gate_index(OUT(40), TEXT(sheet)), TEXT(index)));
+}
+
+#define VERDICTS(room) gate_verdicts(OUT(room), TEXT(sheet), TEXT(index), TEXT(requests))
+
+/* Requests by a sheet and its index, in their order; a bad one in its place. */
+static void many_verdicts(void) {
+    begin(), lend();
+    expect("one request in exact room", wrote(VERDICTS(36), GRANTED_ANSWER, 36));
+    begin(), SET(requests, ASKED ASKED_X ASKED), lend();
+    expect("three, in their order", wrote(VERDICTS(160), GRANTED_ANSWER DENIED_ANSWER GRANTED_ANSWER, 108));
+    begin(), SET(requests, ASKED_X ASKED_BADLY ASKED), lend();
+    expect("a bad one among good", wrote(VERDICTS(108), DENIED_ANSWER BAD_ANSWER GRANTED_ANSWER, 108));
+    begin(), SET(requests, "\0" ENDS "\1\0"), lend();
+    expect("a bad one alone", wrote(VERDICTS(36), BAD_ANSWER, 36));
+    begin(), SET(requests, "\4sshd" ENDS "\1\3van"), lend();
+    expect("the bytes of a user who is not known", wrote(VERDICTS(36), GRANTED_ANSWER, 36));
+    begin(), m.requests.len = 0, lend();
+    expect("no request, in no room", wrote(VERDICTS(0), "", 0));
+}
+
+/* The sheet's own refusal, then 21, then 13, then 14, each before all that follow. */
+static void verdict_refusals(void) {
+    begin(), SET(requests, ASKED ASKED), lend();
+    expect("one byte less for two answers", unwritten(VERDICTS(71), GATE_NO_ROOM, 0, 0));
+    expect("no room", unwritten(VERDICTS(0), GATE_NO_ROOM, 0, 0));
+    SET(requests, ASKED_BADLY), lend();
+    expect("no room for a refused one", unwritten(VERDICTS(35), GATE_NO_ROOM, 0, 0));
+    SET(requests, ASKED ASKED), m.requests.len--, lend();
+    expect("cut requests", unwritten(VERDICTS(0), GATE_BAD_REQUEST, 0, 0));
+    for (size_t i = 0; i < m.index.len; i++) {
+        m.index.bytes[i] ^= 1, lend();
+        expect("a byte of the index changed", unwritten(VERDICTS(160), GATE_WRONG_INDEX, 0, 0));
+        m.index.bytes[i] ^= 1;
+    }
+    m.index.len--, lend();
+    expect("a cut index", unwritten(VERDICTS(0), GATE_WRONG_INDEX, 0, 0));
+    m.index.len += 2, m.index.bytes[72] = 0, lend();
+    expect("an index and a byte", unwritten(VERDICTS(0), GATE_WRONG_INDEX, 0, 0));
+    m.index.len = 0, lend();
+    expect("no index", unwritten(VERDICTS(160), GATE_WRONG_INDEX, 0, 0));
+    m.sheet.len--, lend();
+    expect("a cut sheet", unwritten(VERDICTS(0), GATE_CUT_SHORT, GATE_TABLES, 0));
+    begin(), SET(sheet, "\0\0\0\2x\n\0\0\0\0\0\0\0\0\0\0\0\0\0\0"), lend();
+    expect("a sheet with a bad line", unwritten(VERDICTS(160), GATE_NO_ELEMENT, GATE_ALLOW, 1));
+}
+
+/* What gate_sheet_verdict answers, as bytes. */
+static void put_answer(uint8_t *out, struct gate_answer a) {
+    const uint64_t numbers[7] = {a.number, a.section, a.line, a.word, a.file, a.place, a.len};
+    for (size_t i = 0; i < 7; i++)
+        gate_wire_write(out + 4 * i, 4, numbers[i]);
+    gate_wire_write(out + 28, 8, a.looked);
+}
+
+/* As many as may be, one more, and the longest: each answer is that of the lone call. */
+static void most_requests(void) {
+    static uint8_t requests[(GATE_REQUESTS + 1) * GATE_REQUEST_ROOM], out[GATE_REQUESTS * GATE_ANSWER_BYTES + 1], alone[GATE_ANSWER_BYTES];
+    size_t len = 0, one = sizeof ASKED - 1;
+    begin();
+    for (size_t i = 0; i <= GATE_REQUESTS; i++)
+        memcpy(requests + i * one, ASKED, one);
+    struct gate_written w = gate_verdicts(out, sizeof out, TEXT(sheet), TEXT(index), requests, GATE_REQUESTS * one);
+    expect("32 requests", w.number == GATE_ANSWERED && w.count == GATE_REQUESTS * GATE_ANSWER_BYTES);
+    put_answer(alone, gate_sheet_verdict(TEXT(sheet), REQUEST(1)));
+    for (size_t i = 0; i < GATE_REQUESTS; i++)
+        expect("each as alone", !memcmp(out + i * GATE_ANSWER_BYTES, alone, sizeof alone) && !memcmp(alone, GRANTED_ANSWER, sizeof alone));
+    expect("33", gate_verdicts(out, sizeof out, TEXT(sheet), TEXT(index), requests, (GATE_REQUESTS + 1) * one).number == GATE_BAD_REQUEST);
+    expect("32 and a byte", gate_verdicts(out, sizeof out, TEXT(sheet), TEXT(index), requests, GATE_REQUESTS * one + 1).number == GATE_BAD_REQUEST);
+    expect("32 in less room", gate_verdicts(out, sizeof out - 2, TEXT(sheet), TEXT(index), requests, GATE_REQUESTS * one).number == GATE_NO_ROOM);
+    memset(requests, 255, sizeof requests);
+    for (; len < GATE_REQUESTS * GATE_REQUEST_ROOM; len += GATE_REQUEST_ROOM)
+        requests[len + 256] = 2, requests[len + 257] = GATE_IPV6, requests[len + 530] = 2, requests[len + 531] = GATE_IPV4, requests[len + 804] = 1;
+    w = gate_verdicts(out, sizeof out, TEXT(sheet), TEXT(index), requests, len);
+    expect("32 of the longest", w.number == GATE_ANSWERED && w.count == GATE_REQUESTS * GATE_ANSWER_BYTES && !memcmp(out + 31 * 36, BAD_ANSWER, 36));
+    expect("and one more", gate_verdicts(out, sizeof out, TEXT(sheet), TEXT(index), requests, len + GATE_REQUEST_ROOM).number == GATE_BAD_REQUEST);
+}
+
+/* The index of the most rules: GATE_INDEX_ROOM is enough, and no more than is needed. */
+static void longest_index(void) {
+    static uint8_t sheet[GATE_SHEET_LIMIT], index[GATE_INDEX_ROOM];
+    size_t len = add_section(sheet, 0, "a:b\n", GATE_ALLOW_LIMIT / 4);
+    len = add_section(sheet, len, "a:b\n", GATE_DENY_LIMIT / 4);
+    len = add_section(sheet, add_section(sheet, len, "", 0), "", 0);
+    sheet[len++] = 0, sheet[len++] = 0;
+    begin();
+    expect("one byte less than the longest index", gate_index(index, sizeof index - 1, sheet, len).number == GATE_NO_ROOM && index[3] == 0);
+    struct gate_written w = gate_index(index, sizeof index, sheet, len);
+    expect("the longest index", w.number == GATE_ANSWERED && w.count == sizeof index && gate_wire_number(index, 4) == 4096 &&
+           gate_wire_number(index + sizeof index - 4, 4) == 32775);
+    w = gate_verdicts(OUT(36), sheet, len, index, sizeof index, TEXT(requests));
+    expect("an answer by it", w.count == 36 && gate_answer_read(m.out).looked == 8192 && gate_answer_read(m.out).word == GATE_GRANTED);
+    index[sizeof index - 1] ^= 1;
+    expect("its last byte changed", gate_verdicts(OUT(36), sheet, len, index, sizeof index, TEXT(requests)).number == GATE_WRONG_INDEX);
+}
+
 /* What a refused text is read as is refused wherever an address is taken. */
 static void no_address(void) {
     begin(), lend();
@@ -705,7 +832,7 @@ static void no_address(void) {
 }
 
 /* What is handed over in each position that takes bytes or groups. */
-enum position { ALLOW, DENY, BYUID, PORTACL, TABLES, SHEET, OLD_SHEET, GIVEN_COMMAND, ADDRESS, DAEMON, CLIENT_NAME, SERVER_NAME, USER_NAME, ANSWERS, PROPOSAL, LENT_OUT, LENT_MARKED, LENT_GROUPS, POSITIONS };
+enum position { ALLOW, DENY, BYUID, PORTACL, TABLES, SHEET, OLD_SHEET, GIVEN_COMMAND, ADDRESS, DAEMON, CLIENT_NAME, SERVER_NAME, USER_NAME, ANSWERS, PROPOSAL, GIVEN_INDEX, REQUESTS, LENT_OUT, LENT_MARKED, LENT_GROUPS, POSITIONS };
 static struct {
     const void *start;
     size_t len;
@@ -716,7 +843,7 @@ static struct answers {
     struct gate_command_answer command, sheet_command;
     struct gate_checked check;
     struct gate_parts parts;
-    struct gate_written packed, upgraded, converted, expanded, written, proposed, dropped;
+    struct gate_written packed, upgraded, converted, expanded, written, proposed, dropped, indexed, decided;
     struct gate_written_two carried, salvaged;
     struct gate_next next;
     uint64_t address[3];
@@ -724,10 +851,10 @@ static struct answers {
 
 static void give_all(void) {
     const struct text *t[] = {&m.allow, &m.deny, &m.byuid, &m.portacl, &m.tables, &m.sheet, &m.old_sheet, &m.command, &m.address, &m.daemon,
-                              &m.client_name, &m.server_name, &m.user_name, &m.answers, &m.proposal};
+                              &m.client_name, &m.server_name, &m.user_name, &m.answers, &m.proposal, &m.index, &m.requests};
     begin();
     SET(server_name, "station");
-    for (int i = ALLOW; i <= PROPOSAL; i++)
+    for (int i = ALLOW; i <= REQUESTS; i++)
         given[i].start = t[i]->bytes, given[i].len = t[i]->len;
     given[LENT_OUT].start = m.out, given[LENT_OUT].len = sizeof m.out;
     given[LENT_MARKED].start = m.marked, given[LENT_MARKED].len = sizeof m.marked;
@@ -765,6 +892,8 @@ static void call_all(struct answers *a, uint32_t state) {
     a->next = gate_authbind(GIVEN_OUT, 80, read.kind, read.high, read.low, 432, GIVEN(ANSWERS));
     a->proposed = gate_propose(GIVEN_OUT, GIVEN(DENY), GIVEN(TABLES), GATE_DENY);
     a->dropped = gate_drop(GIVEN_OUT, GIVEN(DENY), GIVEN(TABLES), GATE_DENY, GIVEN(PROPOSAL));
+    a->indexed = gate_index(GIVEN_OUT, GIVEN(SHEET));
+    a->decided = gate_verdicts(GIVEN_OUT, GIVEN(SHEET), GIVEN(GIVEN_INDEX), GIVEN(REQUESTS));
     a->carried = gate_carry(GIVEN_OUT, (uint8_t *)given[LENT_MARKED].start, given[LENT_MARKED].len, GIVEN(PORTACL), 80);
     a->salvaged = gate_salvage(GIVEN_OUT, (uint8_t *)given[LENT_MARKED].start, given[LENT_MARKED].len, GIVEN(SHEET));
     a->address[0] = read.number, a->address[1] = read.high, a->address[2] = read.low;
@@ -827,6 +956,10 @@ static void null_answers(void) {
     expect("no proposal", without(PROPOSAL, 1)->dropped.number == GATE_ANSWERED && null.dropped.count == m.deny.len && null.proposed.number == GATE_ANSWERED);
     expect("no file to tidy", without(DENY, 1)->dropped.number == GATE_BAD_PROPOSAL && null.proposed.number == GATE_ANSWERED && null.proposed.count == 0);
     expect("no tables to tidy by", without(TABLES, 1)->dropped.number == GATE_CUT_SHORT && null.proposed.number == GATE_CUT_SHORT && null.proposed.section == GATE_TABLES);
+    expect("no index", without(GIVEN_INDEX, 1)->decided.number == GATE_WRONG_INDEX && null.indexed.number == GATE_ANSWERED);
+    expect("no requests", without(REQUESTS, 1)->decided.number == GATE_ANSWERED && null.decided.count == 0);
+    expect("no room for an index and for answers", without(LENT_OUT, 1)->indexed.number == GATE_NO_ROOM && null.decided.number == GATE_NO_ROOM);
+    expect("no sheet of which to write an index", without(SHEET, 1)->indexed.number == GATE_CUT_SHORT && null.decided.number == GATE_CUT_SHORT);
     expect("no command", without(GIVEN_COMMAND, 1)->expanded.number == GATE_ANSWERED && null.expanded.count == 0);
     expect("no address", without(ADDRESS, 1)->address[0] == GATE_BAD_REQUEST && null.written.number == GATE_BAD_REQUEST);
 }
@@ -941,6 +1074,11 @@ int main(void) {
     not_accepted();
     tidy_refusals();
     tidied_verdicts();
+    indexes();
+    many_verdicts();
+    verdict_refusals();
+    most_requests();
+    longest_index();
     no_address();
     nulls();
     null_answers();

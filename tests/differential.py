@@ -57,6 +57,7 @@ def load(path):
             ("portacl", portacl, Answer), ("sheet_portacl", portacl, Answer),
             ("authbind", out + bind + text, Next), ("carry", out * 2 + text + [U32], WrittenTwo), ("salvage", out * 2 + text, WrittenTwo),
             ("propose", out + text * 2 + [U32], Written), ("drop", out + text * 2 + [U32] + text, Written),
+            ("index", out + text, Written), ("verdicts", out + text * 3, Written),
             ("check", text, Check), ("unpack", text, Parts), ("pack", out + text * 5, Written), ("upgrade", out + text, Written), ("convert", out + text, Written),
             ("expand", out + text + request + [U32], Written),
             ("read_address", text, Address), ("write_address", out + [U32, U64, U64], Written)):
@@ -889,6 +890,108 @@ def address_text(rng):
     return text
 
 
+# Indexes and requests in bytes
+
+def indexed_texts(rng):
+    """five texts of a sheet that is mostly accepted, whose rules mostly match"""
+    kind = rng.random()
+    if kind < 0.2:
+        return texts_of(rng)
+    if kind < 0.35:
+        hosts, five = [b"10.", b"10.0.0.1", b"ALL", b"host", b"11.", b"/t", b"/u"], ref.section_five([(b"t", b"11. /u"), (b"u", b"net.example 10.")])
+        return [user_text(rng, hosts), user_text(rng, hosts) + rng.choice([b"", b"ALL: ALL\n"]), b"", b"", five]
+    if kind < 0.6:
+        return [tidy_text(rng, True, []), tidy_text(rng, True, []) + rng.choice([b"", command_line(rng)]), b"", b"", ref.NO_TABLES]
+    tables = sound_tables(rng)
+    names = [name for name, _ in tables]
+    allow, deny = naming_text(rng, True, names), naming_text(rng, True, names) + rng.choice([b"", b"ALL: ALL : \n", b"ALL: ALL: log %h\n"])
+    return [allow, deny, byuid_text(rng, 0), b"", ref.section_five(tables)]
+
+
+def indexed_sheet(rng):
+    texts = indexed_texts(rng)
+    return ref.sheet_of(texts) if rng.random() < 0.9 else sheet_of(rng, texts)
+
+
+def wrong_index(rng, index):
+    """one byte changed, cut or added, a number changed, entries in another order, one left out, one twice; that of another sheet"""
+    kind, entries = rng.randrange(9), [index[at:at + 32] for at in range(8, len(index), 32)]
+    if kind == 0:
+        at = rng.randrange(len(index))
+        return index[:at] + bytes([index[at] ^ 1 << rng.randrange(8)]) + index[at + 1:]
+    if kind == 1:
+        return index[:rng.choice([len(index) - 1, rng.randrange(len(index)), 8, 0])]
+    if kind == 2:
+        return index + rng.choice([b"\0", index[-1:], index[-32:], rng.randbytes(32)])
+    if kind == 3:
+        at = 4 * rng.randrange(len(index) // 4)
+        number = int.from_bytes(index[at:at + 4], "big") + rng.choice([-1, 1])
+        return index[:at] + (number & 0xffffffff).to_bytes(4, "big") + index[at + 4:]
+    if kind == 4:
+        rng.shuffle(entries)
+    elif kind == 5 and entries:
+        del entries[rng.randrange(len(entries))]
+    elif kind == 6 and entries:
+        entries.insert(rng.randrange(len(entries)), rng.choice(entries))
+    elif kind == 7:
+        other = ref.index(indexed_sheet(rng), 1 << 32)
+        return b"" if ref.refused(other) else other
+    else:
+        return index[4:8] + index[:4] + index[8:]
+    return index[:8] + b"".join(entries)
+
+
+def raw_request(rng, r):
+    """its bytes; where a name is not known there may be some beside it, which are not looked at, and where a field is bad it is so in any way"""
+    def text(value, known):
+        return ref.text_bytes(value if known else rng.choice([b"", b"", b"junk", b"j" * rng.choice([64, 65, 255])]))
+
+    def one_of(value, absent):
+        return 2 if isinstance(value, bytes) else rng.choice([3, 4, 127, 255]) if value == BAD else absent.index(value)
+
+    def host(value):
+        name, address = value
+        kind, high, low = address_args(rng, address)
+        kind = kind if kind < 256 else 255
+        return bytes([one_of(name, [None, False]), kind]) + high.to_bytes(8, "big") + low.to_bytes(8, "big") + text(name, isinstance(name, bytes))
+
+    user = r["user"]
+    return (ref.text_bytes(r["daemon"]) + host(r["client"]) + host(r["server"]) + bytes([one_of(user, ["not fetched", None])])
+            + text(user, isinstance(user, bytes)))
+
+
+def writable(r):
+    """a request whose texts have a count in one byte"""
+    texts = [r["daemon"], r["client"][0], r["server"][0], r["user"]]
+    return all(len(t) < 256 for t in texts if isinstance(t, bytes))
+
+
+def one_request(rng):
+    r = rng.choice([request, request, expansion_request, user_request])(rng)
+    while not writable(r):
+        r = request(rng)
+    if rng.random() < 0.05:
+        hosts = [(BAD, None), (b"", None), (None, BAD)]
+        fields = {"daemon": [b"", b"d" * 65], "client": hosts, "server": hosts, "user": [b"", b"u" * 65, BAD]}
+        name = rng.choice(list(fields))
+        r = dict(r, **{name: rng.choice(fields[name])})
+    return r
+
+
+def asked_together(rng):
+    """requests, and their bytes: so many, or one more than may be; whole, cut, or with bytes behind them"""
+    rs = [one_request(rng) for _ in range(rng.choice([0, 1, 1, 2, 3, 5, 8, 31, 32, 32, 33, 34] if rng.random() < 0.3 else [1, 2, 3, 4]))]
+    text, kind = b"".join(raw_request(rng, r) for r in rs), rng.random()
+    if kind < 0.05:
+        return None, text[:rng.randrange(len(text) + 1)]
+    if kind < 0.1:
+        return None, text + rng.choice([b"\0", b"\xff", rng.randbytes(rng.choice([1, 40, 41]))])
+    if kind < 0.13 and text:
+        at = rng.randrange(len(text))
+        return None, text[:at] + rng.randbytes(1) + text[at + 1:]
+    return rs, text
+
+
 # What each export is to be seen to answer
 
 FILES = {"4", "5", "6", "7", "8", "9", "10", "11"}
@@ -907,6 +1010,10 @@ KINDS = {
     "carry": {"answered", "2", "12", "13", "14"},
     "salvage": {"answered", "1", "2", "3", "14", "15", "17", "unchanged", "grown", "byuid", "portacl"}
                | {f"{section} {what}" for section in ("allow", "deny") for what in (*range(4, 12), 15, 16, "continued", "comment")},
+    "index": {"answered", "14", "no rule", "continued", "command", "comment"} | SHEET,
+    "verdicts": {"answered", "13", "14", "21", "of none", "of 1", "of 31", "of 32", "33 and more", "cut", "bad among good", "each bad"} | SHEET
+                | {f"its {word}" for word in ("granted", "denied", "ask", "no rule", "13")}
+                | {f"a wrong index {what}" for what in ("shorter", "longer", "as long")},
     "propose": {"answered", "1", "2", "3", "13", "14"} | FILES | TABLES, "drop": {"answered", "1", "2", "3", "13", "14", "20", "granted", "denied", "ask", "moved"} | FILES | TABLES,
     "authbind": {"test", "read", "granted", "denied", "not ruled", "13", "14", "18", "19"},
     "check": SHEET | {"sheet ok"}, "unpack": SHEET | {"answered"}, "pack": {"answered", "14"} | SHEET,
@@ -1178,6 +1285,82 @@ def run_block(library, seed, names, turns):
             for proposal in (ref.proposal_of(numbers[::-1]), expected * 20, expected + b"\0", expected + b"\0\0\0\1", b"\0\0\0\1" * 50000):
                 compare_drop(2, text, ref.NO_TABLES, proposal, 16384)
 
+    def compare_index(sheet, room):
+        expected = ref.index(sheet, room)
+        compare("index", written(rng, room, lib.gate_index, *sized(sheet)), expected, sheet[:2000], room)
+        if ref.refused(expected):
+            return
+        parts = ref.unpack(sheet)[:2]
+        lines = [line for place, n in parts for line in ref.lines(sheet[place:place + n])]
+        rules = [line for place, n in parts for line, _ in ref.rules_in(sheet[place:place + n])]
+        seen["index"] |= ({"no rule"} if not rules else set()) | ({"comment"} if len(lines) > len(rules) else set())
+        seen["index"] |= {"continued" for line in rules if b"\n" in line.raw} | {"command" for line in rules if len(ref.separators(line.raw)) > 1}
+
+    def lone_bytes(sheet, r):
+        """what the lone call answers, as bytes: its own place too where there is no command"""
+        a = lib.gate_sheet_verdict(*sized(sheet), *request_args(rng, r))
+        return ref.number_bytes(a.number, a.section, a.line, a.word, a.file, a.place, a.len) + a.looked.to_bytes(8, "big")
+
+    def compare_verdicts_by(sheet, given, rs, requests, room):
+        expected = ref.verdicts(sheet, given, requests, room)
+        got = written(rng, room, lib.gate_verdicts, *sized(sheet), *sized(given), *sized(requests))
+        compare("verdicts", got, expected, sheet[:2000], given[:2000], requests[:2000], room)
+        if ref.refused(expected):
+            seen["verdicts"] |= {"33 and more"} if expected[0] == 13 and rs and len(rs) > ref.REQUESTS else {"cut"} if expected[0] == 13 else set()
+            return
+        if rs is not None:
+            compare("verdicts", got, b"".join(lone_bytes(sheet, r) for r in rs), sheet, rs)
+        answers = [expected[at:at + ref.ANSWER_BYTES] for at in range(0, len(expected), ref.ANSWER_BYTES)]
+        bad = [answer[3] == 13 for answer in answers]
+        seen["verdicts"].add(f"of {len(answers) or 'none'}")
+        if any(bad):
+            seen["verdicts"].add("each bad" if all(bad) else "bad among good")
+        seen["verdicts"] |= {"its 13" if answer[3] else "its no rule" if not answer[19] else f"its {WORDS[answer[15]]}" for answer in answers}
+
+    def index_case():
+        """a sheet's index, and requests by it, by a wrong one, and with too little room"""
+        sheet = indexed_sheet(rng)
+        compare_index(sheet, room_for(rng, ref.index(sheet, 1 << 32)))
+        right = ref.index(sheet, 1 << 32)
+        rs, requests = asked_together(rng)
+        given = rng.randbytes(rng.choice([0, 8, 40])) if ref.refused(right) else right if rng.random() < 0.8 else wrong_index(rng, right)
+        if not ref.refused(right) and given != right:
+            seen["verdicts"].add("a wrong index " + ("shorter" if len(given) < len(right) else "longer" if len(given) > len(right) else "as long"))
+        exact = ref.verdicts(sheet, given, requests, 1 << 32)
+        room = room_for(rng, exact) if rng.random() < 0.3 else 40 if ref.refused(exact) else len(exact)
+        compare_verdicts_by(sheet, given, rs, requests, room)
+
+    def every_index_case():
+        """of a short sheet: its index with each byte changed, cut at each place, with a byte behind it; requests cut at each place"""
+        sheet = indexed_sheet(rng)
+        right = ref.index(sheet, 1 << 32)
+        if ref.refused(right) or len(right) > 8 + 32 * 8:
+            return
+        rs = [one_request(rng) for _ in range(2)]
+        requests = b"".join(raw_request(rng, r) for r in rs)
+        for at in range(len(right)):
+            compare_verdicts_by(sheet, right[:at], rs, requests, 72)
+            compare_verdicts_by(sheet, right[:at] + bytes([right[at] ^ 1 << rng.randrange(8)]) + right[at + 1:], rs, requests, 72)
+        compare_verdicts_by(sheet, right + b"\0", rs, requests, 72)
+        for at in range(len(requests)):
+            compare_verdicts_by(sheet, right, None, requests[:at], 72)
+        for room in (0, 35, 36, 71, 72, 73):
+            compare_verdicts_by(sheet, right, rs, requests, room)
+
+    def vast_index_cases():
+        """files of the most rules, of rules over many lines, and three hundred of which the last matches"""
+        far = b"".join(b"sshd%d: 10.%d.\n" % (i, i % 256) for i in range(300))
+        pairs = [(far, b"ALL: ALL: log %h\n"), (b"", far + b"ALL: ALL\n"), (b"# x\n" * 4096, b"\n" * 16384)]
+        for allow, deny in [(text, text) for text in vast_texts()] + pairs:
+            sheet = ref.sheet_of([allow, deny, b"", b"", ref.NO_TABLES])
+            right = ref.index(sheet, 1 << 32)
+            for room in (len(right), len(right) - 1):
+                compare_index(sheet, room)
+            rs = [one_request(rng) for _ in range(32)]
+            compare_verdicts_by(sheet, right, rs, b"".join(raw_request(rng, r) for r in rs), 32 * 36)
+            for given in (right[:-1], right + b"\0", right[:-1] + bytes([right[-1] ^ 1]), bytes(len(right)), b""):
+                compare_verdicts_by(sheet, given, [], b"", 0)
+
     def portacl_request():
         settings = dict(enabled=rng.choice([0, 1, 1, 1, 2]), port_high=rng.choice([0, 79, 80, 1023, 1023, 65535, 2 ** 32 - 1]),
                         suser_exempt=rng.choice([0, 1, 7]), autoport_exempt=rng.choice([0, 1, 7]))
@@ -1228,8 +1411,8 @@ def run_block(library, seed, names, turns):
         compare("write_address", written(rng, room, lib.gate_write_address, *address_args(rng, address)), ref.write_address(address, room), address, room)
 
     every = {1: [hosts_case, tables_case, user_cases, upgrade_case, prefix_cases, mapped_cases, port_cases, convert_case, authbind_case, carry_case, salvage_case,
-                 tidy_case, sheet_cases, expand_case, address_cases],
-             100: [every_proposal_case], 1000: [cut_cases, crowd_cases], 1 << 32: [vast_cases, vast_tidy_cases]}
+                 tidy_case, index_case, sheet_cases, expand_case, address_cases],
+             100: [every_proposal_case, every_index_case], 1000: [cut_cases, crowd_cases], 1 << 32: [vast_cases, vast_tidy_cases, vast_index_cases]}
     for turn in turns:
         for case in (case for step in every if turn % step == 0 for case in every[step] if not names or case.__name__ in names):
             rng.seed(f"{seed} {case.__name__} {turn}")

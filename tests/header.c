@@ -190,6 +190,69 @@ static void names_matter(void) {
     expect("the word", !strcmp(gate_word_text(GATE_NAME_MATTERS), "name matters"));
 }
 
+/* Each request by the sheet and its index as by the sheet alone, all at once and one by one. */
+static int all_as_alone(const struct gate_request *requests, size_t count) {
+    static uint8_t index[GATE_INDEX_ROOM];
+    struct gate_answer answers[GATE_REQUESTS];
+    struct gate_written w = gate_index(index, sizeof index, sheet, sheet_len);
+    struct gate_checked c = gate_verdicts_for(answers, sheet, sheet_len, index, (size_t)w.count, requests, count);
+    size_t i;
+    if (w.number != GATE_ANSWERED || c.number != GATE_ANSWERED || c.section || c.line)
+        return 0;
+    for (i = 0; i < count; i++) {
+        struct gate_answer a = gate_sheet_verdict_for(sheet, sheet_len, &requests[i]);
+        const struct gate_answer *b = &answers[i];
+        if (a.number != b->number || a.section != b->section || a.line != b->line || a.word != b->word || a.file != b->file || a.place != b->place ||
+            a.len != b->len || a.looked != b->looked)
+            return 0;
+    }
+    return 1;
+}
+
+static void together(void) {
+    static char over[300];
+    struct gate_request r[GATE_REQUESTS + 1];
+    struct gate_answer answers[1];
+    uint8_t index[8 + 32 * 8], out[GATE_REQUEST_ROOM];
+    size_t i, len = (size_t)gate_index(index, sizeof index, sheet, sheet_len).count;
+    memset(over, 'n', sizeof over);
+    expect("no requests", all_as_alone(r, 0));
+    for (i = 0; i <= GATE_REQUESTS; i++) {
+        r[i] = request_to(i % 3 ? "sshd" : "console");
+        if (i % 4 == 1)
+            gate_host_set_name(&r[i].client, i % 8 == 1 ? "van7.vans.example" : over, i % 8 == 1 ? 17 : 255);
+        if (i % 5 == 2)
+            gate_request_set_user(&r[i], "fitter", 6);
+    }
+    gate_host_set_paranoid(&r[3].client), r[3].daemon = "lock", r[3].daemon_len = 4;
+    r[4].client.name = r[4].server.name = r[4].user_name = unreadable, r[4].client.name_len = r[4].user_name_len = 40;
+    r[6].daemon = NULL, r[6].daemon_len = 0;
+    r[7].daemon = over, r[7].daemon_len = 65;
+    r[8].daemon = over, r[8].daemon_len = 300;
+    gate_host_set_name(&r[9].client, over, 256);
+    gate_host_set_name(&r[10].server, "", 0);
+    r[11].client.name_state = 258, r[12].server.name_state = 256, r[13].client.kind = 260, r[14].server.kind = 0x10000, r[15].user = 257, r[16].user = 3;
+    r[17].client.low = (uint64_t)1 << 32;
+    gate_request_set_user(&r[18], over, 65);
+    gate_request_set_user(&r[19], over, 300);
+    gate_request_set_user(&r[20], "", 0);
+    r[21].client.kind = GATE_NO_ADDRESS;
+    r[22].client = gate_host_unknown(), r[22].server.kind = GATE_IPV6, r[22].server.high = (uint64_t)-1, r[22].server.low = 1;
+    expect("32 requests, bad ones among them", all_as_alone(r, GATE_REQUESTS));
+    expect("each alone", all_as_alone(r, 1) && all_as_alone(r + 31, 1));
+    expect("33", gate_verdicts_for(answers, sheet, sheet_len, index, len, r, GATE_REQUESTS + 1).number == GATE_BAD_REQUEST);
+    expect("the index before that", gate_verdicts_for(answers, sheet, sheet_len, index, len - 1, r, GATE_REQUESTS + 1).number == GATE_WRONG_INDEX);
+    expect("no index", gate_verdicts_for(answers, sheet, sheet_len, NULL, 0, r, 1).number == GATE_WRONG_INDEX);
+    expect("no sheet", gate_verdicts_for(answers, NULL, 0, NULL, 0, NULL, 0).number == GATE_CUT_SHORT &&
+           gate_verdicts_for(answers, NULL, 0, NULL, 0, NULL, 0).section == GATE_ALLOW);
+    r[0].daemon = over, r[0].daemon_len = 255, r[0].user = GATE_USER_KNOWN, r[0].user_name = over, r[0].user_name_len = 255;
+    gate_host_set_name(&r[0].client, over, 255), gate_host_set_name(&r[0].server, over, 255);
+    expect("the longest request", gate_request_write(out, sizeof out, &r[0]).count == GATE_REQUEST_ROOM);
+    expect("in less room", gate_request_write(out, sizeof out - 1, &r[0]).number == GATE_NO_ROOM && gate_request_write(NULL, 0, &r[0]).number == GATE_NO_ROOM);
+    r[0] = gate_request_to(NULL, 0);
+    expect("the shortest", gate_request_write(out, 41, &r[0]).count == 41 && gate_request_write(out, 40, &r[0]).number == GATE_NO_ROOM);
+}
+
 /* Names that are not known are not read, whatever stands beside them. */
 static void unread(void) {
     struct gate_request r = request_to("console");
@@ -305,12 +368,12 @@ int main(void) {
     with_tables();
     users();
     names_matter();
+    together();
     unread();
     commands();
     ports();
     settings();
-    expect("texts of the numbers", texts(gate_number_text, GATE_BAD_PROPOSAL) && !strcmp(gate_number_text(10), "no element kind fits"));
-    expect("the text of the last number", strcmp(gate_number_text(GATE_RETIRED_FORM), gate_number_text(GATE_RETIRED_FORM + 1)) != 0);
+    expect("texts of the numbers", texts(gate_number_text, GATE_RETIRED_FORM) && !strcmp(gate_number_text(10), "no element kind fits"));
     expect("texts of the words", texts(gate_word_text, GATE_NAME_MATTERS) && !strcmp(gate_word_text(GATE_NOT_RULED), "not ruled"));
     expect("texts of the sections", texts(gate_section_text, GATE_TABLES) && !strcmp(gate_section_text(GATE_BYUID), "byuid"));
     if (!failed)

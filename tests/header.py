@@ -21,10 +21,10 @@ HEADER, EXPORTS, STRUCTS = "include/gate.h", "crates/gate/src/lib.rt", "crates/c
 FAULTS, SECTIONS = "crates/section/specs/Refusal.antt", "crates/section/specs/Section.antt"
 ANSWERS, REQUESTS = "crates/codes/specs/Answers.antt", "crates/codes/specs/Requests.antt"
 FIELDS, LINES, GROUPS = "crates/elements/specs/Request.antt", "crates/lines/specs/Line.antt", "crates/portacl/specs/Portacl.antt"
-TABLES = "crates/tables/specs/Table.antt"
+TABLES, INDEX = "crates/tables/specs/Table.antt", "crates/index/specs/Index.antt"
 CALLERS = {"tests/calls.c": "gate_%s(", "tests/stack.c": '"gate_%s"', "tests/differential.py": '("%s",'}
 ORDER = "crates/authbind/specs/Authbind.antt"
-FILES = [HEADER, EXPORTS, STRUCTS, FAULTS, SECTIONS, ANSWERS, REQUESTS, FIELDS, LINES, GROUPS, TABLES, ORDER]
+FILES = [HEADER, EXPORTS, STRUCTS, FAULTS, SECTIONS, ANSWERS, REQUESTS, FIELDS, LINES, GROUPS, TABLES, INDEX, ORDER]
 
 SLICES = {"&[u8]": "const uint8_t *", "&mut [u8]": "uint8_t *", "&[u32]": "const uint32_t *"}
 NUMBERS = {"u32": "uint32_t", "u64": "uint64_t"}
@@ -148,6 +148,14 @@ def numbers(text):
     return told
 
 
+def answer_size(text):
+    """of an answer's bytes: pairs of four, and numbers by their digits of 256"""
+    body = re.search(r"^answerBytes a =\n((?: .*\n)+)", text[INDEX], re.M)
+    if not body:
+        raise Disagreement("no definition of an answer's bytes")
+    return 8 * body.group(1).count("twoBytes ") + sum(int(n) for n in re.findall(r"toDigits 256 (\d+)", body.group(1)))
+
+
 def limits(text):
     """{macro: number} of sizes; those of outputs follow from the others"""
     fields, found = text[FIELDS], {f"GATE_{name}_LIMIT": limit for name, (_, limit) in sections(text).items()}
@@ -165,6 +173,11 @@ def limits(text):
     most_changed = {"ALLOW": (0, len("x\n")), "DENY": (0, len("ALL: ALL\n")), "BYUID": (1, len("0.0.0.0/0:0,0\n")), "PORTACL": (1, len(","))}
     found["GATE_CHANGES_ROOM"] = 8 * sum((found[f"GATE_{name}_LIMIT"] + unended) // least for name, (unended, least) in most_changed.items())
     found["GATE_TIDY_ROOM"] = max(found["GATE_ALLOW_LIMIT"], found["GATE_DENY_LIMIT"])
+    found["GATE_INDEX_ROOM"] = 8 + 32 * sum(found[f"GATE_{name}_LIMIT"] // len("a:b\n") for name in ("ALLOW", "DENY"))
+    found["GATE_REQUESTS"] = constant(text[INDEX], r"^readRequests t = parted (\d+) t$", "the most requests")
+    name_at = constant(text[INDEX], r"^readHost t = do\n  h ← cut (\d+) t\n", "a host's numbers")
+    found["GATE_REQUEST_ROOM"] = 256 + 2 * (name_at + 256) + 1 + 256
+    found["GATE_ANSWER_BYTES"] = answer_size(text)
     found["GATE_AUTHBIND_ROOM"] = len("/etc/authbind/byaddr/!") + found["GATE_ADDRESS_ROOM"] + len(",1023")
     most = max(found["GATE_DAEMON_LIMIT"], found["GATE_USER_LIMIT"]) + 1 + found["GATE_NAME_LIMIT"]
     found["GATE_EXPANSION_ROOM"] = line // 2 * most + line % 2
@@ -274,7 +287,18 @@ PLANTED = [
     (HEADER, "gate_carry(uint8_t *plain, size_t plain_len, uint8_t *marked, size_t marked_len", "gate_carry(uint8_t *marked, size_t marked_len, uint8_t *plain, size_t plain_len"),
     (HEADER, "GATE_DENY_LIMIT / 9", "GATE_DENY_LIMIT / 10"),
     (HEADER, "gate_salvage(uint8_t *out, size_t out_len, uint8_t *list, size_t list_len", "gate_salvage(uint8_t *list, size_t list_len, uint8_t *out, size_t out_len"),
-    (HEADER, "GATE_BAD_PROPOSAL = 20,", "GATE_BAD_PROPOSAL = 21,"),
+    (HEADER, "GATE_BAD_PROPOSAL = 20,", "GATE_BAD_PROPOSAL = 23,"),
+    (HEADER, "GATE_WRONG_INDEX = 21,", "GATE_WRONG_INDEX = 23,"),
+    (HEADER, "struct gate_written gate_index(", "struct gate_written gate_list("),
+    (HEADER, "const uint8_t *index, size_t index_len,\n", "const uint8_t *list, size_t list_len,\n"),
+    (HEADER, "const uint8_t *requests, size_t requests_len);", "size_t requests_len, const uint8_t *requests);"),
+    (HEADER, "GATE_ALLOW_LIMIT / 4 + GATE_DENY_LIMIT / 4", "GATE_ALLOW_LIMIT / 5 + GATE_DENY_LIMIT / 5"),
+    (HEADER, "GATE_REQUESTS 32", "GATE_REQUESTS 33"),
+    (HEADER, "GATE_REQUEST_ROOM (41 + 4 * 255)", "GATE_REQUEST_ROOM (41 + 4 * 256)"),
+    (HEADER, "GATE_ANSWER_BYTES 36", "GATE_ANSWER_BYTES 32"),
+    (INDEX, "parted 32 t", "parted 31 t"),
+    (INDEX, "toDigits 256 8 (a .looked)", "toDigits 256 4 (a .looked)"),
+    (EXPORTS, "pub extern \"C\" fn gate_verdicts", "pub extern \"C\" fn gate_answers"),
     (HEADER, "GATE_TIDY_ROOM GATE_ALLOW_LIMIT", "GATE_TIDY_ROOM GATE_BYUID_LIMIT"),
     (HEADER, "struct gate_written gate_propose(", "struct gate_written gate_offer("),
     (HEADER, "uint32_t section, const uint8_t *proposal, size_t proposal_len);", "const uint8_t *proposal, size_t proposal_len, uint32_t section);"),

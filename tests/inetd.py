@@ -1,7 +1,9 @@
 #!/usr/bin/env python3
 """inetd.py PROGRAM: example/inetd.c with real connections on 127.0.0.1 and ::1, a stand-in ident server of its own, and a sheet that is
-sound, cut, refused, missing and replaced while it runs; then 2,000 connections, 16 at a time, each answer compared. Ends by itself."""
+sound, cut, refused, missing and replaced while it runs; bursts of connections that are asked for together, by an index that is made again when
+the sheet changes; then 2,000 connections, 16 at a time, each answer compared. Ends by itself."""
 import concurrent.futures
+import contextlib
 import os
 import pathlib
 import signal
@@ -96,15 +98,40 @@ class Inetd:
         beside.write_bytes(sheet)
         os.replace(beside, self.sheet)
 
-    def connect(self, address):
-        """what a client at the address is told, and the client's port"""
-        with socket.socket(FAMILIES[address]) as client:
-            client.settimeout(10)
-            client.connect((address, self.ports[address]))
+    def open(self, address):
+        """a client at the address, which waits"""
+        client = socket.socket(FAMILIES[address])
+        client.settimeout(10)
+        client.connect((address, self.ports[address]))
+        return client
+
+    @staticmethod
+    def told(client):
+        """what it is told, and its port"""
+        with client:
             port, told = client.getsockname()[1], b""
             while chunk := client.recv(100):
                 told += chunk
             return told, port
+
+    def connect(self, address):
+        """what a client at the address is told, and the client's port"""
+        return self.told(self.open(address))
+
+    def logged(self, before=""):
+        """the lines behind those: of connections, and the program's own"""
+        lines = self.log.read_text()[len(before):].split("\n")[:-1]
+        return [line for line in lines if not line.startswith("inetd: ")], [line for line in lines if line.startswith("inetd: ")]
+
+    @contextlib.contextmanager
+    def stopped(self):
+        """connections that are opened within it wait together"""
+        self.process.send_signal(signal.SIGSTOP)
+        os.waitid(os.P_PID, self.process.pid, os.WSTOPPED | os.WNOWAIT)
+        try:
+            yield
+        finally:
+            self.process.send_signal(signal.SIGCONT)
 
     def end(self):
         self.process.terminate()
@@ -121,9 +148,9 @@ class Tests:
         self.ran += 1
         before, asked = self.inetd.log.read_text(), len(self.ident.queries)
         answer, port = self.inetd.connect(address)
-        line = self.inetd.log.read_text()[len(before):]
-        if answer != told or not line.endswith(logged + "\n") or line.count("\n") != 1 or not line.startswith("console: "):
-            fail(f"{what}: told {answer}, logged {line!r}, not {told} and {logged!r}")
+        lines, _ = self.inetd.logged(before)
+        if answer != told or len(lines) != 1 or not lines[0].endswith(logged) or not lines[0].startswith("console: "):
+            fail(f"{what}: told {answer}, logged {lines}, not {told} and {logged!r}")
         new = self.ident.queries[asked:]
         if new != [b"%d,%d\r\n" % (port, self.inetd.ports[address])] * queries:
             fail(f"{what}: asked the ident server {new}")
@@ -221,12 +248,70 @@ class Tests:
         self.inetd.replace(good)
         self.expect("a sheet again", "::1", GRANTED, "granted, allow line 1")
 
+    def made(self, what, sheet, address, told, logged, index):
+        """one connection by a sheet, and the index that is made for it: a number of rules, or None where the kept one is the sheet's"""
+        self.inetd.replace(sheet)
+        before = self.inetd.log.read_text()
+        self.expect(what, address, told, logged)
+        _, own = self.inetd.logged(before)
+        if own != ([] if index is None else [f"inetd: index of {index} rules made"]):
+            fail(f"{what}: {own}, not {index}")
+
+    def indexes(self):
+        """made at the first connection, again where a rule begins or ends elsewhere, and else kept; a sheet that is refused has none"""
+        rules, granted = b"sshd: ALL\nconsole: 127.0.0.1\n", "127.0.0.1: granted, allow line 2"
+        good = sheet_of(rules)
+        self.made("an index", sheet_of(b"console: ALL\n"), "::1", GRANTED, "granted, allow line 1", 2)
+        self.made("another", good, "127.0.0.1", GRANTED, granted, 3)
+        self.made("the same sheet", good, "127.0.0.1", GRANTED, granted, None)
+        self.made("the same bytes in another file", good, "::1", REFUSED, "denied, deny line 1, would run: log denied ::1", None)
+        self.made("rules at the same places", sheet_of(rules.replace(b"127", b"128")), "127.0.0.1", REFUSED,
+                  "denied, deny line 1, would run: log denied 127.0.0.1", None)
+        self.made("other tables alone", sheet_of(rules, tables=[(b"t", b"host")]), "127.0.0.1", GRANTED, granted, None)
+        self.made("rules a byte further", sheet_of(b"\n" + rules), "127.0.0.1", GRANTED, "granted, allow line 3", 3)
+        self.made("one rule more", sheet_of(rules + b"x: y\n"), "127.0.0.1", GRANTED, granted, 4)
+        self.made("a cut sheet", good[:-1], "127.0.0.1", REFUSED, "refused 1 (the sheet ends within a section), section 5 (tables), line 0", None)
+        self.made("a sheet without rules", sheet_of(b"", b""), "127.0.0.1", GRANTED, "granted, no rule, line 0", 0)
+        self.made("the first again", good, "127.0.0.1", GRANTED, granted, 3)
+
+    def bursts(self):
+        """connections that wait together are asked for together, 32 at most, each answered as alone; one that waits for its user holds up none"""
+        self.inetd.replace(sheet_of(b"console: 127.0.0.1: log %a\nconsole: fitter@[::1]\n"))
+        self.ident.answer = lambda query: None
+        before, addresses = self.inetd.log.read_text(), (["127.0.0.1"] * 3 + ["::1"]) * 10
+        with self.inetd.stopped():
+            clients = [(address, self.inetd.open(address)) for address in addresses]
+        began = time.monotonic()
+        answers = [(address, self.inetd.told(client)[0]) for address, client in clients if address == "127.0.0.1"]
+        if time.monotonic() - began > TIMEOUT / 2:
+            fail(f"a burst: granted connections waited {time.monotonic() - began} s for others")
+        answers += [(address, self.inetd.told(client)[0]) for address, client in clients if address == "::1"]
+        self.ran += len(answers)
+        lines, own = self.inetd.logged(before)
+        if any(told != (GRANTED if address == "127.0.0.1" else REFUSED) for address, told in answers):
+            fail(f"a burst: {answers}")
+        granted = sum(line == "console: 127.0.0.1: granted, allow line 1, would run: log 127.0.0.1" for line in lines)
+        denied = sum(line == "console: ::1: denied, deny line 1, would run: log denied ::1" for line in lines)
+        if (granted, denied, len(lines)) != (30, 10, 40):
+            fail(f"a burst: logged {lines}")
+        if own != ["inetd: index of 3 rules made", "inetd: 32 connections at once", "inetd: 8 connections at once"]:
+            fail(f"a burst: {own}")
+        before = self.inetd.log.read_text()
+        self.inetd.replace(sheet_of(b"")[:-1])
+        with self.inetd.stopped():
+            clients = [self.inetd.open("::1") for _ in range(5)]
+        told = [self.inetd.told(client)[0] for client in clients]
+        lines, own = self.inetd.logged(before)
+        refusal = "console: ::1: refused 1 (the sheet ends within a section), section 5 (tables), line 0"
+        if told != [REFUSED] * 5 or lines != [refusal] * 5 or own != ["inetd: 5 connections at once"]:
+            fail(f"a burst by a cut sheet: {told}, {lines}, {own}")
+
     def load(self):
         """connections while the sheet is replaced over and over, by sheets that say the same at other places"""
         sheets = [sheet_of(b"#" * n + b"\nconsole: fitter@127.0.0.1, [::1]: run %c\n") for n in (1, 700, 2000)]
         self.inetd.replace(sheets[0])
         self.ident.answer = lambda query: userid(b"fitter" if is_fitter(int(query.split(b",")[0])) else b"stranger")(query)
-        before = len(self.inetd.log.read_text().split("\n"))
+        before = self.inetd.log.read_text()
 
         def one(i):
             address = "::1" if i % 4 == 0 else "127.0.0.1"
@@ -242,11 +327,11 @@ class Tests:
                 time.sleep(0.002)
         answers = [job.result() for job in jobs]
         wrong = [pair for pair in answers if pair[0] != pair[1]]
-        lines = self.inetd.log.read_text().split("\n")[before - 1:-1]
+        lines, own = self.inetd.logged(before)
         granted = sum(told == GRANTED for told, _ in answers)
         if wrong or len(lines) != CONNECTIONS or sum(": granted, allow line 2" in line for line in lines) != granted:
             fail(f"under load: {len(wrong)} wrong answers, as {wrong[:3]}; {len(lines)} lines logged")
-        return granted, turn
+        return granted, turn, sum("index of 2 rules made" in line for line in own)
 
 
 def is_fitter(port):
@@ -275,6 +360,8 @@ def single(tests):
     tests.unasked()
     tests.unanswered()
     tests.refusals()
+    tests.indexes()
+    tests.bursts()
 
 
 def no_ident_server(tests):
@@ -287,8 +374,9 @@ def main():
     program, ident = sys.argv[1], Ident()
     _, compared = running(program, ident, ident.port, single)
     _, more = running(program, ident, free_port(), no_ident_server)
-    (granted, replaced), _ = running(program, ident, ident.port, Tests.load)
-    print(f"inetd: {compared + more} connections as expected; {CONNECTIONS} under load, {granted} granted, the sheet replaced {replaced} times")
+    (granted, replaced, made), _ = running(program, ident, ident.port, Tests.load)
+    print(f"inetd: {compared + more} connections as expected; {CONNECTIONS} under load, {granted} granted, the sheet replaced {replaced} times, "
+          f"its index made {made} times")
 
 
 main()

@@ -12,7 +12,7 @@ import tempfile
 top = pathlib.Path(__file__).resolve().parent.parent
 FILES = {"lib/libgate.a": 0o644, "lib/pkgconfig/libgate.pc": 0o644, "include/gate.h": 0o644, "bin/gate": 0o755, "bin/checker": 0o755,
          "bin/upgrader": 0o755, "bin/converter": 0o755, "share/man/man1/converter.1": 0o644, "share/man/man1/gate.1": 0o644, "share/man/man1/checker.1": 0o644, "share/man/man1/upgrader.1": 0o644,
-         "share/man/man3/libgate.3": 0o644, "share/man/man5/station-sheet.5": 0o644}
+         "share/man/man3/libgate.3": 0o644, "share/man/man5/station-sheet.5": 0o644, "share/man/man5/station-index.5": 0o644}
 PROGRAM = """#include <gate.h>
 #include <stdio.h>
 int main(void) {

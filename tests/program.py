@@ -34,7 +34,7 @@ TEXTS = [(TOP / "sample" / name).read_bytes() for name in NAMES]
 SHEET_LIMIT = 57360
 SHEET = ref.pack(TEXTS + [ref.NO_TABLES], SHEET_LIMIT)
 OLD_SHEET = SHEET[:-2]
-COMMANDS = ("check", "match", "byuid", "portacl", "authbind", "pack", "unpack", "fleet", "upgrade", "convert", "carry", "salvage", "tidy", "explain", "test")
+COMMANDS = ("check", "match", "byuid", "portacl", "authbind", "pack", "unpack", "fleet", "upgrade", "convert", "carry", "salvage", "tidy", "index", "explain", "test")
 PAGE = os.sysconf("SC_PAGE_SIZE")
 runs, failures, statuses, skipped = 0, [], set(), []
 
@@ -100,7 +100,8 @@ MISREAD = {
             ["--name", ""], ["--name="], ["--name", "n" * 256], ["--name", "unknown"], ["--name", "PARANOID"], ["--name", "a", "--paranoid"],
             ["--name", "a", "--name", "b"], ["--name"], ["--nam", "a"], ["--paranoid=1"], ["--process", "-1"], ["--process", "4294967296"],
             ["--process", "0x10"], ["--process", "1 "], ["--process", ""], ["--process", "01"], ["--server-name", "a", "--server-paranoid"],
-            ["--user", "a"], ["-x"], ["-qx"], ["10.0.0.1"])),
+            ["--user", "a"], ["-x"], ["-qx"], ["10.0.0.1"], ["--index"], ["--index", ""], ["--index", SAMPLE], ["--index", SAMPLE + "/none"],
+            ["--index", SAMPLE + "/byuid"], ["--index", "-"], ["--index", SAMPLE + "/byuid", "--index", SAMPLE + "/byuid"])),
         ["sshd", "fitter@10.20.30.40", "--unknown-user"], ["sshd"], [],
     ],
     "byuid": [
@@ -135,13 +136,15 @@ def test_misread():
         expect(f"carry {case} is an error", gate("carry", *case), 2, b"", "gate: ")
     for case in ([], ["s"], ["s", "n", "x"], ["-", ""], ["-", "."], ["-", "n", "--tables", "."], ["s", "n", "-f"], ["-", "s", "-Q"]):
         expect(f"salvage {case} is an error", gate("salvage", *case), 2, b"", "gate: ")
+    for case in ([], ["s"], ["s", "i", "x"], [SAMPLE, "i"], ["-", "i"], ["-", ""], ["-", "."], ["s", "i", "--tables", "."], ["s", "i", "-f"], ["-", "i", "-Q"]):
+        expect(f"index {case} is an error", gate("index", *case), 2, b"", "gate: ")
     deny = SAMPLE + "/hosts.deny"
     for case in ([], [SAMPLE], [SAMPLE + "/byuid"], ["-"], [deny, "--as"], [deny, "--as", ""], [deny, "--as", "hosts.deny"], [deny, "--as", "DENY"], [deny, "n", "x"], [deny, ""],
                  [deny, "."], [deny, "--lines", "1"], [deny, "n", "--lines"], [deny, "n", "--lines", ""], [deny, "n", "--lines", "1,"], [deny, "n", "--lines", ",1"],
                  [deny, "n", "--lines", "1 "], [deny, "n", "--lines", "01"], [deny, "n", "--lines", "-1"], [deny, "n", "--lines", "x"], [deny, "n", "--lines", "4294967296"],
                  [deny, "n", "--lines", ",".join(["1"] * 4097)], [deny, "--tables", SAMPLE + "/none"], [SAMPLE + "/none/hosts.deny"], [SAMPLE, "--as", "deny"]):
         expect(f"tidy {case} is an error", gate("tidy", *case), 2, b"", "gate: ")
-    for case in (["21"], ["23"], ["x"], ["-1"], ["010"], [""], ["1", "2"], ["4294967306"]):
+    for case in (["23"], ["x"], ["-1"], ["010"], [""], ["1", "2"], ["4294967306"]):
         expect(f"explain {case} is an error", gate("explain", *case), 2, b"", "gate: ")
     for case in ([], ["chek"], [""], ["-q"], ["--Version"], ["--version", "x"], ["check"], ["check", SAMPLE, SAMPLE], ["pack", SAMPLE], ["unpack", "x"],
                  ["test", SAMPLE], ["fleet", SAMPLE], ["upgrade", "x"], ["convert", "x"], ["fleet", FLEET, "--tables", FLEET + "/tables"], ["check", "--warning", SAMPLE], ["check", "-q", "-q", SAMPLE], ["check", "--quiet=1", SAMPLE]):
@@ -438,7 +441,7 @@ def test_authbind(folder):
 def test_explain(folder):
     expect("explain lists all", gate("explain"), 0, "\n14  ", b"")
     expect("explain lists the last", gate("explain"), 0, "\n22  ", b"")
-    for number in [*range(21), 22]:
+    for number in range(23):
         done = gate("explain", str(number))
         expect(f"explain {number}", done, 0, "What to do", b"")
         example = re.search(rb"Example, in (hosts.allow|portacl|byuid|a table):\n    (.*)\n", done.stdout)
@@ -467,7 +470,7 @@ def test_requests(folder):
     expect("what differs is shown", gate("test", SAMPLE, requests(b"\n" + van + b" => denied\n")), 1, "1 request, 1 not as expected\n",
            "requests:2: not as expected: %s\n    expected  denied\n    answered  granted hosts.allow:2:\n" % van.decode())
     for line in (b"match sshd", b"verdict a b", van, b"=> granted", b"byuid www-data ::1,80 => granted", b"portacl 1 sctp:80 => denied", b"check => ask",
-                 b"match -q sshd 10.1.1.1 => denied", b"match sshd 10.20.30.400 => denied", b"x" * 5000 + b" => ask", b"byuid 1 ::1,80\0 => ask",
+                 b"match -q sshd 10.1.1.1 => denied", b"match sshd 10.1.1.1 --index x => denied", b"match sshd 10.20.30.400 => denied", b"x" * 5000 + b" => ask", b"byuid 1 ::1,80\0 => ask",
                  b"match " + b"a " * 40 + b"=> ask"):
         done = gate("test", SAMPLE, requests(b"# one\n" + line + b"\n" + van + b" => denied\n"))
         expect(f"{line[:60]} is no request", done, 2, "1 not as expected, 1 not read", "requests:2: ")
@@ -477,6 +480,73 @@ def test_requests(folder):
     expect("test -q", gate("test", "-q", SAMPLE, requests(van + b" => denied\n")), 1, b"", b"")
     printed = gate("test", "--print", SAMPLE, SAMPLE + "/requests").stdout
     expect("what --print prints is as expected", gate("test", SAMPLE, requests(printed)), 0, "13 requests, all as expected", b"")
+
+
+# Indexes
+
+def test_index(folder):
+    sheet, index, right = pathlib.Path(folder) / "one.sheet", pathlib.Path(folder) / "one.index", ref.index(SHEET, 1 << 32)
+    sheet.write_bytes(SHEET)
+    written = b"%s: 136 bytes, 4 rules\n" % os.fsencode(index)
+    expect("an index", gate("index", sheet, index), 0, written, b"")
+    if index.read_bytes() != right or sheet.read_bytes() != SHEET or left_over(folder):
+        fail("an index is the one of the sheet", index.read_bytes(), right)
+    index.write_bytes(b"what was there")
+    index.chmod(0o640)
+    expect("an index over another", gate("index", "-", index, stdin=SHEET), 0, written, b"")
+    if index.read_bytes() != right or index.stat().st_mode & 0o777 != 0o640:
+        fail("an index over another keeps its mode")
+    expect("an index quietly", gate("index", "-q", sheet, index), 0, b"", b"")
+    expect("an index from and to standard streams", gate("index", "-", "-", stdin=SHEET), 0, right, b"")
+    expect("of a sheet without rules", gate("index", "-", index, stdin=ref.sheet_of([b"", b"", b"", b"", ref.NO_TABLES])), 0, ": 8 bytes, 0 rules\n", b"")
+    expect("of one rule", gate("index", "-", index, stdin=ref.sheet_of([b"", b"a:b\n", b"", b"", ref.NO_TABLES])), 0, ": 40 bytes, 1 rule\n", b"")
+    most = ref.sheet_of([b"a:b\n" * 4096, b"a:b\n" * 4096, b"", b"", ref.NO_TABLES])
+    expect("of the most rules", gate("index", "-", index, stdin=most), 0, ": 262152 bytes, 8192 rules\n", b"")
+    expect("an answer by it", gate("match", "-", "sshd", "10.1.1.1", "--index", index, stdin=most), 0, "looked at 8192 elements\n", b"")
+    test_index_places(folder, sheet, index)
+    test_by_index(folder, sheet, right)
+
+
+def test_index_places(folder, sheet, index):
+    """a sheet that is refused and a place that can't be written change nothing"""
+    os.link(sheet, folder + "/linked")
+    os.symlink(sheet, folder + "/symbolic")
+    for what, name, message in (("its sheet", sheet, "is the sheet"), ("another name of it", folder + "/linked", "is the sheet"),
+                                ("it by another path", folder + "/./one.sheet", "is the sheet"), ("a link to it", folder + "/symbolic", "symbolic link"),
+                                ("a folder", folder, "is a folder"), ("no folder", folder + "/none/x", "none/x: No such file")):
+        expect("an index for " + what, gate("index", sheet, name), 2, b"", message)
+    with sheet.open("rb") as source:
+        expect("an index for its sheet on standard input", gate("index", "-", sheet, stdin=source), 2, b"", "is the sheet")
+    if sheet.read_bytes() != SHEET or left_over(folder):
+        fail("an index that can't be written changes nothing")
+    expect("of no sheet", gate("index", folder + "/none", index), 2, b"", "none: No such file")
+    for what, bytes_, message in (("a cut sheet", SHEET[:-1], "refused: 1 fault"), ("nothing", b"", "the sheet ends within a section"), ("a byte more", SHEET + b"\0", "[3]"),
+                                  ("a sheet of four sections", OLD_SHEET, "gate upgrade OLD NEW"),
+                                  ("three bad lines", ref.sheet_of([b"x\n", b"a:/t\n", b"", b"y", ref.NO_TABLES]), "refused: 3 faults")):
+        index.write_bytes(b"what was there")
+        expect("an index of " + what, gate("index", "-", index, stdin=bytes_), 2, b"", message)
+        expect("the same to standard output", gate("index", "-", "-", stdin=bytes_), 2, b"", message)
+        if index.read_bytes() != b"what was there" or left_over(folder):
+            fail("a sheet that is refused changes no index: " + what)
+
+
+def test_by_index(folder, sheet, right):
+    """gate match --index: the same answers, and an error for another index"""
+    index = pathlib.Path(folder) / "right.index"
+    index.write_bytes(right)
+    for arguments in (VAN, ["sshd", "10.20.30.41"], ["sshd", "fitter@10.20.30.41"], ["sshd", "10.9.30.41", "--paranoid"], ["x", "unknown"], ["sshd", "10.20.30.41", "--unknown-user"],
+                      ["console@192.0.2.1", "::1", "--server-name", "a", "--process", "7"], ["sshd", "::ffff:10.20.30.41"], ["-q", "sshd", "10.1.1.1"]):
+        for where in (sheet, SAMPLE):
+            alone = gate("match", where, *arguments)
+            expect(f"by the index: {arguments}", gate("match", where, *arguments, "--index", index), alone.returncode, alone.stdout, alone.stderr)
+    expect("a sheet on standard input", gate("match", "-", *VAN, "--index", index, stdin=SHEET), 0, "granted\nrule      -(hosts.allow):2\n", b"")
+    expect("an index on standard input", gate("match", sheet, *VAN, "--index", "-", stdin=right), 0, "granted\n", b"")
+    expect("both on standard input", gate("match", "-", *VAN, "--index=-", stdin=SHEET), 2, b"", "can't both come from standard input")
+    for what, bytes_ in (("no bytes", b""), ("a byte less", right[:-1]), ("a byte more", right + b"\0"), ("a byte changed", right[:-1] + bytes([right[-1] ^ 1])), ("a sheet", SHEET),
+                         ("a megabyte", bytes(1 << 20)), ("another sheet's", ref.index(ref.sheet_of([b"a:b\n", b"", b"", b"", ref.NO_TABLES]), 1000))):
+        index.write_bytes(bytes_)
+        expect("by an index of " + what, gate("match", sheet, *VAN, "--index", index), 2, b"", f"gate: {index}: not the index of {sheet} [21]: gate index writes it\n")
+    expect("a refused sheet comes first", gate("match", "-", *VAN, "--index", index, stdin=SHEET[:-1]), 2, b"", "refused: 1 fault")
 
 
 # Files
@@ -646,7 +716,7 @@ def test_tables(folder):
         expect(what + " with tables", gate(*arguments, "--tables", tables), status, out, b"")
     with open(folder + "/requests", "wb") as requests:
         requests.write(b"match sshd 10.1.1.1 --tables x => denied\n")
-    expect("tables in a request", gate("test", SAMPLE, folder + "/requests"), 2, "1 not read", "without the station, --tables and -q")
+    expect("tables in a request", gate("test", SAMPLE, folder + "/requests"), 2, "1 not read", "without the station, --tables, --index and -q")
     sheet = folder + "/north.sheet"
     expect("packing with tables", gate("pack", north, sheet, "--tables", tables + "/"), 0, "362 bytes", b"")
     if pathlib.Path(sheet).read_bytes() != SHEETS["north"]:
@@ -1146,6 +1216,8 @@ def test_faults(folder):
         expect_old(f"{error} at {call} of pack", 2, *pack, message=message, env=faulty(library, call, 1, errno=error))
         expect_old(f"{error} at {call} of unpack", 2, *unpack, message=message, env=faulty(library, call, 1, errno=error))
         expect_old(f"{error} at {call} of salvage", 2, "salvage", folder + "/one.sheet", sheet, message=message, env=faulty(library, call, 1, errno=error))
+        expect_old(f"{error} at {call} of index", 2, "index", folder + "/one.sheet", sheet, message=message, env=faulty(library, call, 1, errno=error))
+    expect_old("a signal at fsync of index", -signal.SIGTERM, "index", folder + "/one.sheet", sheet, message=None, env=faulty(library, "fsync", 1, signal=signal.SIGTERM))
     deny, repeats = pathlib.Path(folder) / "hosts.deny", b"ALL: x\nall: X\n"
     deny.write_bytes(repeats)
     for call, error in (("write", errno.ENOSPC), ("fsync", errno.EIO), ("rename", errno.EACCES)):
@@ -1458,6 +1530,13 @@ def test_generated_answers(folder, rng):
         if done.returncode or done.stdout != expected:
             fail("generated requests", texts, done.stderr, *(pair for pair in zip(done.stdout.split(b"\n"), expected.split(b"\n")) if pair[0] != pair[1]))
         seen |= {answer.split(b" ")[0] for _, answer in cases}
+        if turn % 5 == 0:
+            index = pathlib.Path(folder) / "generated.index"
+            index.write_bytes(ref.index(ref.sheet_of(texts), 1 << 32))
+            for words, _ in cases[:3]:
+                arguments = [where, *(os.fsdecode(word) for word in words[1:])]
+                alone = gate("match", *arguments)
+                expect(f"by the index: {words}", gate("match", *arguments, "--index", index), alone.returncode, alone.stdout, b"")
         for words, r in asking[:1]:
             line = name_line(texts, r, where)
             names.add(line.split(":")[0])
@@ -1478,7 +1557,7 @@ def run_all():
     os.chmod(SCRATCH, 0o755)
     test_misread()
     test_read()
-    for test in (test_answers, test_checks, test_marked, test_authbind, test_carry, test_salvage, test_tidy, test_explain, test_requests, test_reading, test_pack, test_unpack, test_tables, test_fleet, test_convert,
+    for test in (test_answers, test_checks, test_marked, test_authbind, test_carry, test_salvage, test_tidy, test_index, test_explain, test_requests, test_reading, test_pack, test_unpack, test_tables, test_fleet, test_convert,
                  test_upgrade, test_faults, test_full_disk):
         with tempfile.TemporaryDirectory(dir=SCRATCH) as folder:
             test(folder)

@@ -1106,3 +1106,141 @@ def sheet_byuid(sheet, *request):
 
 def sheet_portacl(sheet, *request):
     return of_sheet(lambda parts, texts: portacl(texts[3], *request), sheet)
+
+
+# An index of rules (document 02, request 8; docs/FORMATS.md fixes the bytes)
+
+REQUESTS, ANSWER_BYTES = 32, 36
+VERDICT_WORDS = ("granted", "denied", "ask")
+
+
+def number_bytes(*numbers):
+    """four bytes each, most significant first"""
+    return b"".join(n.to_bytes(4, "big") for n in numbers)
+
+
+def rule_numbers(line, base):
+    """its first and last physical line, and where it, its daemons and its clients begin and end; base: where its text begins in the sheet"""
+    at, begin = separators(line.raw), base + line.place
+    clients_end = at[1] if len(at) > 1 else len(line.raw)
+    return (line.number, line.number + line.raw.count(b"\n"), begin, begin + len(line.raw), begin, begin + at[0], begin + at[0] + 1, begin + clients_end)
+
+
+@again
+def index_bytes(sheet):
+    """of an accepted sheet"""
+    counts, entries = [], b""
+    for place, n in unpack(sheet)[:2]:
+        rules = [line for line, _ in rules_in(sheet[place:place + n])]
+        counts.append(len(rules))
+        entries += b"".join(number_bytes(*rule_numbers(line, place)) for line in rules)
+    return number_bytes(*counts) + entries
+
+
+def index(sheet, room):
+    """a refusal, or the bytes of the index"""
+    parts = unpack(sheet)
+    return parts if refused(parts) else within(room, index_bytes(sheet))
+
+
+class CutShort(Exception):
+    pass
+
+
+class Bytes:
+    """taken from the front, so many at a time"""
+
+    def __init__(self, text):
+        self.text, self.at = text, 0
+
+    def take(self, count):
+        if len(self.text) - self.at < count:
+            raise CutShort
+        self.at += count
+        return self.text[self.at - count:self.at]
+
+    def number(self, count=1):
+        return int.from_bytes(self.take(count), "big")
+
+    def counted(self):
+        return self.take(self.number())
+
+
+def address_by(kind, high, low):
+    if kind == 0:
+        return None
+    if kind == 4:
+        return ("4", low) if low < 1 << 32 else BAD
+    return ("6", high << 64 | low) if kind == 6 else BAD
+
+
+def take_host(front):
+    state, address = front.number(), address_by(front.number(), front.number(8), front.number(8))
+    name = front.counted()
+    return {0: None, 1: False, 2: name}.get(state, BAD), address
+
+
+def take_request(front):
+    daemon, client, server = front.counted(), take_host(front), take_host(front)
+    state, name = front.number(), front.counted()
+    return dict(daemon=daemon, client=client, server=server, user={0: "not fetched", 1: None, 2: name}.get(state, BAD))
+
+
+def parted_requests(text):
+    """a list, or None where they can't be parted or are more than 32"""
+    front, found = Bytes(text), []
+    try:
+        while front.at < len(text):
+            found.append(take_request(front))
+    except CutShort:
+        return None
+    return found if len(found) <= REQUESTS else None
+
+
+def text_bytes(text):
+    return bytes([len(text)]) + text
+
+
+def host_bytes(host, beside=b""):
+    """beside: bytes of a name that is not known"""
+    (name, address), states = host, {None: 0, False: 1}
+    state, text = (2, name) if isinstance(name, bytes) else (3 if name == BAD else states[name], beside)
+    kind, n = {None: (0, 0), BAD: (5, 0)}.get(address) or (int(address[0]), address[1])
+    return bytes([state, kind]) + n.to_bytes(16, "big") + text_bytes(text)
+
+
+def request_bytes(r, beside=b""):
+    user = r["user"]
+    state, name = (2, user) if isinstance(user, bytes) else ({"not fetched": 0, None: 1, BAD: 3}[user], beside)
+    return text_bytes(r["daemon"]) + host_bytes(r["client"], beside) + host_bytes(r["server"], beside) + bytes([state]) + text_bytes(name)
+
+
+def no_command_place(sheet, word, file, number):
+    """the place in an answer without a command: behind the second separator of the rule, or its end; of an ask where its text begins"""
+    if not file:
+        return 0
+    place, n = unpack(sheet)[file - 1]
+    if word == "ask":
+        return place
+    line = next(line for line in lines(sheet[place:place + n]) if line.number == number)
+    at = separators(line.raw)
+    return place + line.place + (at[1] + 1 if len(at) > 1 else len(line.raw))
+
+
+def answer_bytes(sheet, r):
+    """the answer that the request gets alone, as bytes"""
+    answer = sheet_verdict(sheet, r)
+    if refused(answer):
+        return number_bytes(*answer) + bytes(ANSWER_BYTES - 12)
+    word, file, line, place, command, looked = answer
+    place = no_command_place(sheet, word, file, line) if place is None else place
+    return number_bytes(0, 0, line, VERDICT_WORDS.index(word) + 1, file, place, len(command)) + looked.to_bytes(8, "big")
+
+
+def verdicts(sheet, given, requests, room):
+    """a refusal of the whole call, or the bytes of all answers"""
+    fault = unpack(sheet) if refused(unpack(sheet)) else (21, 0, 0) if given != index_bytes(sheet) else None
+    asked = None if fault else parted_requests(requests)
+    if not fault and asked is None:
+        fault = (13, 0, 0)
+    return fault or within(room, b"".join(answer_bytes(sheet, r) for r in asked))

@@ -19,7 +19,7 @@ enum { PAGE = 4096, PAINT = 0xa5, BEYOND = 3 };
 /* In the order of `exports`; NOTHING is no call at all, and its bytes are not counted. */
 enum export { VERDICT, TABLES_VERDICT, SHEET_VERDICT, NAME_MATTERS, TABLES_NAME_MATTERS, SHEET_NAME_MATTERS, COMMAND, SHEET_COMMAND, BYUID,
               SHEET_BYUID, PORTACL, SHEET_PORTACL, CHECK, UNPACK, PACK, UPGRADE, CONVERT, EXPAND, READ_ADDRESS, WRITE_ADDRESS, AUTHBIND, CARRY,
-              SALVAGE, PROPOSE, DROP, NOTHING };
+              SALVAGE, PROPOSE, DROP, INDEX, VERDICTS, NOTHING };
 
 /* For tables over all limits too. */
 enum { TABLES_ROOM = 1 << 20 };
@@ -151,6 +151,21 @@ static uint32_t propose(void) {
 static uint32_t drop(void) {
     return gate_drop(out, sizeof out, deny.bytes, deny.len, tables.bytes, tables.len, GATE_DENY, proposal, proposal_len).number;
 }
+/* The index that is written is the one that is used next. */
+static uint8_t index_bytes[GATE_INDEX_ROOM];
+static size_t index_len;
+static uint32_t write_index(void) {
+    struct gate_written written = gate_index(index_bytes, sizeof index_bytes, sheet, sheet_len);
+    index_len = (size_t)written.count;
+    return written.number;
+}
+/* Two requests: no stack is kept from one to the next. */
+static uint32_t verdicts(void) {
+    static uint8_t requests[2 * GATE_REQUEST_ROOM];
+    size_t len = (size_t)gate_request_write(requests, sizeof requests, &request).count;
+    len += (size_t)gate_request_write(requests + len, sizeof requests - len, &request).count;
+    return gate_verdicts(out, sizeof out, sheet, sheet_len, index_bytes, index_len, requests, len).number;
+}
 static uint32_t nothing(void) { return 0; }
 
 static const struct {
@@ -162,7 +177,7 @@ static const struct {
                {"gate_byuid", by_uid}, {"gate_sheet_byuid", sheet_byuid}, {"gate_portacl", port_acl}, {"gate_sheet_portacl", sheet_portacl},
                {"gate_check", check}, {"gate_unpack", unpack}, {"gate_pack", pack}, {"gate_upgrade", upgrade}, {"gate_convert", convert}, {"gate_expand", expand}, {"gate_read_address", read_address},
                {"gate_write_address", write_address}, {"gate_authbind", authbind}, {"gate_carry", carry}, {"gate_salvage", salvage},
-               {"gate_propose", propose}, {"gate_drop", drop}, {"nothing", nothing}};
+               {"gate_propose", propose}, {"gate_drop", drop}, {"gate_index", write_index}, {"gate_verdicts", verdicts}, {"nothing", nothing}};
 
 /* In the thread. */
 

@@ -180,6 +180,14 @@ def drop(room, section, text, tables, proposal, new):
     return packed(ref.drop(section, text, tables, proposal, min(room, BLOCK)), new)
 
 
+def index(room, sheet, expected):
+    return packed(ref.index(sheet, min(room, BLOCK)), expected)
+
+
+def verdicts(room, sheet, given, requests, answers):
+    return packed(ref.verdicts(sheet, given, requests, min(room, BLOCK)), answers)
+
+
 # Each call with the kinds of its fields: t a text, n a number, N any number of numbers.
 CALLS = {
     b"verdict": ("tttttttt", lambda *f: ruling(ref.verdict(*f[6:], request(*f[:6])))),
@@ -203,6 +211,8 @@ CALLS = {
     b"salvage": ("nnttt", salvage),
     b"propose": ("nnttt", propose),
     b"drop": ("nntttt", drop),
+    b"index": ("ntt", index),
+    b"verdicts": ("ntttt", verdicts),
     b"read_address": ("t", read_address),
     b"write_address": ("nt", lambda room, text: shown(ref.write_address(address(text), min(room, BLOCK)))),
 }

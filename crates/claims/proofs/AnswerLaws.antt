@@ -38,6 +38,7 @@ use Rattle.codes.specs.Answers.{Command, together, commandAnswer, nextAnswer, w
 use Rattle.carry.specs.Carry.{carry}
 use Rattle.salvage.specs.Salvage.{salvage}
 use Rattle.tidy.specs.Tidy.{propose, dropRules}
+use Rattle.index.specs.Index.{writeIndex, verdicts}
 use Rattle.gate.specs.Calls.{wrote}
 use Rattle.claims.specs.Claims.{Accepted, front, Decision, by-word, by-refusal, EveryDecision, EveryNumber, RefusalWritesNothing}
 
@@ -62,6 +63,7 @@ fault-nonzero F.BadTable e = omega arith
 fault-nonzero F.DottedAddress e = omega arith
 fault-nonzero F.LateAnswer e = omega arith
 fault-nonzero F.BadProposal e = omega arith
+fault-nonzero F.WrongIndex e = omega arith
 fault-nonzero F.RetiredForm e = omega arith
 
 pub check-answered : (o : Outcome Parts) → checkAnswer o ≡ accepted → (p : Parts) × (o ≡ answered p)
@@ -108,6 +110,7 @@ fault-range F.BadTable = (omega arith, omega arith)
 fault-range F.DottedAddress = (omega arith, omega arith)
 fault-range F.LateAnswer = (omega arith, omega arith)
 fault-range F.BadProposal = (omega arith, omega arith)
+fault-range F.WrongIndex = (omega arith, omega arith)
 fault-range F.RetiredForm = (omega arith, omega arith)
 
 refusal-decision : (r : Refusal) → Decision (refusalAnswer r)
@@ -209,6 +212,8 @@ every-number = record {
   salvage-number = λ sheet out list. two-most (salvage sheet (length out) (length list));
   propose-number = λ text tables section out. written-most (propose section text tables (length out));
   drop-number = λ text tables section proposal out. written-most (dropRules section text tables proposal (length out));
+  index-number = λ sheet out. written-most (writeIndex sheet (length out));
+  verdicts-number = λ sheet index requests out. written-most (verdicts sheet index requests (length out));
 }
 
 -- ## A refusal writes nothing
@@ -250,4 +255,6 @@ refusal-writes-nothing = record {
   salvaging = λ sheet out list. two-kept out list (salvage sheet (length out) (length list));
   proposing = λ text tables section out. kept out (propose section text tables (length out));
   dropping = λ text tables section proposal out. kept out (dropRules section text tables proposal (length out));
+  indexing = λ sheet out. kept out (writeIndex sheet (length out));
+  answering = λ sheet index requests out. kept out (verdicts sheet index requests (length out));
 }

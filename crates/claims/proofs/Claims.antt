@@ -16,6 +16,7 @@ use Rattle.claims.proofs.RetiredClaims.{retired-refused, converted, ref
 use Rattle.claims.proofs.CarryClaims.{carried-over}
 use Rattle.claims.proofs.TidiedClaims.{tidy-proposals, tidied-files, tidied-verdicts}
 use Rattle.claims.proofs.SalvageClaims.{salvaged-sheets}
+use Rattle.claims.proofs.IndexedClaims.{index-written, indexed-verdicts}
 use Rattle.claims.proofs.MattersClaims.{name-matters}
 
 pub claims : Claims
@@ -60,6 +61,8 @@ claims = record {
   tidied-files = tidied-files;
   tidied-verdicts = tidied-verdicts;
   salvaged-sheets = salvaged-sheets;
+  index-written = index-written;
+  indexed-verdicts = indexed-verdicts;
   name-matters = name-matters;
   matters-examples = matters-examples;
 }

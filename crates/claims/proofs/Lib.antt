@@ -13,5 +13,6 @@ pub mod RetiredClaims
 pub mod CarryClaims
 pub mod SalvageClaims
 pub mod TidiedClaims
+pub mod IndexedClaims
 pub mod MattersClaims
 pub mod Claims

@@ -2,12 +2,12 @@
 -- Assumes nothing.
 use Prim.Native.Nat.{ℕ, _≤_}
 use native.Mathlib.Omega.{arith}
-use mathlib.Core.Bool.{Bool, true, false, _||_}
+use mathlib.Core.Bool.{Bool, true, false}
 use mathlib.Core.List.{List, []}
 use mathlib.Core.Option.{Option, none, some}
 use mathlib.Core.Path.{_≡_, refl, sym, ap, _∙_}
 use borrow.Author.Tests.{le-ltb}
-use lib.Dec.{ltb, eqb}
+use lib.Dec.{ltb}
 use lib.ListN.{length}
 use Rattle.text.specs.Basics.{_orElse_, given}
 use Rattle.text.specs.Text.{inRange}
@@ -144,7 +144,7 @@ converted = record {
 
 -- ## Numbers
 
-fault-number : (f : Fault) → (inRange 1 20 (faultNumber f) || eqb (faultNumber f) 22) ≡ true
+fault-number : (f : Fault) → inRange 1 22 (faultNumber f) ≡ true
 fault-number F.CutShort = refl
 fault-number F.OverLimit = refl
 fault-number F.TrailingBytes = refl
@@ -165,6 +165,7 @@ fault-number F.BadTable = refl
 fault-number F.DottedAddress = refl
 fault-number F.LateAnswer = refl
 fault-number F.BadProposal = refl
+fault-number F.WrongIndex = refl
 fault-number F.RetiredForm = refl
 
 pub refusal-numbers : RefusalNumbers

@@ -36,7 +36,8 @@ use Rattle.codes.specs.Answers.{refusalAnswer, refusedCheck, accepted, refusedP
 use Rattle.gate.specs.Calls.{gateVerdict, gateTablesVerdict, gateSheetVerdict, gateByuid, gateSheetByuid, gatePortacl, gateSheetPortacl}
 use Rattle.gate.specs.Calls.{gateCheck, gateUnpack, gateReadAddress, Wrote, gatePack, gateUpgrade, gateExpand, gateWriteAddress}
 use Rattle.gate.specs.Calls.{WroteCommand, gateCommand, gateSheetCommand, gateAuthbind, gateCarry, gateSalvage}
-use Rattle.gate.specs.Calls.{gateNameMatters, gateTablesNameMatters, gateSheetNameMatters, gatePropose, gateDrop}
+use Rattle.gate.specs.Calls.{gateIndex, gateVerdicts, gatePropose, gateDrop}
+use Rattle.gate.specs.Calls.{gateNameMatters, gateTablesNameMatters, gateSheetNameMatters}
 use Rattle.claims.specs.Examples.{Examples}
 use Rattle.claims.specs.MaskExamples.{MaskExamples}
 use Rattle.claims.specs.MappedExamples.{MappedExamples}
@@ -47,6 +48,7 @@ use Rattle.claims.specs.LookedExamples.{LookedExamples}
 use Rattle.claims.specs.CarriedOver.{CarriedOver}
 use Rattle.claims.specs.Salvaged.{SalvagedSheets}
 use Rattle.claims.specs.Tidied.{TidyProposals, TidiedFiles, TidiedVerdicts}
+use Rattle.claims.specs.Indexed.{IndexWritten, IndexedVerdicts}
 use Rattle.claims.specs.MattersExamples.{MattersExamples}
 use Rattle.claims.specs.AuthbindOrder.{AbsentGoesOn, AnswerSettles, NamesDiffer, ReadsItsFile, ManualExample}
 
@@ -113,6 +115,9 @@ pub record RefusalWritesNothing : Type 0 where
       → gatePropose text tables section out .out ≡ out
   pub dropping : (text tables : List ℕ) (section : ℕ) (proposal out : List ℕ) → (gateDrop text tables section proposal out .answer .number ≡ 0 → ⊥)
       → gateDrop text tables section proposal out .out ≡ out
+  pub indexing : (sheet out : List ℕ) → (gateIndex sheet out .answer .number ≡ 0 → ⊥) → gateIndex sheet out .out ≡ out
+  pub answering : (sheet index requests out : List ℕ) → (gateVerdicts sheet index requests out .answer .number ≡ 0 → ⊥)
+      → gateVerdicts sheet index requests out .out ≡ out
 
 -- a decision is a word, or a refusal by one of the papers' numbers "and gives no verdict"
 pub data Decision : GateAnswer → Type 0 where
@@ -143,6 +148,8 @@ pub record EveryNumber : Type 0 where
   pub salvage-number : (sheet out list : List ℕ) → gateSalvage sheet out list .answer .number ≤ 22
   pub propose-number : (text tables : List ℕ) (section : ℕ) (out : List ℕ) → gatePropose text tables section out .answer .number ≤ 22
   pub drop-number : (text tables : List ℕ) (section : ℕ) (proposal out : List ℕ) → gateDrop text tables section proposal out .answer .number ≤ 22
+  pub index-number : (sheet out : List ℕ) → gateIndex sheet out .answer .number ≤ 22
+  pub verdicts-number : (sheet index requests out : List ℕ) → gateVerdicts sheet index requests out .answer .number ≤ 22
 
 -- ## Demand 2
 
@@ -439,6 +446,9 @@ pub record Claims : Type 0 where
   pub tidied-verdicts : TidiedVerdicts
   -- document 02, request 9
   pub salvaged-sheets : SalvagedSheets
+  -- document 02, request 8
+  pub index-written : IndexWritten
+  pub indexed-verdicts : IndexedVerdicts
   -- document 02, request 14
   pub name-matters : NameMatters
   pub matters-examples : MattersExamples

@@ -5,11 +5,10 @@
 --   RefusalNumbers  == the numbers that a refusal can have
 -- Assumes nothing: these are statements.
 use Prim.Native.Nat.{ℕ, _≤_}
-use mathlib.Core.Bool.{true, false, _||_}
+use mathlib.Core.Bool.{true, false}
 use mathlib.Core.List.{List, [], map}
 use mathlib.Core.Option.{none, some}
 use mathlib.Core.Path.{_≡_}
-use lib.Dec.{eqb}
 use lib.ListN.{length, take}
 use Rattle.text.specs.Text.{split, inRange}
 use Rattle.section.specs.declared.Refusal.{Refusal}
@@ -62,6 +61,6 @@ pub record Converted : Type 0 where
   -- "A refusal .. writes nothing"
   pub refused-writes-nothing : (text out : List ℕ) → (gateConvert text out .answer .number ≡ 0 → ⊥) → gateConvert text out .out ≡ out
 
--- the papers' numbers: 21 stands for nothing
+-- the papers' numbers
 abbrev pub RefusalNumbers : Type 0
-RefusalNumbers = (r : Refusal) → (inRange 1 20 (refusalAnswer r .number) || eqb (refusalAnswer r .number) 22) ≡ true
+RefusalNumbers = (r : Refusal) → inRange 1 22 (refusalAnswer r .number) ≡ true

@@ -132,7 +132,7 @@ fn numbers_fit(client: HostNumbers, server: HostNumbers, user: u32) -> bool
 }
 
 // The states of a request.
-fn read_states(client: HostNumbers, server: HostNumbers, user: u32) -> States
+pub fn read_states(client: HostNumbers, server: HostNumbers, user: u32) -> States
     ensures { λ r. ⌜ r ≡ statesOf client server user ⌝ }
 {
     States {

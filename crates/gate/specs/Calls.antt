@@ -35,6 +35,7 @@ use Rattle.codes.specs.declared.GateWrittenTwo.{GateWrittenTwo}
 use Rattle.codes.specs.Requests.{RequestNumbers, request, byuidBind, byuidFileBind, authbindAsked, portaclBind, writeBy}
 use Rattle.codes.specs.Answers.{verdictAnswer, byuidAnswer, portaclAnswer, checkAnswer, partsAnswer, writtenAnswer, addressAnswer, Command, together, commandAnswer}
 use Rattle.codes.specs.Answers.{nextAnswer, writtenTwoAnswer, mattersAnswer}
+use Rattle.index.specs.Index.{writeIndex, verdicts}
 
 -- ## Decisions
 
@@ -104,6 +105,13 @@ gatePropose text tables section out = wrote out (propose section text tables (le
 
 abbrev pub gateDrop : List ℕ → List ℕ → ℕ → List ℕ → List ℕ → Wrote
 gateDrop text tables section proposal out = wrote out (dropRules section text tables proposal (length out))
+
+-- document 02, request 8: "where each rule and its lists begin and end", and the answers to up to 32 requests, found by that index
+abbrev pub gateIndex : List ℕ → List ℕ → Wrote
+gateIndex sheet out = wrote out (writeIndex sheet (length out))
+
+abbrev pub gateVerdicts : List ℕ → List ℕ → List ℕ → List ℕ → Wrote
+gateVerdicts sheet index requests out = wrote out (verdicts sheet index requests (length out))
 
 -- document 02, request 11: "a converter for byuid texts"
 abbrev pub gateConvert : List ℕ → List ℕ → Wrote

@@ -6,6 +6,7 @@
 //   gate_upgrade                           == a sheet of four sections with an empty count of tables
 //   gate_salvage                           == a damaged sheet made into an accepted one, and the list of what was changed
 //   gate_propose, gate_drop                == which rules of a file never fire, and the file without them
+//   gate_index, gate_verdicts              == the index of a sheet's rules, and up to 32 requests answered by sheet and index
 //   gate_convert                           == a byuid text with its lines of the retired form in their new one
 //   gate_expand                            == a command expanded
 //   gate_command, gate_sheet_command       == a verdict, and its command expanded
@@ -30,7 +31,7 @@ ghost use Rattle.sheet.specs.Sheet.{texts};
 ghost use Rattle.codes.specs.Requests.{hostNumbers, requestNumbers, settingsOf};
 ghost use Rattle.gate.specs.Calls.{gateVerdict, gateTablesVerdict, gateSheetVerdict, gateByuid, gateSheetByuid, gatePortacl, gateSheetPortacl};
 ghost use Rattle.gate.specs.Calls.{gateCheck, gateUnpack, gateReadAddress, gatePack, gateUpgrade, gateExpand, gateCommand, gateSheetCommand, gateWriteAddress};
-ghost use Rattle.gate.specs.Calls.{gatePropose, gateDrop};
+ghost use Rattle.gate.specs.Calls.{gatePropose, gateDrop, gateIndex, gateVerdicts};
 ghost use Rattle.gate.specs.Calls.{gateAuthbind, gateConvert, gateCarry, gateSalvage, gateNameMatters, gateTablesNameMatters, gateSheetNameMatters};
 
 // The verdict by two texts.
@@ -758,4 +759,27 @@ pub extern "C" fn gate_drop(
         ⌜ now (out .exit) ≡ gateDrop (now (text .entry)) (now (tables .entry)) section (now (proposal .entry)) (now (out .entry)) .out ⌝ }
 {
     codes::answer::written_numbers(tidy::drop_rules(out, text, tables, section, proposal))
+}
+
+// Writes the index of an accepted sheet at the front of out; a refusal leaves out as it was.
+#[no_mangle]
+pub extern "C" fn gate_index(out: &mut [u8], sheet: &[u8]) -> GateWritten
+    ensures answer { λ r. ⌜ r ≡ gateIndex (now (sheet .entry)) (now (out .entry)) .answer ⌝ }
+    ensures holds { λ _. ⌜ now (out .exit) ≡ gateIndex (now (sheet .entry)) (now (out .entry)) .out ⌝ }
+{
+    codes::answer::written_numbers(index::write_index(out, sheet))
+}
+
+// Answers up to 32 requests by a sheet and its index, 36 bytes each, at the front of out; a refusal leaves out as it was.
+#[no_mangle]
+pub extern "C" fn gate_verdicts(
+    out: &mut [u8],
+    sheet: &[u8],
+    index: &[u8],
+    requests: &[u8],
+) -> GateWritten
+    ensures answer { λ r. ⌜ r ≡ gateVerdicts (now (sheet .entry)) (now (index .entry)) (now (requests .entry)) (now (out .entry)) .answer ⌝ }
+    ensures holds { λ _. ⌜ now (out .exit) ≡ gateVerdicts (now (sheet .entry)) (now (index .entry)) (now (requests .entry)) (now (out .entry)) .out ⌝ }
+{
+    codes::answer::written_numbers(index::verdicts(out, sheet, index, requests))
 }

@@ -172,7 +172,7 @@ module _ (v : View) (q : Request) where
       lineFound-some s is-s =
           rw (parseRule-joined t joined i is-i l s is-s, is-y) (ruleFound-lists (words (take i t)) (clientWords s) (afterSeparator (separatorIndex false s) s))
 
-  ruleLooked-lists : (ds cs : List (List ℕ)) (k : List ℕ)
+  pub ruleLooked-lists : (ds cs : List (List ℕ)) (k : List ℕ)
       → viewLooked v q (rule ds cs k)
       ≡ lookedIncluded (daemonFinds v (q .daemon) (q .server)) (daemonCounts v) ds
       + furtherOn (included (daemonFinds v (q .daemon) (q .server)) ds) (lookedIncluded (clientFinds v (q .client) (q .user) (q .userName)) (clientCounts v) cs) 0

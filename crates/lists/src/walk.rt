@@ -43,7 +43,7 @@ pub fn negated_list(l: Looked) -> Looked
 }
 
 // What was found, with n elements that were looked at before.
-fn after_others(n: u64, l: Looked) -> Looked
+pub fn after_others(n: u64, l: Looked) -> Looked
     ensures { λ r. ⌜ r ≡ lookedMore n l ⌝ }
 {
     let found = l.found;

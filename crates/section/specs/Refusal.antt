@@ -46,6 +46,7 @@ faultNumber F.BadTable = 17
 faultNumber F.DottedAddress = 18
 faultNumber F.LateAnswer = 19
 faultNumber F.BadProposal = 20
+faultNumber F.WrongIndex = 21
 faultNumber F.RetiredForm = 22
 
 -- f, unless the other has a lower number

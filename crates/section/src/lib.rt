@@ -34,6 +34,7 @@ pub enum Fault {
     DottedAddress,
     LateAnswer,
     BadProposal,
+    WrongIndex,
     RetiredForm,
 }
 
@@ -109,6 +110,7 @@ pub fn fault_number(f: Fault) -> u8
         Fault::DottedAddress => 18,
         Fault::LateAnswer => 19,
         Fault::BadProposal => 20,
+        Fault::WrongIndex => 21,
         Fault::RetiredForm => 22,
     }
 }

@@ -601,6 +601,36 @@ fn drop(case: &[u8], out: &mut [u8]) {
     );
 }
 
+fn index(case: &[u8], out: &mut [u8]) {
+    let sheet = cases::field(case, 2);
+    let w = gate::gate_index(cases::room(out, cases::number(case, 1)), sheet);
+    untouched(out, w.count);
+    packed(
+        w.number,
+        w.section,
+        w.line,
+        part(out, 0, w.count),
+        cases::field(case, 3),
+    );
+}
+
+fn verdicts(case: &[u8], out: &mut [u8]) {
+    let w = gate::gate_verdicts(
+        cases::room(out, cases::number(case, 1)),
+        cases::field(case, 2),
+        cases::field(case, 3),
+        cases::field(case, 4),
+    );
+    untouched(out, w.count);
+    packed(
+        w.number,
+        w.section,
+        w.line,
+        part(out, 0, w.count),
+        cases::field(case, 5),
+    );
+}
+
 fn write(call: usize, case: &[u8], out: &mut [u8]) {
     match call {
         12 => pack(case, out),
@@ -613,7 +643,9 @@ fn write(call: usize, case: &[u8], out: &mut [u8]) {
         19 => carry(case, out),
         20 => salvage(case, out),
         21 => propose(case, out),
-        _ => drop(case, out),
+        22 => drop(case, out),
+        23 => index(case, out),
+        _ => verdicts(case, out),
     }
 }
 
@@ -656,14 +688,14 @@ fn call(case: &[u8]) -> usize {
           sheet_name_matters:ttttttt. byuid:ntnnt. sheet_byuid:ntnt. portacl:nnnnnnntn sheet_portacl:nnnnnnntn check:t. unpack:t. \
           pack:ntttttt. upgrade:ntt. expand:ttttttnnt. read_address:t. write_address:nt. convert:nt. authbind:nntnt. carry:nnnttt. \
           salvage:nnttt. \
-          propose:nnttt. drop:nntttt.",
+          propose:nnttt. drop:nntttt. index:ntt. verdicts:ntttt.",
         case,
     )
 }
 
 fn run_case(line: &[u8], case: &[u8]) {
     let place = call(case);
-    if 22 < place {
+    if 24 < place {
         malformed(line);
         return;
     }

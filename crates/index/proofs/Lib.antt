@@ -1,0 +1,9 @@
+pub mod TableLaws
+pub mod EntryLaws
+pub mod OtherLaws
+pub mod TextLaws
+pub mod SearchLaws
+pub mod RequestLaws
+pub mod AnswerLaws
+pub mod CallLaws
+pub mod Examples

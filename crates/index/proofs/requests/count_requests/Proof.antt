@@ -1,0 +1,33 @@
+-- `requests::count_requests` meets its contract: the loop's invariant is Parting: so many requests stand before the rest. Assumes nothing.
+use borrow.Author.Needs.{needs}
+use Prim.Native.Nat.{_-_}
+use Rattle.index.proofs.RequestLaws.{Parting, parting-start, parting-full, parting-cut, parting-more, parting-end, fields-within, fields-some}
+use Rattle.index.proofs.requests.count_requests.Statement.{statement}
+use Rattle.index.proofs.requests.count_requests.Tie as tie
+
+abbrev Inv-loop : tie.InvT-loop
+Inv-loop bytes rest₀ count₀ rest count =
+    Parting bytes rest count
+
+abbrev μ-loop : tie.MeasureT-loop
+μ-loop bytes rest₀ count₀ rest count = 32 - count
+
+pub count-requests-spec : {M : Type 1} → statement M
+count-requests-spec =
+    let facts = tie.spec
+    Inv-loop
+    μ-loop
+    (λ c. search (parting-start, needs))
+    (λ c. search (parting-full, needs))
+    (λ c κs. search needs)
+    (λ c. search needs)
+    (λ c. search (parting-cut, needs))
+    (λ c. search needs)
+    (λ c. search (fields-within, needs))
+    (λ c. search (fields-within, needs))
+    (λ c. search (fields-within, needs))
+    (λ c. search needs)
+    (λ c. search (fields-some, fields-within, needs))
+    (λ c. search (parting-more, needs))
+    (λ c. search (parting-end, needs)) in
+    tie.close facts

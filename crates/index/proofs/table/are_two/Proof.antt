@@ -1,0 +1,15 @@
+-- `table::are_two` meets its contract. Assumes nothing.
+use borrow.Author.Needs.{needs}
+use Rattle.index.proofs.TableLaws.{two-same}
+use Rattle.index.proofs.table.are_two.Statement.{statement}
+use Rattle.index.proofs.table.are_two.Tie as tie
+
+pub are-two-spec : {M : Type 1} → statement M
+are-two-spec =
+    let facts = tie.spec
+    (λ c. search needs)
+    (λ c κs. search needs)
+    (λ c. search needs)
+    (λ c κs. search needs)
+    (λ c. search (two-same, needs)) in
+    tie.close facts
