@@ -239,6 +239,10 @@ static void names_matter(void) {
     expect("where the verdict asks", gate_verdict(TEXT(allow), TEXT(deny), REQUEST(0)).word == GATE_ASK && untouched());
     SET(allow, "ALL: a@LOCAL EXCEPT A@LOCAL\n"), lend();
     expect("a name that is taken out again", settled(NAME_MATTERS(0), GATE_DENIED, GATE_DENY, 1));
+    SET(allow, "ALL: ab@LOCAL AB@LOCAL A@LOCAL EXCEPT ab@LOCAL\n"), lend();
+    expect("a name that only begins like one that was tried", matters(NAME_MATTERS(0)));
+    SET(allow, "ALL: ab@LOCAL AB@LOCAL aB@LOCAL EXCEPT ab@LOCAL\n"), lend();
+    expect("names that are equal but for case", settled(NAME_MATTERS(0), GATE_DENIED, GATE_DENY, 1));
     SET(deny, ""), lend();
     expect("no rule for any user", settled(NAME_MATTERS(2), GATE_GRANTED, 0, 0));
     SET(allow, "ALL: a@LOCAL\nALL: ALL\n"), lend();

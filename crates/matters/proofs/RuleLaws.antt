@@ -25,9 +25,10 @@ use Rattle.elements.specs.declared.User.the-variants as U
 use Rattle.elements.specs.declared.Found.{Found}
 use Rattle.elements.specs.declared.Found.the-variants.{No, Yes, Ask}
 use Rattle.elements.specs.Request.{Request, userCase}
-use Rattle.elements.specs.Code.{withUser}
+use Rattle.elements.specs.Code.{View, clientRequest, withUser}
 use Rattle.elements.specs.Element.{halves, foundIf, isPlainName, userHalf, clientParts, daemonElement, clientElement, lookAt}
 use Rattle.lists.specs.Walk.{onFound, included, excluded, ruleFoundBy, ruleFound}
+use Rattle.lists.specs.ListCode.{clientFinds}
 use Rattle.rules.proofs.UserLaws.{Quiet, daemon-same, client-same, rule-same, rule-quiet}
 use Rattle.matters.specs.declared.Told.{Told}
 use Rattle.matters.specs.declared.Told.the-variants as Told
@@ -193,9 +194,23 @@ not-true : (b : Bool) → not b ≡ true → b ≡ false
 not-true true e = sym e
 not-true false e = refl
 
-fold-length : (h t : List ℕ) → equalFold h t ≡ true → length h ≡ length t
+pub fold-length : (h t : List ℕ) → equalFold h t ≡ true → length h ≡ length t
 unfolding equalFold
 fold-length h t e = sym (length-map h lower) ∙ ap length (eq-of-equal (map lower h) (map lower t) e) ∙ length-map t lower
+
+-- names equal but for case find the same of an element
+element-alike : (m : Matcher) (r : Request) (t t′ : List ℕ) → equalFold t t′ ≡ true → (e : List ℕ)
+    → lookAt (withUser r U.Known t′) (clientElement m e) ≡ lookAt (withUser r U.Known t) (clientElement m e)
+unfolding equalFold
+element-alike m r t t′ e w =
+    look-agree m r U.Known t t′ w (λ p q. known-half r t t′ (p .0) (λ z. ap (equal (map lower (p .0))) (sym (eq-of-equal (map lower t) (map lower t′) e))))
+
+-- and of a client list
+pub clients-alike : (v : View) (c : Endpoint) (t t′ : List ℕ) → equalFold t t′ ≡ true → (ws : List (List ℕ))
+    → included (clientFinds v c U.Known t′) ws ≡ included (clientFinds v c U.Known t) ws
+clients-alike v c t t′ e ws =
+    included-agree (clientFinds v c U.Known t) (clientFinds v c U.Known t′) (λ w. true)
+    (λ w k. element-alike (v .client) (clientRequest c U.Known []) t t′ e w) ws (all-true ws)
 
 module _ (m : Matcher) (r : Request) (x : Rule) where
   abbrev of : User → List ℕ → Found
@@ -208,11 +223,7 @@ module _ (m : Matcher) (r : Request) (x : Rule) where
 
   -- names equal but for case find the same
   fold-same : (t t′ : List ℕ) → equalFold t t′ ≡ true → of U.Known t′ ≡ of U.Known t
-  unfolding equalFold
-  fold-same t t′ e = rule-agree m r U.Known U.Known t t′ (λ w. true)
-      (λ w k. look-agree m r U.Known t t′ w
-      (λ p q. known-half r t t′ (p .0) (λ z. ap (equal (map lower (p .0))) (sym (eq-of-equal (map lower t) (map lower t′) e)))))
-      x (all-true (x .clients))
+  fold-same t t′ e = rule-agree m r U.Known U.Known t t′ (λ w. true) (λ w k. element-alike m r t t′ e w) x (all-true (x .clients))
 
   -- a name that is no half of an element that asks finds what the fresh one does
   fresh-same : (t : List ℕ) → all (askerHolds m r (λ h. not (equalFold h t))) (x .clients) ≡ true → of U.Known t ≡ of U.Known freshName

@@ -29,9 +29,7 @@ use Rattle.elements.specs.declared.Found.{Found}
 use Rattle.elements.specs.declared.Found.the-variants as Found
 use Rattle.elements.specs.declared.request.Request.{Request as Places}
 use Rattle.elements.specs.Places.{requestAt}
-use Rattle.elements.specs.Code.{View, atSign, lookedFor}
-use Rattle.elements.specs.Element.{halves}
-use Rattle.elements.proofs.ElementLaws.{halves-none, halves-some}
+use Rattle.elements.specs.Code.{View, lookedFor}
 use Rattle.lists.specs.Walk.{included}
 use Rattle.lists.specs.Code.{NoNewline}
 use Rattle.lists.specs.ListCode.{daemonFinds, clientFinds, daemonCounts, clientCounts, listLooked}
@@ -51,7 +49,7 @@ use Rattle.matters.specs.declared.Telling.{Telling}
 use Rattle.matters.specs.declared.Telling.the-variants as T
 use Rattle.matters.specs.declared.Matter.{Matter}
 use Rattle.matters.specs.declared.Matter.the-variants as M
-use Rattle.matters.specs.Matters.{place, sameFound, freshName, halfHolds, toldOf, toldBy, toldAt, matterBy}
+use Rattle.matters.specs.Matters.{place, sameFound, freshName, toldOf, toldBy, toldAt, matterBy}
 use Rattle.matters.specs.Code.{Finder, finderBy, nameAgrees, halfAgrees, askedList, listToldOn, listTold, clientsTold, parsedBy, kindTold, textToldBy, tellingOf, settledBy, endedBy}
 
 -- ## A request at places of a block
@@ -70,7 +68,7 @@ asks-at v names q e a is-a n y is-y r is-r =
     is-r ∙ ap (sameFound Found.Ask)
     (ap (λ (z : Looked). z .found) is-y ∙ ap (λ (x : List ℕ). clientFinds v (endpoint (q .client) x) U.NotFetched [] e) is-a)
 
--- ## A name, and a half
+-- ## A name
 
 module _ (F : Finder) (ws : List (List ℕ)) (f : Found) (t : List ℕ) where
   out-of-range : (eqb (length t) 0 || ltb 64 (length t)) ≡ true → inRange 1 64 (length t) ≡ false
@@ -105,25 +103,6 @@ module _ (F : Finder) (ws : List (List ℕ)) (f : Found) (t : List ℕ) where
       → r ≡ nameAgrees F ws f t
   unfolding nameAgrees
   name-some e g is-g r is-r = rw (in-range e, ← is-g) is-r
-
-module _ (F : Finder) (ws : List (List ℕ)) (f : Found) (e : List ℕ) where
-  pub half-quiet : (x : Bool) → x ≡ F .asks e → not x ≡ true → true ≡ halfAgrees F ws f e
-  unfolding halfAgrees
-  half-quiet x is-x h = rw (← is-x, h)
-
-  module _ (at : ℕ) (is-at : at ≡ atSign e) where
-    pub half-none : at ≡ length e → true ≡ halfAgrees F ws f e
-    unfolding halfAgrees
-    half-none h = rw (halves-none e at is-at h) (by (F .asks e))
-      where
-        by : (b : Bool) → true ≡ (not b || true)
-        by true = refl
-        by false = refl
-
-    pub half-some : (x : Bool) → x ≡ F .asks e → not x ≡ false → (at ≡ length e → ⊥) → (r : Bool) → r ≡ nameAgrees F ws f (take at e)
-        → r ≡ halfAgrees F ws f e
-    unfolding halfAgrees
-    half-some x is-x h n r is-r = rw (← is-x, h, halves-some e at is-at n) is-r
 
 -- ## The loop over a list
 

@@ -8,19 +8,24 @@
 --   Unasked m allow deny r p == the place that r gets with its user not fetched
 --   refusedBy x       == the refusal of a request that does not fit
 --   endedBy t         == what both files tell, where the second tells t and the first nothing
+--   askedHalf F e     == the half before the `@` of an element that asks, empty where there is none
+--   wasTried s ps n h == h is empty, or equal to one of n halves of s whose places are noted in ps
 -- Assumes nothing: these are definitions.
-use Prim.Native.Nat.{ℕ}
-use mathlib.Core.Bool.{Bool, true, not, _&&_, _||_}
+use Prim.Native.Nat.{ℕ, zero, suc, _+_, _*_, _/_, _%_}
+use mathlib.Core.Bool.{Bool, true, false, not, _&&_, _||_}
 use mathlib.Core.List.{List, []}
 use mathlib.Core.Option.{Option, none, some, Option·getD}
 use mathlib.Core.Path.{_≡_}
-use lib.ListN.{length}
-use Rattle.text.specs.Basics.{_orElse_, all, first}
-use Rattle.text.specs.Text.{inRange}
+use lib.Dec.{eqb, ltb}
+use lib.ListN.{length, getD, set}
+use Rattle.text.specs.Basics.{if_then_else_, _orElse_, all, first}
+use Rattle.text.specs.Text.{inRange, equalFold}
 use Rattle.section.specs.declared.Fault.the-variants as F
 use Rattle.section.specs.Refusal.{placeless}
+use Rattle.section.specs.Section.{part, bytesAt}
 use Rattle.lines.specs.Line.{Line, lines}
 use Rattle.lines.specs.Rule.{Rule, parseRule}
+use Rattle.lines.specs.Parts.{words}
 use Rattle.tables.specs.Table.{Matcher}
 use Rattle.elements.specs.declared.User.{User}
 use Rattle.elements.specs.declared.User.the-variants as U
@@ -46,6 +51,8 @@ use Rattle.rules.specs.FileCode.{lineKind}
 use Rattle.matters.specs.declared.Place.{Place}
 use Rattle.matters.specs.declared.Told.{Told}
 use Rattle.matters.specs.declared.Told.the-variants as Told
+use Rattle.matters.specs.declared.Tried.{Tried}
+use Rattle.matters.specs.declared.Tried.the-variants as Tried
 use Rattle.matters.specs.declared.Matter.{Matter}
 use Rattle.matters.specs.declared.Matter.the-variants as M
 use Rattle.matters.specs.declared.Telling.{Telling}
@@ -87,6 +94,49 @@ listToldOn F ws Found.Ask = askedList F ws (F .clients U.Unknown [] ws)
 
 unfoldable pub listTold : Finder → List (List ℕ) → Told
 listTold F ws = listToldOn F ws (F .clients U.NotFetched [] ws)
+
+-- ## Halves that were tried
+
+abbrev pub halfOf : Option (List ℕ × List ℕ) → List ℕ
+halfOf none = []
+halfOf (some p) = p .0
+
+unfoldable pub askedHalf : Finder → List ℕ → List ℕ
+askedHalf F e = if F .asks e then halfOf (halves e) else []
+
+-- the place of n bytes from i on as one number, where both are below 65,536; the bytes at such a place
+abbrev pub placeNumber : ℕ → ℕ → ℕ
+placeNumber i n = i * 65536 + n
+
+unfoldable pub noted : List ℕ → ℕ → List ℕ
+noted s p = bytesAt s (part (p / 65536) (p % 65536))
+
+-- h is equal, but for case, to a half at one of the first n places
+unfoldable pub notedBelow : List ℕ → List ℕ → List ℕ → ℕ → Bool
+notedBelow s ps h zero = false
+notedBelow s ps h (suc n) = equalFold (noted s (getD ps n 0)) h || notedBelow s ps h n
+
+unfoldable pub wasTried : List ℕ → List ℕ → ℕ → List ℕ → Bool
+wasTried s ps n h = eqb (length h) 0 || notedBelow s ps h n
+
+-- one place more, and how many are noted then; none where there is no room
+abbrev pub notedRoom : List ℕ → ℕ → ℕ → ℕ → Bool
+notedRoom ps n i m = ltb n (length ps) && ltb i 65536 && ltb m 65536
+
+abbrev pub notedPlaces : List ℕ → ℕ → ℕ → ℕ → List ℕ
+notedPlaces ps n i m = if notedRoom ps n i m then set ps n (placeNumber i m) else ps
+
+abbrev pub notedCount : List ℕ → ℕ → ℕ → ℕ → ℕ
+notedCount ps n i m = if notedRoom ps n i m then n + 1 else n
+
+-- what the half h of s finds, which stands from i on, and the places noted then
+unfoldable pub triedBy : Finder → Found → List ℕ → List ℕ → ℕ → ℕ → List ℕ → Tried
+triedBy F f s ps n i h =
+    if wasTried s ps n h then Tried.Agrees n
+    else if nameAgrees F (words s) f h then Tried.Agrees (notedCount ps n i (length h)) else Tried.Differs
+
+unfoldable pub placesBy : Finder → Found → List ℕ → List ℕ → ℕ → ℕ → List ℕ → List ℕ
+placesBy F f s ps n i h = if not (wasTried s ps n h) && nameAgrees F (words s) f h then notedPlaces ps n i (length h) else ps
 
 -- ## A rule, a line, both files
 

@@ -49,6 +49,12 @@ pub enum Told {
     Differs,
 }
 
+// What a half of a list finds: something else than it should, or that; then, how many halves are noted.
+pub enum Tried {
+    Differs,
+    Agrees(usize),
+}
+
 // What a text tells: nothing, where it passes all users on; the place that all get; or that two get different ones.
 pub enum Telling {
     Nothing,

@@ -1,7 +1,7 @@
 // What the rules tell of all users at once, line by line.
 //   settle(allow, deny, tables, ..) == the place that all users get, or that two get different ones
 // A rule that does not ask a user not fetched finds the same for all. One that asks is looked at again for an unknown user, for a name
-// that no half can be, and for each half whose host matches.
+// that no half can be, and for each different half whose host matches: the places of those that were tried are noted.
 ghost use mathlib.Core.Path.{_≡_};
 ghost use Prim.Native.Nat.{_≤_};
 ghost use mathlib.Core.Option.{none};
@@ -19,10 +19,12 @@ ghost use Rattle.rules.specs.FileCode.{ScannedLine};
 ghost use Rattle.rules.specs.Code.{contentsFault};
 ghost use Rattle.matters.specs.Matters.{sameFound, toldOf, settled, matterBy};
 ghost use Rattle.matters.specs.Code.{finderAt, nameAgrees, halfAgrees, askedList, listTold, parsedBy, kindTold, textToldBy, tellingOf, endedBy, settledBy};
+ghost use Rattle.matters.specs.Code.{askedHalf, wasTried, notedCount, notedPlaces, triedBy, placesBy};
 use super::Matter;
 use super::Place;
 use super::Telling;
 use super::Told;
+use super::Tried;
 use classes::element_at;
 use elements::Found;
 use elements::User;
@@ -38,6 +40,7 @@ use rules::Verdict;
 use rules::hosts_file::LineKind;
 use rules::hosts_file::kind_of_line;
 use rules::search::notes_on;
+use section::Part;
 use section::part_of;
 
 // Whether two findings are the same.
@@ -132,8 +135,71 @@ fn asks(e: &[u8], mask: u8, tables: &[u8], notes: &[u64], names: &[u8], request:
     same_found(Found::Ask, found)
 }
 
-// Whether the half before the `@` of the element e of the list s finds f, where e asks.
-fn half_agrees(
+// The half before the `@` of the element e, where e asks; else an empty one.
+fn asked_half<'a>(
+    e: &'a [u8],
+    mask: u8,
+    tables: &[u8],
+    notes: &[u64],
+    names: &[u8],
+    request: Request,
+) -> &'a [u8]
+    requires { ⌜ Describes mask (now e) ⌝ }
+    ensures { λ r. ⌜ now r ≡ askedHalf (finderAt (now (tables .entry)) (now (notes .entry)) (now (names .entry)) request) (now (e .entry)) ⌝ }
+{
+    if !asks(e, mask, tables, notes, names, request) {
+        return &e[..0];
+    }
+    let at = element::sign_place(e, mask);
+    if at == e.len() {
+        return &e[..0];
+    }
+    &e[..at]
+}
+
+// Whether h is empty, or equal to one of the n halves of the list s that are noted; the last noted is looked at first.
+fn was_tried(s: &[u8], places: &[u32], n: usize, h: &[u8]) -> bool
+    requires { ⌜ n ≤ length (now places) ⌝ }
+    ensures { λ r. ⌜ r ≡ wasTried (now (s .entry)) (now (places .entry)) n (now (h .entry)) ⌝ }
+{
+    if h.len() == 0 {
+        return true;
+    }
+    let mut k = n;
+    while 0 < k {
+        k -= 1;
+        let p = places[k] as usize;
+        let noted = Part {
+            place: p / 65536,
+            len: p % 65536,
+        };
+        if text::equal_fold(part_of(s, noted), h) {
+            return true;
+        }
+    }
+    false
+}
+
+// Notes the place of a half, where there is room, and answers how many are noted.
+fn note(places: &mut [u32], n: usize, at: usize, len: usize) -> usize
+    ensures count { λ r. ⌜ r ≡ notedCount (now (places .entry)) n at len ⌝ }
+    ensures holds { λ _. ⌜ now (places .exit) ≡ notedPlaces (now (places .entry)) n at len ⌝ }
+{
+    if places.len() <= n {
+        return n;
+    }
+    if 65536 <= at {
+        return n;
+    }
+    if 65536 <= len {
+        return n;
+    }
+    places[n] = (at * 65536 + len) as u32;
+    n + 1
+}
+
+// What the half h finds, which stands in the list s from at on, and notes it. One that is equal to a noted one finds what that did.
+fn try_half(
     class: &[u8; 256],
     tables: &[u8],
     notes: &[u64],
@@ -141,24 +207,33 @@ fn half_agrees(
     names: &[u8],
     request: Request,
     f: Found,
-    e: &[u8],
-    mask: u8,
-) -> bool
+    places: &mut [u32],
+    n: usize,
+    at: usize,
+    h: &[u8],
+) -> Tried
     requires { ⌜ Classes (now class) ⌝ }
-    requires { ⌜ Describes mask (now e) ⌝ }
-    ensures { λ r. ⌜ r ≡ halfAgrees (finderAt (now (tables .entry)) (now (notes .entry)) (now (names .entry)) request) (words (now (s .entry))) f (now (e .entry)) ⌝ }
+    requires { ⌜ n ≤ length (now places) ⌝ }
+    ensures answer { λ r.
+        ⌜ r
+        ≡ triedBy (finderAt (now (tables .entry)) (now (notes .entry)) (now (names .entry)) request) f (now (s .entry)) (now (places .entry)) n at
+        (now (h .entry)) ⌝ }
+    ensures holds { λ _.
+        ⌜ now (places .exit)
+        ≡ placesBy (finderAt (now (tables .entry)) (now (notes .entry)) (now (names .entry)) request) f (now (s .entry)) (now (places .entry)) n at
+        (now (h .entry)) ⌝ }
 {
-    if !asks(e, mask, tables, notes, names, request) {
-        return true;
+    if was_tried(s, places, n, h) {
+        return Tried::Agrees(n);
     }
-    let at = element::sign_place(e, mask);
-    if at == e.len() {
-        return true;
+    if !name_agrees(class, tables, notes, s, names, request, f, h) {
+        return Tried::Differs;
     }
-    name_agrees(class, tables, notes, s, names, request, f, &e[..at])
+    let count = note(places, n, at, h.len());
+    Tried::Agrees(count)
 }
 
-// Whether all halves of the list s that ask find f.
+// Whether all halves of the list s that ask find f. Equal ones are tried once: a line of 2,047 bytes has at most 511.
 fn halves_agree(
     class: &[u8; 256],
     tables: &[u8],
@@ -174,6 +249,8 @@ fn halves_agree(
         ≡ all (halfAgrees (finderAt (now (tables .entry)) (now (notes .entry)) (now (names .entry)) request) (words (now (s .entry))) f)
         (words (now (s .entry))) ⌝ }
 {
+    let mut places = [0u32; 512];
+    let mut n = 0;
     let mut rest = s;
     loop {
         let at = element_at(class, rest);
@@ -181,10 +258,25 @@ fn halves_agree(
         if e.len() == 0 {
             return true;
         }
-        if !half_agrees(class, tables, notes, s, names, request, f, e, at.mask) {
-            return false;
-        }
         let next = rule::after_element(rest, at.span);
+        let from = s.len() - rest.len() + at.span.start;
+        let h = asked_half(e, at.mask, tables, notes, names, request);
+        match try_half(
+            class,
+            tables,
+            notes,
+            s,
+            names,
+            request,
+            f,
+            &mut places,
+            n,
+            from,
+            h,
+        ) {
+            Tried::Differs => return false,
+            Tried::Agrees(count) => n = count,
+        }
         rest = next;
     }
 }
