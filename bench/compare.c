@@ -118,6 +118,8 @@ static const struct test_case cases[] = {
     {"fault in line 1 of 300", VERDICT, .deny = &rules_after_fault, .expected = {GATE_UNKNOWN_ELEMENT, 0, 1}},
     {"full sheet", SHEET_VERDICT, .allow = &plain, .deny = &plain, .byuid = &byuid_lines, .portacl = &portacl_entries,
      .expected = {0, GATE_GRANTED, 0}},
+    {"full sheet, shortest rules", SHEET_VERDICT, .allow = &repeats, .deny = &repeats, .byuid = &byuid_lines, .portacl = &portacl_entries,
+     .expected = {0, GATE_GRANTED, 0}},
     {"nest: one rule", TABLES_VERDICT, .allow = &naming_once, .tables = NEST, .expected = {0, GATE_GRANTED, 0}},
     {"nest: files full of it", TABLES_VERDICT, .allow = &naming, .deny = &naming, .tables = NEST, .expected = {0, GATE_GRANTED, 0}},
     {"nest: full sheet", SHEET_VERDICT, .allow = &naming, .deny = &naming, .byuid = &byuid_lines, .portacl = &portacl_entries, .tables = NEST,

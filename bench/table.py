@@ -69,9 +69,10 @@ def show(title, rows, columns):
         print(f"{case:<26}{size:>8,}" + "".join(f"{cell(figure(size, figures), digits):>11}" for _, _, digits, figure in columns))
     growing = [row for case, row in rows.items() if case.startswith("growth: ")]
     nests = {case: figures[GATE] for case, (_, figures) in rows.items() if case.startswith("nest: ")}
-    if "full sheet" in rows:
-        plain = rows["full sheet"][1][GATE]
-        print("to a full sheet of plain rules:", ", ".join(f"{case} {figure / plain:.3f}" for case, figure in nests.items()))
+    for sheet, kind in (("full sheet", "plain"), ("full sheet, shortest rules", "the shortest plain")):
+        if sheet in rows:
+            plain = rows[sheet][1][GATE]
+            print(f"to a full sheet of {kind} rules:", ", ".join(f"{case} {figure / plain:.3f}" for case, figure in nests.items()))
     for kind in ("repeats", "differing"):
         figures = [rows.get(f"{kind}: {call}", (0, {}))[1].get(GATE) for call in ("verdict", "propose", "drop")]
         if all(figures):

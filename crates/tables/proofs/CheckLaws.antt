@@ -233,6 +233,12 @@ pub record Checked (t : List ℕ) (n : ℕ) (rest : List ℕ) (i misnamed unsoun
   pub misnamed-is : tablesChecked (tablesIn t) .misnamed ≡ numberFrom misnamed (firstTable (isMisnamed (tablesIn t)) (i + 1) before (drop i (tablesIn t)))
   pub unsound-is : tablesChecked (tablesIn t) .unsound ≡ numberFrom unsound (firstTable unsoundIs (i + 1) before (drop i (tablesIn t)))
 
+-- no table is counted
+pub checked-none : (t : List ℕ) (n : ℕ) → n ≡ tableCount t → n ≡ 0
+    → _≡_ {A = TablesCheck} (record { misnamed = 0; unsound = 0 }) (tablesChecked (tablesIn t))
+unfolding tablesChecked tablesIn entries firstTable
+checked-none t n is-n z = let e : tableCount t ≡ 0 = sym is-n ∙ z in rw e
+
 pub checked-start : (t : List ℕ) (n : ℕ) → n ≡ tableCount t → (rest : List ℕ) → rest ≡ drop 2 t → Checked t n rest 0 0 0
 unfolding tablesChecked tableNamed first
 checked-start t n is-n rest is-rest = record {

@@ -21,7 +21,7 @@ use Rattle.tables.specs.declared.entry.Place.{Place}
 use Rattle.tables.specs.declared.entry.Place.the-variants as Place
 use Rattle.tables.specs.Table.{Table, table, afterCount, readTable, readEach, readTables}
 use Rattle.tables.specs.Code.{entries, tableCount, tablesIn, cutEntry, spanOf, entrySpan, entryOr, entryTable, afterEntry, frameOf}
-use Rattle.tables.specs.Code.{placeNamed, placeOf}
+use Rattle.tables.specs.Code.{placeNamed, placeOf, shifted, SoughtFrom}
 
 pub none-some : {A : Type 0} {a : A} → _≡_ {A = Option A} none (some a) → ⊥
 none-some e = let z : _≡_ {A = ℕ} 0 1 = cc in omega arith
@@ -352,15 +352,12 @@ count-all t n rest i h e = omega (arith, h .passed, length-drop i (tablesIn t), 
 
 -- ## The place of a name
 
-abbrev pub shifted : ℕ → Option ℕ → Option ℕ
-shifted i o = o >>= λ k. some (i + k)
-
 -- none of the i tables passed has the name
 pub record Sought (t name : List ℕ) (n : ℕ) (rest : List ℕ) (i : ℕ) : Type 0 where
   pub reached : Reached t n rest i
   pub place : placeNamed (tablesIn t) name ≡ shifted i (placeNamed (drop i (tablesIn t)) name)
 
-shifted-none : (o : Option ℕ) → o ≡ shifted 0 o
+pub shifted-none : (o : Option ℕ) → o ≡ shifted 0 o
 shifted-none none = refl
 shifted-none (some k) = let z : k ≡ 0 + k = omega arith in ap some z
 
@@ -368,11 +365,26 @@ shifted-more : (i : ℕ) (o : Option ℕ) → shifted i (o >>= λ k. some (suc k
 shifted-more i none = refl
 shifted-more i (some k) = let z : i + suc k ≡ i + 1 + k = omega arith in ap some z
 
-pub sought-start : (t name : List ℕ) (n : ℕ) → n ≡ tableCount t → (rest : List ℕ) → rest ≡ drop 2 t → Sought t name n rest 0
-sought-start t name n is-n rest is-rest = record {
-  reached = reached-start t n is-n rest is-rest;
-  place = shifted-none (placeNamed (tablesIn t) name);
+pub sought-start : (t name : List ℕ) (n : ℕ) → n ≡ tableCount t → (rest : List ℕ) (i : ℕ) → SoughtFrom t name rest i → Sought t name n rest i
+sought-start t name n is-n rest i h = record {
+  reached = record {
+    upto = rw is-n (h .sought-upto);
+    passed = h .sought-passed;
+    left = rw is-n (h .sought-left);
+  };
+  place = h .sought-place;
 }
+
+-- from the first table on
+pub sought-first : (t name rest : List ℕ) → rest ≡ drop 2 t → SoughtFrom t name rest 0
+sought-first t name rest is-rest =
+    let r : Reached t (tableCount t) rest 0 = reached-start t (tableCount t) refl rest is-rest in
+    record {
+      sought-upto = r .upto;
+      sought-passed = r .passed;
+      sought-left = r .left;
+      sought-place = shifted-none (placeNamed (tablesIn t) name);
+    }
 
 module _ (t name : List ℕ) (n : ℕ) (rest : List ℕ) (i : ℕ) (so-far : Sought t name n rest i) where
   missing : drop i (tablesIn t) ≡ [] → Place.Missing ≡ placeOf (placeNamed (tablesIn t) name)

@@ -1,5 +1,6 @@
 pub mod NameLaws
 pub mod EntryLaws
+pub mod StartLaws
 pub mod WordLaws
 pub mod CheckLaws
 pub mod TableLaws

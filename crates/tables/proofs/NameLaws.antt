@@ -11,7 +11,7 @@ use Rattle.text.specs.Text.{charRange, lower, equal, equalFold}
 use Rattle.text.proofs.ScanLaws.{eq-of-equal, equalFold-lengths}
 
 -- case changes one bit, which is none of the low five
-lower-rest : (x : ℕ) → lower x % 32 ≡ x % 32
+pub lower-rest : (x : ℕ) → lower x % 32 ≡ x % 32
 unfolding lower
 lower-rest x = by (charRange "A" "Z" x)
   where

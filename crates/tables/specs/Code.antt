@@ -3,11 +3,12 @@
 --   tablesIn t           == the tables of t, as far as its bytes go
 --   placeNamed ts n      == the place among ts of the first table named n
 -- Assumes nothing: these are definitions.
-use Prim.Native.Nat.{ℕ, zero, suc, _+_}
+use Prim.Native.Nat.{ℕ, zero, suc, _+_, _-_, _*_, _%_, _≤_, _<_}
 use mathlib.Core.Bool.{Bool, true, false, not, _&&_, _||_}
 use mathlib.Core.List.{List, [], _∷_}
 use mathlib.Core.Option.{Option, none, some, Option·getD}
-use lib.ListN.{length, take, drop}
+use mathlib.Core.Path.{_≡_}
+use lib.ListN.{length, take, drop, getD}
 use lib.Dec.{eqb, ltb}
 use Rattle.text.specs.Basics.{if_then_else_, _>>=_, holds, isSome, isEmpty, any}
 use Rattle.text.specs.Text.{among, split, equalFold}
@@ -74,6 +75,39 @@ placeNamed (t ∷ ts) n = if equalFold n (t .name) then some 0 else (placeNamed 
 abbrev pub placeOf : Option ℕ → Place
 placeOf none = Place.Missing
 placeOf (some i) = Place.At i
+
+-- how many places further, a place found
+abbrev pub shifted : ℕ → Option ℕ → Option ℕ
+shifted i o = o >>= λ k. some (i + k)
+
+-- rest holds the tables of t from the place i on, and none before is named n
+pub record SoughtFrom (t n rest : List ℕ) (i : ℕ) : Type 0 where
+  pub sought-upto : i ≤ tableCount t
+  pub sought-passed : i ≤ length (tablesIn t)
+  pub sought-left : drop i (tablesIn t) ≡ entries (tableCount t - i) rest
+  pub sought-place : placeNamed (tablesIn t) n ≡ shifted i (placeNamed (drop i (tablesIn t)) n)
+
+-- ## Starts
+
+-- a number of a name below 256, the same whatever its case
+unfoldable pub keyFrom : ℕ → List ℕ → ℕ
+keyFrom h [] = h
+keyFrom h (b ∷ s) = keyFrom ((h * 27 + b % 32) % 256) s
+
+unfoldable pub keyOf : List ℕ → ℕ
+keyOf n = keyFrom 0 n
+
+-- the last `left` tables of those counted in t stand at the byte b, and of the first i none before them has a name of the number k
+pub record StartOf (t : List ℕ) (i k left b : ℕ) : Type 0 where
+  pub start-upto : left ≤ tableCount t
+  pub start-passed : 0 < left → tableCount t - left ≤ length (tablesIn t)
+  pub start-within : b ≤ length t
+  pub start-left : drop (tableCount t - left) (tablesIn t) ≡ entries left (drop b t)
+  pub start-first : (j : ℕ) → j < tableCount t - left → j < i → keyOf (getD (tablesIn t) j (table [] []) .name) ≡ k → ⊥
+
+-- s tells of each number how many tables are left from the first on whose name has it, and behind that at which byte they stand
+unfoldable pub Starts : List ℕ → List ℕ → Type 0
+Starts t s = (k : ℕ) → k < 256 → StartOf t (length (tablesIn t)) k (getD s k 0) (getD s (256 + k) 0)
 
 -- ## Words
 

@@ -2,15 +2,16 @@
 //   check_tables(tables) == the number of the first table of each, 0 where there is none
 ghost use mathlib.Core.Path.{_≡_};
 ghost use Rattle.tables.specs.Table.{isMissing, isBadPattern};
-ghost use Rattle.tables.specs.Code.{tablesIn, wordMissing, words, plainBad, wordsChecked, textChecked, namedBefore, firstNumber, tablesChecked};
+ghost use Rattle.tables.specs.Code.{tablesIn, wordMissing, words, plainBad, wordsChecked, textChecked, namedBefore, firstNumber, tablesChecked, Starts};
 use super::entry::Place;
 use super::entry::after_count;
 use super::entry::after_entry;
 use super::entry::entry_name;
 use super::entry::entry_span;
 use super::entry::entry_text;
-use super::entry::find;
 use super::entry::table_count;
+use super::start::find_by;
+use super::start::note_starts;
 use super::word::after_word;
 use super::word::has_slash;
 use super::word::is_table_name;
@@ -34,10 +35,11 @@ pub struct TablesCheck {
 }
 
 // Whether no table has that name.
-fn is_missing(tables: &[u8], name: &[u8]) -> bool
+fn is_missing(tables: &[u8], starts: &[usize; 512], name: &[u8]) -> bool
+    requires { ⌜ Starts (now tables) (now starts) ⌝ }
     ensures { λ r. ⌜ r ≡ isMissing (tablesIn (now (tables .entry))) (now (name .entry)) ⌝ }
 {
-    match find(tables, name) {
+    match find_by(tables, starts, name) {
         Place::Missing => true,
         Place::At(_) => false,
     }
@@ -56,14 +58,15 @@ fn is_bad(w: &[u8]) -> bool
 }
 
 // What is found of the pattern w.
-fn check_word(tables: &[u8], w: &[u8]) -> TextCheck
+fn check_word(tables: &[u8], starts: &[usize; 512], w: &[u8]) -> TextCheck
+    requires { ⌜ Starts (now tables) (now starts) ⌝ }
     ensures { λ r. ⌜ r ≡ textChecked (wordMissing (tablesIn (now (tables .entry))) (now (w .entry))) (isBadPattern (now (w .entry))) ⌝ }
 {
     if has_slash(w) {
         let name = &w[1..];
         if is_table_name(name) {
             return TextCheck {
-                missing: is_missing(tables, name),
+                missing: is_missing(tables, starts, name),
                 bad: false,
             };
         }
@@ -79,7 +82,8 @@ fn check_word(tables: &[u8], w: &[u8]) -> TextCheck
 }
 
 // What is found of the patterns of a text.
-fn check_text(tables: &[u8], text: &[u8]) -> TextCheck
+fn check_text(tables: &[u8], starts: &[usize; 512], text: &[u8]) -> TextCheck
+    requires { ⌜ Starts (now tables) (now starts) ⌝ }
     ensures { λ r. ⌜ r ≡ wordsChecked (tablesIn (now (tables .entry))) (words (now (text .entry))) ⌝ }
 {
     let mut found = TextCheck {
@@ -93,7 +97,7 @@ fn check_text(tables: &[u8], text: &[u8]) -> TextCheck
         if w.len() == 0 {
             return found;
         }
-        let seen = check_word(tables, w);
+        let seen = check_word(tables, starts, w);
         found = TextCheck {
             missing: found.missing | seen.missing,
             bad: found.bad | seen.bad,
@@ -104,10 +108,11 @@ fn check_text(tables: &[u8], text: &[u8]) -> TextCheck
 }
 
 // Whether the first table of that name stands before the place i.
-fn is_named_before(tables: &[u8], name: &[u8], i: usize) -> bool
+fn is_named_before(tables: &[u8], starts: &[usize; 512], name: &[u8], i: usize) -> bool
+    requires { ⌜ Starts (now tables) (now starts) ⌝ }
     ensures { λ r. ⌜ r ≡ namedBefore (tablesIn (now (tables .entry))) (now (name .entry)) i ⌝ }
 {
-    match find(tables, name) {
+    match find_by(tables, starts, name) {
         Place::Missing => false,
         Place::At(k) => k < i,
     }
@@ -125,8 +130,9 @@ fn first_number(before: usize, holds: bool, number: usize) -> usize
     before
 }
 
-// The first faulty tables.
-pub fn check_tables(tables: &[u8]) -> TablesCheck
+// The first faulty tables, where it is known where to begin to look for a name.
+fn check_each(tables: &[u8], starts: &[usize; 512]) -> TablesCheck
+    requires { ⌜ Starts (now tables) (now starts) ⌝ }
     ensures { λ r. ⌜ r ≡ tablesChecked (tablesIn (now (tables .entry))) ⌝ }
 {
     let n = table_count(tables);
@@ -140,8 +146,8 @@ pub fn check_tables(tables: &[u8]) -> TablesCheck
             return TablesCheck { misnamed, unsound };
         }
         let name = entry_name(rest, span);
-        let text = check_text(tables, entry_text(rest, span));
-        let twice = is_named_before(tables, name, i);
+        let text = check_text(tables, starts, entry_text(rest, span));
+        let twice = is_named_before(tables, starts, name, i);
         misnamed = first_number(misnamed, twice | text.missing, i + 1);
         unsound = first_number(unsound, !is_table_name(name) | text.bad, i + 1);
         let next = after_entry(rest, span);
@@ -149,4 +155,19 @@ pub fn check_tables(tables: &[u8]) -> TablesCheck
         i += 1;
     }
     TablesCheck { misnamed, unsound }
+}
+
+// The first faulty tables.
+pub fn check_tables(tables: &[u8]) -> TablesCheck
+    ensures { λ r. ⌜ r ≡ tablesChecked (tablesIn (now (tables .entry))) ⌝ }
+{
+    if table_count(tables) == 0 {
+        return TablesCheck {
+            misnamed: 0,
+            unsound: 0,
+        };
+    }
+    let mut begin = [0usize; 512];
+    note_starts(tables, &mut begin);
+    check_each(tables, &begin)
 }

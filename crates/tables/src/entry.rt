@@ -171,7 +171,7 @@ pub fn count(tables: &[u8]) -> usize
 }
 
 // Whether two names are equal but for case. Those of one length mostly differ in their last byte, of which case changes one bit.
-fn is_named(name: &[u8], other: &[u8]) -> bool
+pub fn is_named(name: &[u8], other: &[u8]) -> bool
     ensures { λ r. ⌜ r ≡ equalFold (now (name .entry)) (now (other .entry)) ⌝ }
 {
     if name.len() != other.len() {

@@ -11,7 +11,7 @@ ghost use Prim.Native.Nat.{_+_, _≤_, _<_};
 ghost use lib.Dec.{eqb};
 ghost use lib.ListN.{length, getD};
 ghost use Rattle.patterns.specs.Host.{endpoint};
-ghost use Rattle.tables.specs.Code.{tablesIn, words};
+ghost use Rattle.tables.specs.Code.{tablesIn, words, Starts};
 ghost use Rattle.text.specs.Basics.{if_then_else_};
 ghost use Rattle.views.specs.View.{bitAt, anyBelow, Marks, isNamed, wordNames, RowOf, RowsOf, isDeep, nameLeads, wordLeads, textLeads, Above, Deep};
 ghost use Rattle.views.specs.Level.{Viewed};
@@ -25,6 +25,8 @@ use tables::entry::entry_span;
 use tables::entry::entry_text;
 use tables::entry::find;
 use tables::entry::table_count;
+use tables::start::find_by;
+use tables::start::note_starts;
 use tables::word::after_word;
 use tables::word::has_slash;
 use tables::word::names_table;
@@ -92,21 +94,23 @@ pub fn has_bit(m: u64, i: usize) -> bool
 }
 
 // The bit of the table of that name, if there is one.
-fn named_bit(tables: &[u8], name: &[u8]) -> u64
+fn named_bit(tables: &[u8], starts: &[usize; 512], name: &[u8]) -> u64
+    requires { ⌜ Starts (now tables) (now starts) ⌝ }
     ensures { λ r. ⌜ Marks r 64 (isNamed (tablesIn (now (tables .entry))) (now (name .entry))) ⌝ }
 {
-    match find(tables, name) {
+    match find_by(tables, starts, name) {
         Place::Missing => 0,
         Place::At(i) => bit(i),
     }
 }
 
 // The bit of the table that the pattern w names, if it names one.
-fn word_bit(tables: &[u8], w: &[u8]) -> u64
+fn word_bit(tables: &[u8], starts: &[usize; 512], w: &[u8]) -> u64
+    requires { ⌜ Starts (now tables) (now starts) ⌝ }
     ensures { λ r. ⌜ Marks r 64 (wordNames (tablesIn (now (tables .entry))) (now (w .entry))) ⌝ }
 {
     if names_table(w) {
-        return named_bit(tables, &w[1..]);
+        return named_bit(tables, starts, &w[1..]);
     }
     0
 }
@@ -114,19 +118,21 @@ fn word_bit(tables: &[u8], w: &[u8]) -> u64
 // What the pattern w gives.
 fn word_row(
     tables: &[u8],
+    starts: &[usize; 512],
     w: &[u8],
     client: Host,
     client_name: &[u8],
     server: Host,
     server_name: &[u8],
 ) -> Row
+    requires { ⌜ Starts (now tables) (now starts) ⌝ }
     ensures { λ r.
         ⌜ RowOf (tablesIn (now (tables .entry))) (endpoint client (now («client_name» .entry))) (endpoint server (now («server_name» .entry)))
         (now (w .entry) ∷ []) r ⌝ }
 {
     if has_slash(w) {
         return Row {
-            names: word_bit(tables, w),
+            names: word_bit(tables, starts, w),
             client: false,
             server: false,
             client_tried: 1,
@@ -158,12 +164,14 @@ fn count_on(count: u64, ended: bool) -> u64
 // What a text gives.
 fn text_row(
     tables: &[u8],
+    starts: &[usize; 512],
     text: &[u8],
     client: Host,
     client_name: &[u8],
     server: Host,
     server_name: &[u8],
 ) -> Row
+    requires { ⌜ Starts (now tables) (now starts) ⌝ }
     ensures { λ r.
         ⌜ RowOf (tablesIn (now (tables .entry))) (endpoint client (now («client_name» .entry))) (endpoint server (now («server_name» .entry)))
         (words (now (text .entry))) r ⌝ }
@@ -182,7 +190,7 @@ fn text_row(
         if w.len() == 0 {
             return row;
         }
-        let seen = word_row(tables, w, client, client_name, server, server_name);
+        let seen = word_row(tables, starts, w, client, client_name, server, server_name);
         row = Row {
             names: row.names | seen.names,
             client: row.client | seen.client,
@@ -198,12 +206,14 @@ fn text_row(
 // What every text gives.
 fn all_rows(
     tables: &[u8],
+    starts: &[usize; 512],
     client: Host,
     client_name: &[u8],
     server: Host,
     server_name: &[u8],
 ) -> Rows
     requires { ⌜ length (tablesIn (now tables)) ≤ 64 ⌝ }
+    requires { ⌜ Starts (now tables) (now starts) ⌝ }
     ensures { λ r.
         ⌜ RowsOf (tablesIn (now (tables .entry))) (endpoint client (now («client_name» .entry))) (endpoint server (now («server_name» .entry))) r ⌝ }
 {
@@ -221,6 +231,7 @@ fn all_rows(
         }
         let row = text_row(
             tables,
+            starts,
             entry_text(rest, span),
             client,
             client_name,
@@ -267,11 +278,13 @@ pub fn view(
     ensures { λ r.
         ⌜ Viewed (tablesIn (now (tables .entry))) (endpoint client (now («client_name» .entry))) (endpoint server (now («server_name» .entry))) r ⌝ }
 {
-    let rows = all_rows(tables, client, client_name, server, server_name);
+    let mut begin = [0usize; 512];
+    note_starts(tables, &mut begin);
+    let rows = all_rows(tables, &begin, client, client_name, server, server_name);
     let names = rows.names;
     let mut first = rows.notes;
     first[2] = step(&names, 0, 18446744073709551615);
-    level::raised(tables, &names, &first, 3)
+    level::raised(tables, &begin, &names, &first, 3)
 }
 
 // Whether the table at the place i is marked in the notes as too deep.

@@ -9,6 +9,7 @@ view-spec =
     let facts = tie.spec
     (λ c κs. search needs)
     (λ c κs. search needs)
+    (λ c κs. search needs)
     (λ c. search needs)
     (λ c κs. search needs)
     (λ c. search (view-right, needs)) in

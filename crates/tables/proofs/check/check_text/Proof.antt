@@ -10,11 +10,11 @@ use Rattle.tables.proofs.check.check_text.Statement.{statement}
 use Rattle.tables.proofs.check.check_text.Tie as tie
 
 abbrev Inv-loop : tie.InvT-loop
-Inv-loop tables text found₀ rest₀ found rest =
+Inv-loop tables starts text found₀ rest₀ found rest =
     wordsChecked (tablesIn tables) (words text) ≡ textFrom found (wordsChecked (tablesIn tables) (words rest))
 
 abbrev μ-loop : tie.MeasureT-loop
-μ-loop tables text found₀ rest₀ found rest = length rest
+μ-loop tables starts text found₀ rest₀ found rest = length rest
 
 pub check-text-spec : {M : Type 1} → statement M
 check-text-spec =

@@ -11,14 +11,14 @@ use Rattle.views.proofs.level.lifted.Reads as lifted-reads
 use Rattle.views.proofs.level.+raised.{statement}
 use Rattle.views.proofs.level.+raised.Tie.{close}
 
-abbrev μ-raised : Measures 3 raised-kinds.ps ℕ
-μ-raised κs a = a .1 .1 .1 .0
+abbrev μ-raised : Measures 4 raised-kinds.ps ℕ
+μ-raised κs a = a .1 .1 .1 .1 .0
 
-abbrev raised-at : ℕ → In 3 raised-kinds.ps
-raised-at t = and 3 raised-kinds.ps (is 3 raised-kinds.ps μ-raised t) raised.Pre
+abbrev raised-at : ℕ → In 4 raised-kinds.ps
+raised-at t = and 4 raised-kinds.ps (is 4 raised-kinds.ps μ-raised t) raised.Pre
 
-abbrev raised-below : ℕ → In 3 raised-kinds.ps
-raised-below t = and 3 raised-kinds.ps (falls 3 raised-kinds.ps _<_ μ-raised t) raised.Pre
+abbrev raised-below : ℕ → In 4 raised-kinds.ps
+raised-below t = and 4 raised-kinds.ps (falls 4 raised-kinds.ps _<_ μ-raised t) raised.Pre
 
 pub +raised-spec : {M : Type 1} → statement M
 +raised-spec = close μ-raised λ t. raised-lts.spec (
