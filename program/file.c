@@ -3,6 +3,7 @@
 #include <stdio.h>
 #include <stdlib.h>
 #include <string.h>
+#include <sys/stat.h>
 #include <unistd.h>
 #include "file.h"
 #include "message.h"
@@ -15,6 +16,11 @@ bool join_path(char *path, const char *folder, const char *name) {
         return true;
     complain("gate", "%s: the path is too long", shown(folder));
     return false;
+}
+
+bool is_same_file(const char *one, const char *other) {
+    struct stat a, b;
+    return !stat(one, &a) && !stat(other, &b) && a.st_dev == b.st_dev && a.st_ino == b.st_ino;
 }
 
 static bool read_all(int fd, size_t room, struct text *text) {

@@ -1,7 +1,6 @@
 /* gate pack: a station's four texts and its tables into a sheet. */
 #include <stdio.h>
 #include <string.h>
-#include <sys/stat.h>
 #include "command.h"
 #include "fault.h"
 #include "message.h"
@@ -34,21 +33,13 @@ static const char help[] =
     "  gate pack sample station.sheet\n"
     "  gate pack sample/fleet/north north.sheet --tables sample/fleet/tables\n";
 
-static bool is_file(const char *path, const struct stat *file) {
-    struct stat there;
-    return !stat(path, &there) && there.st_dev == file->st_dev && there.st_ino == file->st_ino;
-}
-
 /* Whether the sheet would take the place of a text or a table that it is made of. */
 static bool is_own_text(const struct station *station, const char *sheet) {
-    struct stat there;
     bool same = false;
-    if (stat(sheet, &there))
-        return false;
     for (uint32_t section = GATE_ALLOW; section <= GATE_PORTACL && !same; section++)
-        same = is_file(section_path(station, section), &there);
+        same = is_same_file(section_path(station, section), sheet);
     for (size_t i = 0; i < station->tables.count && !same; i++)
-        same = is_file(table_path(station, i), &there);
+        same = is_same_file(table_path(station, i), sheet);
     if (same)
         complain("gate", "%s: is one of the texts to be packed", shown(sheet));
     return same;

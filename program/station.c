@@ -147,14 +147,9 @@ static bool find_own_tables(char *own, const char *path) {
     return true;
 }
 
-static bool is_same(const char *one, const char *other) {
-    struct stat a, b;
-    return !stat(one, &a) && !stat(other, &b) && a.st_dev == b.st_dev && a.st_ino == b.st_ino;
-}
-
 /* Two folders of tables are one too many: whichever is taken, rules might be read with tables that were not meant. */
 static bool is_only(const char *own, const char *tables) {
-    if (!*own || !tables || is_same(own, tables))
+    if (!*own || !tables || is_same_file(own, tables))
         return true;
     complain("gate", "%s: this station has tables of its own, and is given those of %s too: take the one, or move the other away", shown(own),
              shown(tables));

@@ -21,7 +21,8 @@ static const char help[] =
     "other byte stays; every request is then answered as before, by the same rule.\n"
     "\n"
     "FILE may be - for standard input, NEW may be - for standard output, or FILE itself.\n"
-    "NEW appears whole or not at all, as by gate pack; without NEW nothing is written.\n"
+    "NEW appears whole or not at all, as by gate pack, and may be no other text or table\n"
+    "of the station; without NEW nothing is written.\n"
     "\n"
     "  --as WHICH    what FILE is, allow or deny; without it FILE is named hosts.allow or\n"
     "                hosts.deny\n"
@@ -184,6 +185,21 @@ static enum status show_found(const struct tidying *t, bool quiet) {
     return found ? STATUS_NO : STATUS_YES;
 }
 
+/* Whether the new file would take the place of a table, or of another text of the station that stands beside the file. */
+static bool is_other_text(const struct tidying *t, const char *file, const char *new) {
+    char folder[PATH_ROOM], beside[PATH_ROOM];
+    bool same = false;
+    snprintf(folder, sizeof folder, "%s", file);
+    const char *within = strcmp(file, "-") ? dirname(folder) : NULL;
+    for (uint32_t section = GATE_ALLOW; section <= GATE_PORTACL && within && !same; section++)
+        same = section != t->section && join_path(beside, within, section_file(section)) && is_same_file(beside, new);
+    for (size_t i = 0; i < t->station.tables.count && !same; i++)
+        same = is_same_file(table_path(&t->station, i), new);
+    if (same)
+        complain("gate", "%s: is another text of the station: give another name for the new file", shown(new));
+    return same;
+}
+
 /* Makes the file without the lines, where they may be dropped. */
 static bool drop_lines(const struct tidying *t, uint8_t *tidied, size_t *len) {
     const struct text *text = text_of(t), *tables = section_text(&t->station, GATE_TABLES);
@@ -228,7 +244,7 @@ static enum status run(const struct arguments *arguments) {
         return STATUS_FAILED;
     }
     if (!find_section(file, arguments->option[AS], &t.section) || (lines && !read_lines(&t, lines)) || (new && strcmp(new, "-") && !may_write(new)) ||
-        !read_station_text(&t.station, file, t.section, arguments->option[TABLES]) || !read_proposal(&t, lines))
+        !read_station_text(&t.station, file, t.section, arguments->option[TABLES]) || (new && is_other_text(&t, file, new)) || !read_proposal(&t, lines))
         return STATUS_FAILED;
     mark_dropped(&t);
     return new ? write_new(&t, new, quiet) : show_found(&t, quiet);

@@ -1,14 +1,15 @@
 #!/usr/bin/env python3
-"""check_edits.py: scripts/check-edits accepts wrong programs that rt refuses, and complains of each planted edit that shows nothing.
+"""check_edits.py: scripts/check-edits accepts wrong programs that the prover refuses, and complains of each planted edit that shows nothing.
 
-It builds a repository of one small crate in a temporary folder, has `rt must-fail` try its edits, and reads what check-edits says.
+It builds a repository of one small crate in a temporary folder, has `rt must-fail` try some of its edits and scripts/try-edits the others, and
+reads what check-edits says.
 """
 import pathlib
 import subprocess
 import sys
 import tempfile
 
-CHECK_EDITS = pathlib.Path(__file__).resolve().parent.parent / "scripts" / "check-edits"
+SCRIPTS = pathlib.Path(__file__).resolve().parent.parent / "scripts"
 
 CRATE = {
     "specs/Lib.antt": "pub mod Small\n",
@@ -104,7 +105,7 @@ new:         return b + 2;
 old:     raise(once)
 new:     raise(b)
 """,
-    "wrong_2": """# end_at_one (small::is_end): one is no end
+    "incremental/wrong_2": """# end_at_one (small::is_end): one is no end
 file: src/lib.rt
 old: (b == 0) | (b == 9)
 new: (b == 1) | (b == 9)
@@ -115,14 +116,14 @@ new:     if b < 8 {
 old: r ≡ raised (raised b)
 new: r ≡ raised b
 """,
-    "wrong_3": """# nine_raised (raised-nine): nine stays nine
+    "incremental/wrong_3": """# nine_raised (raised-nine): nine stays nine
 file: specs/Small.antt
 old: ltb b 9
 new: ltb b 10
 """,
 }
 
-# edits that show nothing, though rt says of all but one that they were refused, as they must be
+# edits that show nothing, though the prover refuses all but the two that are right
 PLANTED = {
     "joined": """# hollow (small::raise): a right program whose proof no longer fits
 file: src/lib.rt
@@ -143,17 +144,22 @@ file: src/lib.rt
 old: (b == 0) | (b == 9)
 new: ((b == 0)) | (b == 9)
 """,
-    "no_definition": """# no_definition (raised-nine): there is no c
+    "incremental/right_again": """# right_again (small::is_end): a right program
+file: src/lib.rt
+old: (b == 0) | (b == 9)
+new: (b == 0) | ((b == 9))
+""",
+    "incremental/no_definition": """# no_definition (raised-nine): there is no c
 file: specs/Small.antt
 old: (b + 1) b
 new: (b + 1) c
 """,
 }
 
-# planted once rt has run
+# planted once all were tried
 LATER = {
     "wrong_1": SOUND["wrong_1"].replace("b + 2", "b + 3"),
-    "untried": "# untried (small::raise): rt has not seen it\nfile: src/lib.rt\nold: b < 9\nnew: b < 7\n",
+    "incremental/untried": "# untried (small::raise): rt has not seen it\nfile: src/lib.rt\nold: b < 9\nnew: b < 7\n",
     "proof_changed": "# proof_changed (small::raise): it says nothing of the code\nfile: proofs/raise/Proof.antt\nold: lt-ltb _ 9\nnew: lt-ltb _ 8\n",
 }
 
@@ -163,6 +169,7 @@ COMPLAINTS = [
     "small/joined: right_beside_wrong (small::is_end): it is still proved",
     "small/joined: misnamed (small::rise): the log has no function of this name",
     "small/right_alone: rt says: NOT REFUSED",
+    "small/right_again: rt says: NOT REFUSED",
     "small/no_definition: what it changes is no program or definition",
     "small/wrong_1: it was tried on another text",
     "small/untried: it was not tried",
@@ -182,14 +189,14 @@ def edits(texts):
     return {f"must-fail/{name}.edit": text for name, text in texts.items()}
 
 
-def check_edits(top):
-    run = subprocess.run([str(CHECK_EDITS)], cwd=top, capture_output=True, text=True)
-    return run.returncode, run.stdout
+def ran(top, *command):
+    run = subprocess.run(command, cwd=top, capture_output=True, text=True)
+    return run.returncode, run.stdout + run.stderr
 
 
 def demand(what, holds, said):
     if not holds:
-        sys.exit(f"check_edits: {what}; check-edits said:\n{said}")
+        sys.exit(f"check_edits: {what}; what was said:\n{said}")
 
 
 def main():
@@ -198,15 +205,19 @@ def main():
         crate = top / "crates" / "small"
         write(top, {"crates.txt": "small:\n"})
         write(crate, {**CRATE, **edits(SOUND), **edits(PLANTED)})
-        tried = subprocess.run(["rt", "must-fail"], cwd=top, capture_output=True, text=True)
-        if "rt: FAILED: small/right_alone\n" not in tried.stdout:
-            sys.exit("check_edits: rt did not refuse all edits but right_alone:\n" + tried.stdout + tried.stderr)
+        status, said = ran(top, SCRIPTS / "try-edits")
+        demand("edits were tried over a crate that is not proved", status == 1 and "small is not proved" in said, said)
+        status, said = ran(top, "rt", "must-fail")
+        demand("rt did not refuse all edits but right_alone", "rt: FAILED: small/right_alone\n" in said, said)
+        status, said = ran(top, SCRIPTS / "try-edits")
+        demand("try-edits did not refuse all edits but right_again",
+               status == 1 and said.count(": refused, as it must be") == 3 and "small/right_again: NOT REFUSED" in said, said)
         for name in PLANTED:
             (crate / "must-fail" / (name + ".edit")).unlink()
-        status, said = check_edits(top)
+        status, said = ran(top, SCRIPTS / "check-edits")
         demand("sound edits were not accepted", status == 0 and said.endswith("check-edits: ok, 7 wrong programs, each refused by itself\n"), said)
         write(crate, {**edits(PLANTED), **edits(LATER)})
-        status, said = check_edits(top)
+        status, said = ran(top, SCRIPTS / "check-edits")
         for complaint in COMPLAINTS:
             demand("no complaint: " + complaint, "check-edits: " + complaint in said, said)
         demand("other complaints, or the wrong status", status == 1 and f"FAILED, {len(COMPLAINTS)} complaints; besides 4 wrong programs" in said, said)

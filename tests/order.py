@@ -11,7 +11,7 @@ import sys
 import tempfile
 
 top = pathlib.Path(__file__).resolve().parent.parent
-CALLED = ("scripts/need", "scripts/check-docs", "scripts/check-edits", "tests/run")
+CALLED = ("scripts/need", "scripts/check-docs", "scripts/try-edits", "scripts/check-edits", "tests/run")
 RT = ("rt fmt", "rt ci")
 LAST = "7 passed, 0 failed"
 

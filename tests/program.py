@@ -1085,6 +1085,12 @@ def test_tidy(folder):
         expect("lines that may not be dropped: " + lines, gate("tidy", deny, new, "--lines", lines), 2, b"", message)
         if new.read_bytes() != b"what was there" or left_over(where):
             fail("a refused proposal changes nothing: " + lines)
+    for other in ("hosts.allow", "byuid", "portacl", "tables/vans"):
+        kept = (where / other).read_bytes()
+        expect("the place of another text: " + other, gate("tidy", deny, where / other), 2, b"", other + ": is another text of the station: give another name for the new file\n")
+        if (where / other).read_bytes() != kept:
+            fail("another text is as it was: " + other)
+    expect("a draft into the station's own file", gate("tidy", "-q", new, deny, "--as", "deny", "--tables", where / "tables"), 2, b"", "this station has tables of its own")
     expect("and that it is refused", gate("tidy", deny, new, "--lines", "2"), 2, b"", "refused: a proposal that is not accepted; nothing was written; without --lines every rule is shown that may be dropped\n")
     deny.chmod(0o640)
     expect("in place", gate("tidy", "-q", deny, deny), 0, b"", b"")
