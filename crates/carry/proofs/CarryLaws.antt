@@ -81,7 +81,8 @@ module _ (t : List ℕ) (uid : ℕ) (sound : portaclFault t ≡ none) where
       (notes-here uid p t zeros q (rw long h) sound ∙ ap (λ (n : ℕ). if hasEntry t uid p q then 1 else n) zero-there)
       ∙ one-noted (hasEntry t uid p q)
 
-  both-noted : (q : ℕ) → q < 1024 → inBoth (notes uid Tcp (entriesData t) (replicate 1024 0)) (notes uid Udp (entriesData t) (replicate 1024 0)) q ≡ carried t uid q
+  both-noted : (q : ℕ) → q < 1024 → inBoth (notes uid Tcp (entriesData t) (replicate 1024 0)) (notes uid Udp (entriesData t) (replicate 1024 0)) q
+      ≡ carried t uid q
   unfolding inBoth carried
   both-noted q h = ap₂ (λ (a b : Bool). a && b) (noted-is Tcp q h) (noted-is Udp q h)
 

@@ -56,7 +56,8 @@ unfolding any each equal lower split splitOnce fromDigits numeral readDecimal re
 v4-line-v4 = refl
 
 v4-line-v6 : (readRange readV6 (bytes "0.0.0.0/0") orElse readNet 128 readV6 (bytes "0.0.0.0/0")) ≡ none
-unfolding any all each equal lower split splitOnce fromDigits toDigits numeral readDecimal readV4 readV6 readGroup readGroups readCompressed readLastGroup readRange readNet
+unfolding any all each equal lower split splitOnce fromDigits toDigits numeral readDecimal readV4 readV6 readGroup readGroups readCompressed readLastGroup
+    readRange readNet
 v4-line-v6 = refl
 
 v6-line-v4 : (readRange readV4 (bytes "::/0") orElse readNet 32 readV4 (bytes "::/0")) ≡ none
@@ -64,7 +65,8 @@ unfolding any each equal lower split splitOnce fromDigits numeral readDecimal re
 v6-line-v4 = refl
 
 v6-line-v6 : (readRange readV6 (bytes "::/0") orElse readNet 128 readV6 (bytes "::/0")) ≡ some (0, 2 ^ 128 - 1)
-unfolding any all each equal lower split splitOnce fromDigits toDigits numeral readDecimal readV4 readV6 readGroup readGroups readCompressed readLastGroup readRange readNet
+unfolding any all each equal lower split splitOnce fromDigits toDigits numeral readDecimal readV4 readV6 readGroup readGroups readCompressed readLastGroup
+    readRange readNet
 v6-line-v6 = refl
 
 module _ (w : ℕ) (f : List ℕ → Option ℕ) (q : ℕ) where

@@ -77,7 +77,8 @@ lineV6 p = addressLine (bytes "::/0,") p
 pub lines-parts : (p : ℕ) → portLines p ≡ lineV4 p ++ lineV6 p
 unfolding addressLine
 lines-parts p =
-    ap (λ (t : List ℕ). t ++ bytes "\n") (append-assoc (lineV4 p) (bytes "::/0,") (decimal p)) ∙ append-assoc (lineV4 p) (bytes "::/0," ++ decimal p) (bytes "\n")
+    ap (λ (t : List ℕ). t ++ bytes "\n") (append-assoc (lineV4 p) (bytes "::/0,") (decimal p))
+    ∙ append-assoc (lineV4 p) (bytes "::/0," ++ decimal p) (bytes "\n")
 
 pub length-portLines : (p : ℕ) → length (portLines p) ≡ 17 + 2 * length (decimal p)
 length-portLines p =

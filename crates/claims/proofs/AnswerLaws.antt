@@ -33,7 +33,8 @@ use Rattle.sheet.specs.Sheet.{unpack, pack, upgrade}
 use Rattle.station.specs.Station.{decideSheet, lookedSheet, decideByuidSheet, decidePortaclSheet}
 use Rattle.codes.specs.declared.GateCheck.{GateCheck}
 use Rattle.codes.specs.Requests.{request, byuidBind, byuidFileBind, authbindAsked, portaclBind, writeBy}
-use Rattle.codes.specs.Answers.{refusalAnswer, wordAnswer, answerNumbers, accepted, verdictAnswer, byuidAnswer, portaclAnswer, checkAnswer, partsAnswer, writtenAnswer, addressAnswer}
+use Rattle.codes.specs.Answers.{refusalAnswer, wordAnswer, answerNumbers, accepted, verdictAnswer, byuidAnswer, portaclAnswer, checkAnswer, partsAnswer}
+use Rattle.codes.specs.Answers.{writtenAnswer, addressAnswer}
 use Rattle.codes.specs.Answers.{Command, together, commandAnswer, nextAnswer, writtenTwoAnswer}
 use Rattle.carry.specs.Carry.{carry}
 use Rattle.salvage.specs.Salvage.{salvage}
@@ -147,7 +148,8 @@ portacl-decision (answered P.Exempt) = word-decision 6 (omega arith) (omega arit
 pub every-decision : EveryDecision
 every-decision = record {
   verdict-decided = λ allow deny n. verdict-decision (decide allow deny (request n)) (lookedOver [] allow deny (request n));
-  tables-verdict-decided = λ allow deny tables n. verdict-decision (decideTables allow deny tables (request n)) (lookedOver (tablesOf tables) allow deny (request n));
+  tables-verdict-decided = λ allow deny tables n. verdict-decision (decideTables allow deny tables (request n))
+      (lookedOver (tablesOf tables) allow deny (request n));
   sheet-verdict-decided = λ sheet n. verdict-decision (decideSheet sheet (request n)) (lookedSheet sheet (request n));
   byuid-decided = λ text mark port kind high low uid. byuid-decision (decideByuid text (byuidFileBind mark port kind high low uid));
   sheet-byuid-decided = λ sheet port kind high low uid. byuid-decision (decideByuidSheet sheet (byuidBind port kind high low uid));
@@ -233,7 +235,8 @@ unfolding nextAnswer
 name-kept out (refused r) h = refl
 name-kept out (answered s) h = absurd (h refl)
 
-two-kept : (out other : List ℕ) (o : Outcome (List ℕ × List ℕ)) → (writtenTwoAnswer o .number ≡ 0 → ⊥) → (firstAfter out o ≡ out) × (secondAfter other o ≡ other)
+two-kept : (out other : List ℕ) (o : Outcome (List ℕ × List ℕ)) → (writtenTwoAnswer o .number ≡ 0 → ⊥) → (firstAfter out o ≡ out)
+    × (secondAfter other o ≡ other)
 unfolding writtenTwoAnswer
 two-kept out other (refused r) h = (refl, refl)
 two-kept out other (answered p) h = absurd (h refl)

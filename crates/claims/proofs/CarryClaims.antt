@@ -95,7 +95,8 @@ module _ (list : List ℕ) (uid port : ℕ) (short : length list ≤ 4096) (soun
 
 -- ## By byuid
 
-module _ (t : List ℕ) (m : Mark) (port uid : ℕ) (short : length t ≤ 8192) (kept : byuidFault t ≡ none) (ruled : isRuled port uid ≡ true) (span : inSpan m port ≡ true)
+module _ (t : List ℕ) (m : Mark) (port uid : ℕ) (short : length t ≤ 8192) (kept : byuidFault t ≡ none) (ruled : isRuled port uid ≡ true)
+    (span : inSpan m port ≡ true)
     (b : Bool) where
   line-decided : (a : Addr) → addressKnown (fileBind m (bind port a uid)) ≡ true → any (lineGrants a port) (split "\n" t) ≡ b
       → decideByuid t (some (fileBind m (bind port a uid))) ≡ answered (if b then Granted else NoLine)
@@ -134,7 +135,8 @@ module _ (list : List ℕ) (uid : ℕ) (plain marked : List ℕ) (e : gateCarry 
 
   marked-is : markedWritten (gateCarry list uid plain marked) ≡ markedText (carried list uid)
   unfolding writtenTwoAnswer
-  marked-is = rw whole (take-at (markedText (carried list uid)) (drop (length (markedText (carried list uid))) marked) (length (markedText (carried list uid))) refl)
+  marked-is = rw whole (take-at (markedText (carried list uid)) (drop (length (markedText (carried list uid))) marked)
+      (length (markedText (carried list uid))) refl)
 
   longer : gateCarry list uid plain marked .answer .count + gateCarry list uid plain marked .answer .«other_count» ≤ length list
   unfolding writtenTwoAnswer
@@ -147,22 +149,26 @@ module _ (list : List ℕ) (uid : ℕ) (plain marked : List ℕ) (e : gateCarry 
   same-word port h = ap (λ (b : Bool). wordAnswer (grantedIf b)) (sym (both-words list uid port (facts .short) (facts .sound) h))
 
   plain-granted : (port : ℕ) {kind high low : ℕ} → Address kind high low → 1 ≤ port → port ≤ 511
-      → byuidAnswer (decideByuid (plainText (carried list uid)) (fromFile Plain (byuidBind port kind high low uid))) ≡ wordAnswer (grantedIf (grantsBoth list uid port))
+      → byuidAnswer (decideByuid (plainText (carried list uid)) (fromFile Plain (byuidBind port kind high low uid)))
+      ≡ wordAnswer (grantedIf (grantsBoth list uid port))
   plain-granted port a l h =
       let few = texts-small list uid in
       let short = facts .short in
       ap byuidAnswer
-      (address-decided (plainText (carried list uid)) Plain port uid (omega arith) (never-retired (carried list uid) 511 1) (ruled port l (omega arith)) (rw (le-leb 1 port l, le-leb port 511 h))
+      (address-decided (plainText (carried list uid)) Plain port uid (omega arith) (never-retired (carried list uid) 511 1) (ruled port l (omega arith))
+      (rw (le-leb 1 port l, le-leb port 511 h))
       (carried list uid port) a (lt-ltb port (2 ^ 16) (omega arith)) (λ x s. span-grants (carried list uid) 511 1 port x s (omega arith) l (omega arith)))
       ∙ word-of (carried list uid port) ∙ same-word port (omega arith)
 
   marked-granted : (port : ℕ) {kind high low : ℕ} → Address kind high low → 512 ≤ port → port ≤ 1023
-      → byuidAnswer (decideByuid (markedText (carried list uid)) (fromFile Marked (byuidBind port kind high low uid))) ≡ wordAnswer (grantedIf (grantsBoth list uid port))
+      → byuidAnswer (decideByuid (markedText (carried list uid)) (fromFile Marked (byuidBind port kind high low uid)))
+      ≡ wordAnswer (grantedIf (grantsBoth list uid port))
   marked-granted port a l h =
       let few = texts-small list uid in
       let short = facts .short in
       ap byuidAnswer
-      (address-decided (markedText (carried list uid)) Marked port uid (omega arith) (never-retired (carried list uid) 512 512) (ruled port (omega arith) h) (rw (le-leb 512 port l, le-leb port 1023 h))
+      (address-decided (markedText (carried list uid)) Marked port uid (omega arith) (never-retired (carried list uid) 512 512) (ruled port (omega arith) h)
+      (rw (le-leb 512 port l, le-leb port 1023 h))
       (carried list uid port) a (lt-ltb port (2 ^ 16) (omega arith)) (λ x s. span-grants (carried list uid) 512 512 port x s (omega arith) l (omega arith)))
       ∙ word-of (carried list uid port) ∙ same-word port h
 

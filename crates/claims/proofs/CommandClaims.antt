@@ -34,7 +34,8 @@ use Rattle.claims.proofs.AnswerLaws.{fault-nonzero}
 
 module _ (out : List ℕ) where
   -- the command's half
-  written-turn : (a : Answer) (k : ℕ) (o : Outcome (List ℕ)) → wroteCommand out (o >>= λ t. answered (command a t)) k ≡ inTurn (answerNumbers a k) (wrote out o) out
+  written-turn : (a : Answer) (k : ℕ) (o : Outcome (List ℕ)) → wroteCommand out (o >>= λ t. answered (command a t)) k
+      ≡ inTurn (answerNumbers a k) (wrote out o) out
   unfolding commandAnswer writtenAnswer
   written-turn a k (refused r) = rw (ne-eqb (faultNumber (r .fault)) 0 (fault-nonzero (r .fault)))
   written-turn a k (answered t) = refl

@@ -48,16 +48,20 @@ unfolding
     Rule.splitSeparator Rule.nonEmpty Rule.elements Rule.parseRule
     Command.skipBlanks Command.trimmed Command.pieces Command.hasBadPercent
     Request.wellFormed
-    Pattern.wildcard Pattern.isNameByte Pattern.domainPattern Pattern.bracketPattern Pattern.leadingFields Pattern.readMask Pattern.netMask Pattern.dottedPattern
+    Pattern.wildcard Pattern.isNameByte Pattern.domainPattern Pattern.bracketPattern Pattern.leadingFields Pattern.readMask Pattern.netMask
+    Pattern.dottedPattern
     Pattern.namePattern Pattern.hostPattern
-    Element.halves Element.clientReserved Element.daemonReserved Element.namedTable Element.isPlainName Element.daemonName Element.userHalf Element.daemonParts Element.clientParts
+    Element.halves Element.clientReserved Element.daemonReserved Element.namedTable Element.isPlainName Element.daemonName Element.userHalf Element.daemonParts
+    Element.clientParts
     Element.daemonElement Element.clientElement
     ListCheck.withoutExcept ListCheck.exceptMisplaced ListCheck.ruleFault ListCheck.ruleNames Walk.included Walk.excluded Walk.ruleFoundBy
     Check.lineFaultBy Check.hostsFault Check.lineNames Check.namingFault Check.tablesFault Search.lineAnswer Search.search Search.decide
     Table.readTables Table.readEach Table.readTable Table.afterCount Table.tablesFrame Table.isTableName Table.tableName Table.tableNamed Table.patterns
-    Table.patternWith Table.inTable Table.leadsPast Table.firstTable Table.isMisnamed Table.tableNameFault Table.isBadPattern Table.isUnsound Table.badTableFault
+    Table.patternWith Table.inTable Table.leadsPast Table.firstTable Table.isMisnamed Table.tableNameFault Table.isBadPattern Table.isUnsound
+    Table.badTableFault
     Expand.inserted Expand.safeByte Expand.pieceText Expand.expansion Expand.expand
-    Byuid.readRange Byuid.readNet Byuid.readCommaForm Byuid.readColonForm Byuid.lineGrants Byuid.isRetired Byuid.retiredFault Byuid.byuidFault Byuid.byuidDecision Byuid.decideByuid
+    Byuid.readRange Byuid.readNet Byuid.readCommaForm Byuid.readColonForm Byuid.lineGrants Byuid.isRetired Byuid.retiredFault Byuid.byuidFault
+    Byuid.byuidDecision Byuid.decideByuid
     Portacl.readEntry Portacl.entries Portacl.entryFault Portacl.portaclFault Portacl.portaclDecision Portacl.decidePortacl
     Sheet.textsFault Sheet.sectionAt Sheet.frame Sheet.unpack
     flatMap
@@ -95,16 +99,20 @@ unfolding
     Rule.splitSeparator Rule.nonEmpty Rule.elements Rule.parseRule
     Command.skipBlanks Command.trimmed Command.pieces Command.hasBadPercent
     Request.wellFormed
-    Pattern.wildcard Pattern.isNameByte Pattern.domainPattern Pattern.bracketPattern Pattern.leadingFields Pattern.readMask Pattern.netMask Pattern.dottedPattern
+    Pattern.wildcard Pattern.isNameByte Pattern.domainPattern Pattern.bracketPattern Pattern.leadingFields Pattern.readMask Pattern.netMask
+    Pattern.dottedPattern
     Pattern.namePattern Pattern.hostPattern
-    Element.halves Element.clientReserved Element.daemonReserved Element.namedTable Element.isPlainName Element.daemonName Element.userHalf Element.daemonParts Element.clientParts
+    Element.halves Element.clientReserved Element.daemonReserved Element.namedTable Element.isPlainName Element.daemonName Element.userHalf Element.daemonParts
+    Element.clientParts
     Element.daemonElement Element.clientElement
     ListCheck.withoutExcept ListCheck.exceptMisplaced ListCheck.ruleFault ListCheck.ruleNames Walk.included Walk.excluded Walk.ruleFoundBy
     Check.lineFaultBy Check.hostsFault Check.lineNames Check.namingFault Check.tablesFault Search.lineAnswer Search.search Search.decide
     Table.readTables Table.readEach Table.readTable Table.afterCount Table.tablesFrame Table.isTableName Table.tableName Table.tableNamed Table.patterns
-    Table.patternWith Table.inTable Table.leadsPast Table.firstTable Table.isMisnamed Table.tableNameFault Table.isBadPattern Table.isUnsound Table.badTableFault
+    Table.patternWith Table.inTable Table.leadsPast Table.firstTable Table.isMisnamed Table.tableNameFault Table.isBadPattern Table.isUnsound
+    Table.badTableFault
     Expand.inserted Expand.safeByte Expand.pieceText Expand.expansion Expand.expand
-    Byuid.readRange Byuid.readNet Byuid.readCommaForm Byuid.readColonForm Byuid.lineGrants Byuid.isRetired Byuid.retiredFault Byuid.byuidFault Byuid.byuidDecision Byuid.decideByuid
+    Byuid.readRange Byuid.readNet Byuid.readCommaForm Byuid.readColonForm Byuid.lineGrants Byuid.isRetired Byuid.retiredFault Byuid.byuidFault
+    Byuid.byuidDecision Byuid.decideByuid
     Portacl.readEntry Portacl.entries Portacl.entryFault Portacl.portaclFault Portacl.portaclDecision Portacl.decidePortacl
     Sheet.textsFault Sheet.sectionAt Sheet.frame Sheet.unpack
     flatMap
@@ -134,16 +142,20 @@ unfolding
     Rule.splitSeparator Rule.nonEmpty Rule.elements Rule.parseRule
     Command.skipBlanks Command.trimmed Command.pieces Command.hasBadPercent
     Request.wellFormed
-    Pattern.wildcard Pattern.isNameByte Pattern.domainPattern Pattern.bracketPattern Pattern.leadingFields Pattern.readMask Pattern.netMask Pattern.dottedPattern
+    Pattern.wildcard Pattern.isNameByte Pattern.domainPattern Pattern.bracketPattern Pattern.leadingFields Pattern.readMask Pattern.netMask
+    Pattern.dottedPattern
     Pattern.namePattern Pattern.hostPattern
-    Element.halves Element.clientReserved Element.daemonReserved Element.namedTable Element.isPlainName Element.daemonName Element.userHalf Element.daemonParts Element.clientParts
+    Element.halves Element.clientReserved Element.daemonReserved Element.namedTable Element.isPlainName Element.daemonName Element.userHalf Element.daemonParts
+    Element.clientParts
     Element.daemonElement Element.clientElement
     ListCheck.withoutExcept ListCheck.exceptMisplaced ListCheck.ruleFault ListCheck.ruleNames Walk.included Walk.excluded Walk.ruleFoundBy
     Check.lineFaultBy Check.hostsFault Check.lineNames Check.namingFault Check.tablesFault Search.lineAnswer Search.search Search.decide
     Table.readTables Table.readEach Table.readTable Table.afterCount Table.tablesFrame Table.isTableName Table.tableName Table.tableNamed Table.patterns
-    Table.patternWith Table.inTable Table.leadsPast Table.firstTable Table.isMisnamed Table.tableNameFault Table.isBadPattern Table.isUnsound Table.badTableFault
+    Table.patternWith Table.inTable Table.leadsPast Table.firstTable Table.isMisnamed Table.tableNameFault Table.isBadPattern Table.isUnsound
+    Table.badTableFault
     Expand.inserted Expand.safeByte Expand.pieceText Expand.expansion Expand.expand
-    Byuid.readRange Byuid.readNet Byuid.readCommaForm Byuid.readColonForm Byuid.lineGrants Byuid.isRetired Byuid.retiredFault Byuid.byuidFault Byuid.byuidDecision Byuid.decideByuid
+    Byuid.readRange Byuid.readNet Byuid.readCommaForm Byuid.readColonForm Byuid.lineGrants Byuid.isRetired Byuid.retiredFault Byuid.byuidFault
+    Byuid.byuidDecision Byuid.decideByuid
     flatMap
 mapped-addresses = record {
   dotted = refl;
@@ -170,16 +182,20 @@ unfolding
     Rule.splitSeparator Rule.nonEmpty Rule.elements Rule.parseRule
     Command.skipBlanks Command.trimmed Command.pieces Command.hasBadPercent
     Request.wellFormed
-    Pattern.wildcard Pattern.isNameByte Pattern.domainPattern Pattern.bracketPattern Pattern.leadingFields Pattern.readMask Pattern.netMask Pattern.dottedPattern
+    Pattern.wildcard Pattern.isNameByte Pattern.domainPattern Pattern.bracketPattern Pattern.leadingFields Pattern.readMask Pattern.netMask
+    Pattern.dottedPattern
     Pattern.namePattern Pattern.hostPattern
-    Element.halves Element.clientReserved Element.daemonReserved Element.namedTable Element.isPlainName Element.daemonName Element.userHalf Element.daemonParts Element.clientParts
+    Element.halves Element.clientReserved Element.daemonReserved Element.namedTable Element.isPlainName Element.daemonName Element.userHalf Element.daemonParts
+    Element.clientParts
     Element.daemonElement Element.clientElement
     ListCheck.withoutExcept ListCheck.exceptMisplaced ListCheck.ruleFault ListCheck.ruleNames Walk.included Walk.excluded Walk.ruleFoundBy
     Check.lineFaultBy Check.hostsFault Check.lineNames Check.namingFault Check.tablesFault Search.lineAnswer Search.search Search.decide
     Table.readTables Table.readEach Table.readTable Table.afterCount Table.tablesFrame Table.isTableName Table.tableName Table.tableNamed Table.patterns
-    Table.patternWith Table.inTable Table.leadsPast Table.firstTable Table.isMisnamed Table.tableNameFault Table.isBadPattern Table.isUnsound Table.badTableFault
+    Table.patternWith Table.inTable Table.leadsPast Table.firstTable Table.isMisnamed Table.tableNameFault Table.isBadPattern Table.isUnsound
+    Table.badTableFault
     Expand.inserted Expand.safeByte Expand.pieceText Expand.expansion Expand.expand
-    Byuid.readRange Byuid.readNet Byuid.readCommaForm Byuid.readColonForm Byuid.lineGrants Byuid.isRetired Byuid.retiredFault Byuid.byuidFault Byuid.byuidDecision Byuid.decideByuid
+    Byuid.readRange Byuid.readNet Byuid.readCommaForm Byuid.readColonForm Byuid.lineGrants Byuid.isRetired Byuid.retiredFault Byuid.byuidFault
+    Byuid.byuidDecision Byuid.decideByuid
     Portacl.readEntry Portacl.entries Portacl.entryFault Portacl.portaclFault Portacl.portaclDecision Portacl.decidePortacl
     Sheet.textsFault Sheet.sectionAt Sheet.frame Sheet.unpack
     flatMap
@@ -224,16 +240,20 @@ unfolding
     Rule.splitSeparator Rule.nonEmpty Rule.elements Rule.parseRule
     Command.skipBlanks Command.trimmed Command.pieces Command.hasBadPercent
     Request.wellFormed
-    Pattern.wildcard Pattern.isNameByte Pattern.domainPattern Pattern.bracketPattern Pattern.leadingFields Pattern.readMask Pattern.netMask Pattern.dottedPattern
+    Pattern.wildcard Pattern.isNameByte Pattern.domainPattern Pattern.bracketPattern Pattern.leadingFields Pattern.readMask Pattern.netMask
+    Pattern.dottedPattern
     Pattern.namePattern Pattern.hostPattern
-    Element.halves Element.clientReserved Element.daemonReserved Element.namedTable Element.isPlainName Element.daemonName Element.userHalf Element.daemonParts Element.clientParts
+    Element.halves Element.clientReserved Element.daemonReserved Element.namedTable Element.isPlainName Element.daemonName Element.userHalf Element.daemonParts
+    Element.clientParts
     Element.daemonElement Element.clientElement
     ListCheck.withoutExcept ListCheck.exceptMisplaced ListCheck.ruleFault ListCheck.ruleNames Walk.included Walk.excluded Walk.ruleFoundBy
     Check.lineFaultBy Check.hostsFault Check.lineNames Check.namingFault Check.tablesFault Search.lineAnswer Search.search Search.decide
     Table.readTables Table.readEach Table.readTable Table.afterCount Table.tablesFrame Table.isTableName Table.tableName Table.tableNamed Table.patterns
-    Table.patternWith Table.inTable Table.leadsPast Table.firstTable Table.isMisnamed Table.tableNameFault Table.isBadPattern Table.isUnsound Table.badTableFault
+    Table.patternWith Table.inTable Table.leadsPast Table.firstTable Table.isMisnamed Table.tableNameFault Table.isBadPattern Table.isUnsound
+    Table.badTableFault
     Expand.inserted Expand.safeByte Expand.pieceText Expand.expansion Expand.expand
-    Byuid.readRange Byuid.readNet Byuid.readCommaForm Byuid.readColonForm Byuid.lineGrants Byuid.isRetired Byuid.retiredFault Byuid.byuidFault Byuid.byuidDecision Byuid.decideByuid
+    Byuid.readRange Byuid.readNet Byuid.readCommaForm Byuid.readColonForm Byuid.lineGrants Byuid.isRetired Byuid.retiredFault Byuid.byuidFault
+    Byuid.byuidDecision Byuid.decideByuid
     Portacl.readEntry Portacl.entries Portacl.entryFault Portacl.portaclFault Portacl.portaclDecision Portacl.decidePortacl
     Sheet.textsFault Sheet.sectionAt Sheet.frame Sheet.unpack
     Basics.sum Basics.sumUntil Tried.triedIn Tried.capped Element.elementLooked ListLooked.lookedIncluded ListLooked.lookedExcluded ListLooked.ruleLookedBy
@@ -272,16 +292,20 @@ unfolding
     Rule.splitSeparator Rule.nonEmpty Rule.elements Rule.parseRule
     Command.skipBlanks Command.trimmed Command.pieces Command.hasBadPercent
     Request.wellFormed
-    Pattern.wildcard Pattern.isNameByte Pattern.domainPattern Pattern.bracketPattern Pattern.leadingFields Pattern.readMask Pattern.netMask Pattern.dottedPattern
+    Pattern.wildcard Pattern.isNameByte Pattern.domainPattern Pattern.bracketPattern Pattern.leadingFields Pattern.readMask Pattern.netMask
+    Pattern.dottedPattern
     Pattern.namePattern Pattern.hostPattern
-    Element.halves Element.clientReserved Element.daemonReserved Element.namedTable Element.isPlainName Element.daemonName Element.userHalf Element.daemonParts Element.clientParts
+    Element.halves Element.clientReserved Element.daemonReserved Element.namedTable Element.isPlainName Element.daemonName Element.userHalf Element.daemonParts
+    Element.clientParts
     Element.daemonElement Element.clientElement
     ListCheck.withoutExcept ListCheck.exceptMisplaced ListCheck.ruleFault ListCheck.ruleNames Walk.included Walk.excluded Walk.ruleFoundBy
     Check.lineFaultBy Check.hostsFault Check.lineNames Check.namingFault Check.tablesFault Search.lineAnswer Search.search Search.decide
     Table.readTables Table.readEach Table.readTable Table.afterCount Table.tablesFrame Table.isTableName Table.tableName Table.tableNamed Table.patterns
-    Table.patternWith Table.inTable Table.leadsPast Table.firstTable Table.isMisnamed Table.tableNameFault Table.isBadPattern Table.isUnsound Table.badTableFault
+    Table.patternWith Table.inTable Table.leadsPast Table.firstTable Table.isMisnamed Table.tableNameFault Table.isBadPattern Table.isUnsound
+    Table.badTableFault
     Expand.inserted Expand.safeByte Expand.pieceText Expand.expansion Expand.expand
-    Byuid.readRange Byuid.readNet Byuid.readCommaForm Byuid.readColonForm Byuid.lineGrants Byuid.isRetired Byuid.retiredFault Byuid.byuidFault Byuid.byuidDecision Byuid.decideByuid
+    Byuid.readRange Byuid.readNet Byuid.readCommaForm Byuid.readColonForm Byuid.lineGrants Byuid.isRetired Byuid.retiredFault Byuid.byuidFault
+    Byuid.byuidDecision Byuid.decideByuid
     Portacl.readEntry Portacl.entries Portacl.entryFault Portacl.portaclFault Portacl.portaclDecision Portacl.decidePortacl
     Sheet.textsFault Sheet.sectionAt Sheet.frame Sheet.unpack
     Matters.nameFinds Matters.askerHolds Matters.askedTold Matters.ruleTold Matters.lineTold Matters.textTold Matters.settled Matters.nameMattersSheet

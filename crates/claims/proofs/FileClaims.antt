@@ -106,7 +106,8 @@ grants-own-span = record {
 
 -- ## The other span
 
-module _ (t : List ℕ) (m : Mark) (port uid : ℕ) (short : length t ≤ 8192) (sound : byuidFault t ≡ none) (ruled : isRuled port uid ≡ true) (other : inSpan m port ≡ false)
+module _ (t : List ℕ) (m : Mark) (port uid : ℕ) (short : length t ≤ 8192) (sound : byuidFault t ≡ none) (ruled : isRuled port uid ≡ true)
+    (other : inSpan m port ≡ false)
     (small : isPort port ≡ true) where
   other-decided : (a : Addr) → addressKnown (fileBind m (bind port a uid)) ≡ true → decideByuid t (some (fileBind m (bind port a uid))) ≡ answered NoLine
   unfolding decideByuid byuidDecision

@@ -86,7 +86,9 @@ refusal-looks-at-nothing = record {
   none-by-tables = λ allow deny tables n. none-told (decideTables allow deny tables (request n)) (lookedOver (tablesOf tables) allow deny (request n));
   none-by-sheet = λ sheet n. none-told (decideSheet sheet (request n)) (lookedSheet sheet (request n));
   none-commanded = λ allow deny n process out.
-      none-commanded (together (decide allow deny (request n)) (λ a. expand (commandBytes allow deny a) (request n) process (length out))) (lookedOver [] allow deny (request n));
+      none-commanded (together (decide allow deny (request n)) (λ a. expand (commandBytes allow deny a) (request n) process (length out)))
+      (lookedOver [] allow deny (request n));
   none-sheet-commanded = λ sheet n process out.
-      none-commanded (together (decideSheet sheet (request n)) (λ a. expand (bytesAt sheet (a .command)) (request n) process (length out))) (lookedSheet sheet (request n));
+      none-commanded (together (decideSheet sheet (request n)) (λ a. expand (bytesAt sheet (a .command)) (request n) process (length out)))
+      (lookedSheet sheet (request n));
 }

@@ -43,7 +43,8 @@ use Rattle.station.specs.Station.{inSheet, decideSheet, lookedSheet}
 use Rattle.matters.specs.declared.Place.{Place}
 use Rattle.matters.specs.declared.Told.{Told}
 use Rattle.matters.specs.declared.Told.the-variants as Told
-use Rattle.matters.specs.Matters.{place, placeOf, nameFinds, askerHolds, askedTold, foundTold, ruleTold, parsedTold, lineTold, toldAt, textTold, settled, mattersOver}
+use Rattle.matters.specs.Matters.{place, placeOf, nameFinds, askerHolds, askedTold, foundTold, ruleTold, parsedTold, lineTold, toldAt, textTold, settled}
+use Rattle.matters.specs.Matters.{mattersOver}
 use Rattle.matters.specs.Matters.{nameMatters, nameMattersTables, nameMattersSheet}
 use Rattle.matters.proofs.RuleLaws.{Stated}
 use Rattle.matters.proofs.RuleLaws as Users
@@ -347,7 +348,8 @@ module _ (call : Option Request → Outcome Answer) (tell : Option Request → O
   settled-number (some p) = refl
 
   answers : (n : RequestNumbers) → verdict n .number ≡ 0 → matters n .number ≡ 0
-  answers n h = let x : Answers n = told n h in ap (λ (o : Outcome (Option Place)). mattersAnswer o .number) (x .tells) ∙ settled-number (settles call tell is (x .asks-for))
+  answers n h = let x : Answers n = told n h in ap (λ (o : Outcome (Option Place)). mattersAnswer o .number) (x .tells)
+      ∙ settled-number (settles call tell is (x .asks-for))
 
   -- a permitted user gets an answer
   gets : (n : RequestNumbers) (x : Answers n) (p : Place) → settles call tell is (x .asks-for) ≡ some p → {user : ℕ} {name : List ℕ} → Permitted user name
@@ -451,7 +453,8 @@ module _ (call : Option Request → Outcome Answer) (tell : Option Request → O
       (record { same-word = refl; same-file = refl; same-line = refl }))
 
   tells-all : (n : RequestNumbers)
-      → (n .user ≡ 0 → Decided (verdict n .number) (verdict n .word) → (user : ℕ) (name : List ℕ) → Permitted user name → verdict (asUser n user name) ≡ verdict n)
+      → (n .user ≡ 0 → Decided (verdict n .number) (verdict n .word) → (user : ℕ) (name : List ℕ) → Permitted user name
+      → verdict (asUser n user name) ≡ verdict n)
       → Tells verdict matters n
   tells-all n same = record {
     refuses = refuses n;
@@ -547,7 +550,8 @@ name-matters = record {
       tells-all (decide allow deny) (nameMatters allow deny) (texts-search allow deny) (lookedOver [] allow deny) n
       (λ e d user name p. name-cannot-matter .by-texts allow deny n e d user name p .same-answer);
   told-by-tables = λ allow deny tables n.
-      tells-all (decideTables allow deny tables) (nameMattersTables allow deny tables) (tables-search allow deny tables) (lookedOver (tablesOf tables) allow deny) n
+      tells-all (decideTables allow deny tables) (nameMattersTables allow deny tables) (tables-search allow deny tables)
+      (lookedOver (tablesOf tables) allow deny) n
       (λ e d user name p. name-cannot-matter .by-tables allow deny tables n e d user name p .same-answer);
   told-by-sheet = λ sheet n.
       tells-all (decideSheet sheet) (nameMattersSheet sheet) (sheet-search sheet) (lookedSheet sheet) n

@@ -21,11 +21,13 @@ use Rattle.tables.specs.Table.{tablesFrame}
 use Rattle.rules.specs.Check.{hostsFault, tablesFault}
 use Rattle.byuid.specs.Byuid.{byuidFault, FileBind, decideByuid}
 use Rattle.byuid.specs.Convert.{convertText, convert}
-use Rattle.byuid.proofs.ConvertLaws.{convertLine-kept, split-convertText, byuidFault-convertText, convertText-same, convertText-again, length-convertText, decideByuid-convertText}
+use Rattle.byuid.proofs.ConvertLaws.{convertLine-kept, split-convertText, byuidFault-convertText, convertText-same, convertText-again, length-convertText}
+use Rattle.byuid.proofs.ConvertLaws.{decideByuid-convertText}
 use Rattle.portacl.specs.Portacl.{portaclFault}
 use Rattle.sheet.specs.declared.Parts.{Parts}
 use Rattle.sheet.specs.Sheet.{Texts, textsAt, textsFault, frame, unpack, sheetOf, pack}
-use Rattle.sheet.proofs.FrameLaws.{WithinLimits, textsFault-none, partsOf, sheetOf-inTurn, framed-partsOf, textsAt-partsOf, answered-frame, pack-answered, answered-same}
+use Rattle.sheet.proofs.FrameLaws.{WithinLimits, textsFault-none, partsOf, sheetOf-inTurn, framed-partsOf, textsAt-partsOf, answered-frame, pack-answered}
+use Rattle.sheet.proofs.FrameLaws.{answered-same}
 use Rattle.station.specs.Station.{decideSheet, decideByuidSheet}
 use Rattle.codes.specs.Requests.{byuidFileBind}
 use Rattle.codes.specs.Answers.{verdictAnswer, byuidAnswer, checkAnswer, writtenAnswer, refusalAnswer}
@@ -39,7 +41,8 @@ lone-refused : (t : List ℕ) (r : Refusal) → length t ≤ 8192 → byuidFault
 unfolding decideByuid
 lone-refused t r h e o = rw (le-ltb 8192 (length t) h, e)
 
-module _ (ts : Texts) (r : Refusal) (sound : textsFault (withoutByuid ts) ≡ none) (short : length (ts .byuid) ≤ 8192) (e : byuidFault (ts .byuid) ≡ some r) where
+module _ (ts : Texts) (r : Refusal) (sound : textsFault (withoutByuid ts) ≡ none) (short : length (ts .byuid) ≤ 8192)
+    (e : byuidFault (ts .byuid) ≡ some r) where
   -- the last of the faults of five texts
   retired-fault : textsFault ts ≡ some r
   unfolding textsFault

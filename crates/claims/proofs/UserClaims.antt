@@ -40,7 +40,8 @@ use Rattle.codes.specs.declared.request.HostNumbers.{HostNumbers}
 use Rattle.codes.specs.Requests.{userState, RequestNumbers, requestNumbers, hostBy, knownUser, request}
 use Rattle.codes.specs.Answers.{verdictWord, verdictAnswer}
 use Rattle.gate.specs.Calls.{wrote, gateVerdict, gateTablesVerdict, gateSheetVerdict}
-use Rattle.claims.specs.Claims.{asUser, Permitted, named, unknown, Decided, is-granted, is-denied, SameFor, deciding, commandIn, NameCannotMatter, AskOnlyUnfetched}
+use Rattle.claims.specs.Claims.{asUser, Permitted, named, unknown, Decided, is-granted, is-denied, SameFor, deciding, commandIn, NameCannotMatter}
+use Rattle.claims.specs.Claims.{AskOnlyUnfetched}
 
 -- ## The request
 
@@ -171,7 +172,8 @@ module _ (sheet : List ℕ) where
       by (answered p) h =
           ap (λ o. o andThen λ a. answered (inSheet p a))
           (over-same r t u name fits none (tablesOf (bytesAt sheet (p .tables))) (bytesAt sheet (p .allow)) (bytesAt sheet (p .deny))
-          (quiet p (decideOver (tablesOf (bytesAt sheet (p .tables))) (bytesAt sheet (p .allow)) (bytesAt sheet (p .deny)) (some (R.withUser r U.NotFetched t))) h))
+          (quiet p (decideOver (tablesOf (bytesAt sheet (p .tables))) (bytesAt sheet (p .allow)) (bytesAt sheet (p .deny)) (some (R.withUser r U.NotFetched t)))
+          h))
 
   placed-told : (p : Parts) (o : Outcome Answer) (n : ℕ) → unlessRefused (o andThen λ a. answered (inSheet p a)) n ≡ unlessRefused o n
   placed-told p (refused f) n = refl
@@ -226,7 +228,8 @@ name-cannot-matter = record {
       same-for (decideTables allow deny tables) (λ r t u name fits. decideTables-same r t u name fits allow deny tables)
       (lookedOver (tablesOf tables) allow deny) (tables-same-number allow deny tables)
       (commandIn (deciding allow deny (gateTablesVerdict allow deny tables n)) (gateTablesVerdict allow deny tables n)) n;
-  by-sheet = λ sheet n. same-for (decideSheet sheet) (sheet-same sheet) (lookedSheet sheet) (sheet-same-number sheet) (commandIn sheet (gateSheetVerdict sheet n)) n;
+  by-sheet = λ sheet n. same-for (decideSheet sheet) (sheet-same sheet) (lookedSheet sheet) (sheet-same-number sheet)
+      (commandIn sheet (gateSheetVerdict sheet n)) n;
 }
 
 -- as two calls of the exported verdict hand it over

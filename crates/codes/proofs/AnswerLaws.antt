@@ -49,9 +49,13 @@ use Rattle.codes.specs.declared.GateWrittenTwo.{GateWrittenTwo}
 use Rattle.codes.specs.declared.GateParts.{GateParts}
 use Rattle.codes.specs.declared.GateWritten.{GateWritten}
 use Rattle.codes.specs.declared.GateAddress.{GateAddress}
-use Rattle.codes.specs.Answers.{verdictWord, byuidWord, portaclWord, refusalAnswer, wordAnswer, answerNumbers, accepted, foundParts, countWritten, addressWith}
-use Rattle.codes.specs.Answers.{placeNumbers, mattersAnswer, addressNumbers, verdictAnswer, byuidAnswer, portaclAnswer, checkAnswer, partsAnswer, writtenAnswer, countTwo, writtenTwoAnswer, addressAnswer, command, together, withCount, commandAnswer, nextWith, nextAnswer}
-use Rattle.codes.specs.Code.{matterNumbers, byuidNumbers, portaclNumbers, verdictNumbers, checkNumbers, partsNumbers, writtenNumbers, writtenTwoNumbers, commandWritten, nextNumbers, readNumbers}
+use Rattle.codes.specs.Answers.{verdictWord, byuidWord, portaclWord, refusalAnswer, wordAnswer, answerNumbers, accepted, foundParts, countWritten}
+use Rattle.codes.specs.Answers.{addressWith}
+use Rattle.codes.specs.Answers.{placeNumbers, mattersAnswer, addressNumbers, verdictAnswer, byuidAnswer, portaclAnswer, checkAnswer, partsAnswer}
+use Rattle.codes.specs.Answers.{writtenAnswer, countTwo, writtenTwoAnswer, addressAnswer, command, together, withCount, commandAnswer, nextWith}
+use Rattle.codes.specs.Answers.{nextAnswer}
+use Rattle.codes.specs.Code.{matterNumbers, byuidNumbers, portaclNumbers, verdictNumbers, checkNumbers, partsNumbers, writtenNumbers, writtenTwoNumbers}
+use Rattle.codes.specs.Code.{commandWritten, nextNumbers, readNumbers}
 
 pub byuid-numbers : (o : Outcome ByuidDecision) (x : ByuidRuling) (a : GateAnswer) → x ≡ Byuid.byuidRuling o → a ≡ byuidNumbers x → a ≡ byuidAnswer o
 unfolding byuidNumbers byuidAnswer
@@ -114,12 +118,14 @@ unfolding writtenNumbers writtenAnswer
 written-numbers (refused r) x a e f = rw e at f
 written-numbers (answered t) x a e f = rw e at f
 
-pub written-two-numbers : (o : Outcome (List ℕ × List ℕ)) (x : WrittenTwo) (a : GateWrittenTwo) → x ≡ writtenTwoOf o → a ≡ writtenTwoNumbers x → a ≡ writtenTwoAnswer o
+pub written-two-numbers : (o : Outcome (List ℕ × List ℕ)) (x : WrittenTwo) (a : GateWrittenTwo) → x ≡ writtenTwoOf o → a ≡ writtenTwoNumbers x
+    → a ≡ writtenTwoAnswer o
 unfolding writtenTwoNumbers writtenTwoAnswer
 written-two-numbers (refused r) x a e f = rw e at f
 written-two-numbers (answered p) x a e f = rw e at f
 
-pub written-two-refused : (x : WrittenTwo) (r : Refusal) (a : GateWrittenTwo) → x ≡ Two.Refused r → a ≡ writtenTwoNumbers (Two.Refused r) → a ≡ writtenTwoNumbers x
+pub written-two-refused : (x : WrittenTwo) (r : Refusal) (a : GateWrittenTwo) → x ≡ Two.Refused r → a ≡ writtenTwoNumbers (Two.Refused r)
+    → a ≡ writtenTwoNumbers x
 written-two-refused x r a e f = rw e f
 
 pub written-two-counts : (x : WrittenTwo) (n m : ℕ) → x ≡ Two.Counts n m → countTwo n m ≡ writtenTwoNumbers x

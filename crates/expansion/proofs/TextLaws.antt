@@ -46,7 +46,8 @@ module _ (host : Host) (t : List ℕ) (s : List ℕ) (q : Part) (is-t : t ≡ ta
   pub host-paranoid : (n : List ℕ) → host .name ≡ N.Paranoid → t ≡ hostWith (endpoint host n) (bytesAt s q)
   host-paranoid n e = rw e is-t
 
-pub user-named : (user : User) (t : List ℕ) (s : List ℕ) (q : Part) → t ≡ take (q .len) (drop (q .place) s) → (u : List ℕ) → user ≡ U.Known → t ≡ userState user u (bytesAt s q)
+pub user-named : (user : User) (t : List ℕ) (s : List ℕ) (q : Part) → t ≡ take (q .len) (drop (q .place) s) → (u : List ℕ) → user ≡ U.Known
+    → t ≡ userState user u (bytesAt s q)
 user-named user t s q is-t u e = rw e is-t
 
 -- ## Bytes that are no directive

@@ -59,12 +59,14 @@ use Rattle.codes.specs.declared.GateNext.{GateNext}
 use Rattle.codes.specs.declared.GateWritten.{GateWritten}
 use Rattle.codes.specs.declared.request.Target.{Target}
 use Rattle.codes.specs.Requests.{RequestNumbers, request, addressOf, byuidBind, byuidFileBind, authbindAsked, portaclBind, writeBy}
-use Rattle.codes.specs.Answers.{mattersAnswer, verdictAnswer, byuidAnswer, portaclAnswer, writtenAnswer, addressAnswer, Command, together, refusalAnswer, withCount, commandAnswer, nextAnswer}
+use Rattle.codes.specs.Answers.{mattersAnswer, verdictAnswer, byuidAnswer, portaclAnswer, writtenAnswer, addressAnswer, Command, together, refusalAnswer}
+use Rattle.codes.specs.Answers.{withCount, commandAnswer, nextAnswer}
 use Rattle.codes.specs.Code.{addrBy, markBy, portBy, addressBy, addressFrom, targetOf}
 use Rattle.codes.specs.Code.{matterNumbers, verdictNumbers, byuidNumbers, portaclNumbers, writtenNumbers, commandWritten, nextNumbers, readNumbers}
 use Rattle.gate.specs.Calls.{gateCommand, gateSheetCommand}
 use Rattle.codes.proofs.RequestLaws.{byuid-read, byuid-file-read, authbind-read, portacl-read}
-use Rattle.codes.proofs.AnswerLaws.{matter-numbers, verdict-numbers, byuid-numbers, portacl-numbers, written-numbers, next-numbers, read-numbers, together-refused, together-kept, together-written, together-holds}
+use Rattle.codes.proofs.AnswerLaws.{matter-numbers, verdict-numbers, byuid-numbers, portacl-numbers, written-numbers, next-numbers, read-numbers}
+use Rattle.codes.proofs.AnswerLaws.{together-refused, together-kept, together-written, together-holds}
 
 -- ## Verdicts and expansion: the request that was read is answered as the one handed over
 
@@ -111,7 +113,8 @@ module _ (names : List ℕ) (q : Places) (n : RequestNumbers)
     where
       by : (u : Outcome Parts) → (u >>= decidedIn sheet (some (requestAt names q))) ≡ (u >>= decidedIn sheet (request n))
       by (refused r) = refl
-      by (answered p) = ap (λ (x : Outcome Answer). x >>= λ a. answered (inSheet p a)) (over-read (tablesOf (bytesAt sheet (p .tables))) (bytesAt sheet (p .allow)) (bytesAt sheet (p .deny)))
+      by (answered p) = ap (λ (x : Outcome Answer). x >>= λ a. answered (inSheet p a))
+          (over-read (tablesOf (bytesAt sheet (p .tables))) (bytesAt sheet (p .allow)) (bytesAt sheet (p .deny)))
 
   sheet-looked-read : (sheet : List ℕ) → lookedSheet sheet (some (requestAt names q)) ≡ lookedSheet sheet (request n)
   unfolding lookedSheet
@@ -153,7 +156,8 @@ module _ (names : List ℕ) (q : Places) (n : RequestNumbers)
       matter-numbers _ m a e f
       ∙ ap₂ (λ (x : Outcome Answer) (y : Outcome (Option Place)). mattersAnswer (x >>= λ b. y)) (sheet-read sheet) (by (unpack sheet))
     where
-      by : (u : Outcome Parts) → (u >>= λ p. mattersOver (tablesOf (bytesAt sheet (p .tables))) (bytesAt sheet (p .allow)) (bytesAt sheet (p .deny)) (some (requestAt names q)))
+      by : (u : Outcome Parts) → (u >>= λ p. mattersOver (tablesOf (bytesAt sheet (p .tables))) (bytesAt sheet (p .allow)) (bytesAt sheet (p .deny))
+          (some (requestAt names q)))
           ≡ (u >>= λ p. mattersOver (tablesOf (bytesAt sheet (p .tables))) (bytesAt sheet (p .allow)) (bytesAt sheet (p .deny)) (request n))
       by (refused r) = refl
       by (answered p) = over-matters (tablesOf (bytesAt sheet (p .tables))) (bytesAt sheet (p .allow)) (bytesAt sheet (p .deny))
@@ -199,12 +203,14 @@ module _ (names : List ℕ) (q : Places) (n : RequestNumbers)
           → (a : GateCommand) → a ≡ commandWritten b (x .looked) w → a ≡ commandAnswer commanded k
       unfolding commanded
       written-answer w is-w a f =
-          f ∙ ap (λ (y : Reported). commandWritten b (y .looked) w) is-x ∙ together-written out d k (λ a. expand (raw a) (request n) process (length out)) b (sym ruling-is ∙ e) w (is-w ∙ ap writtenOf expand-raw)
+          f ∙ ap (λ (y : Reported). commandWritten b (y .looked) w) is-x
+          ∙ together-written out d k (λ a. expand (raw a) (request n) process (length out)) b (sym ruling-is ∙ e) w (is-w ∙ ap writtenOf expand-raw)
 
       written-holds : (o : List ℕ) → o ≡ lentAfter out (expand c (some (requestAt names q)) process (length out))
           → o ≡ lentAfter out (commanded >>= λ c. answered (c .text))
       unfolding commanded
-      written-holds o f = f ∙ ap (lentAfter out) expand-raw ∙ together-holds out d k (λ a. expand (raw a) (request n) process (length out)) b (sym ruling-is ∙ e)
+      written-holds o f = f ∙ ap (lentAfter out) expand-raw ∙ together-holds out d k (λ a. expand (raw a) (request n) process (length out)) b
+          (sym ruling-is ∙ e)
 
   module _ (allow deny out : List ℕ) (process : ℕ) (x : Reported)
       (is-x : x ≡ reported (decide allow deny (some (requestAt names q))) (lookedOver [] allow deny (some (requestAt names q))))
@@ -225,12 +231,14 @@ module _ (names : List ℕ) (q : Places) (n : RequestNumbers)
         pub command-answer : (w : Written) → w ≡ writtenOf (expand c (some (requestAt names q)) process (length out))
             → (a : GateCommand) → a ≡ commandWritten b (x .looked) w → a ≡ gateCommand allow deny n process out .answer
         unfolding commanded
-        command-answer = written-answer (decide allow deny (request n)) (lookedOver [] allow deny (request n)) (commandBytes allow deny) out process x by-texts b e c is-c
+        command-answer = written-answer (decide allow deny (request n)) (lookedOver [] allow deny (request n))
+            (commandBytes allow deny) out process x by-texts b e c is-c
 
         pub command-holds : (o : List ℕ) → o ≡ lentAfter out (expand c (some (requestAt names q)) process (length out)) → o
             ≡ gateCommand allow deny n process out .out
         unfolding commanded
-        command-holds = written-holds (decide allow deny (request n)) (lookedOver [] allow deny (request n)) (commandBytes allow deny) out process x by-texts b e c is-c
+        command-holds = written-holds (decide allow deny (request n)) (lookedOver [] allow deny (request n))
+            (commandBytes allow deny) out process x by-texts b e c is-c
 
   module _ (sheet out : List ℕ) (process : ℕ) (x : Reported)
       (is-x : x ≡ reported (decideSheet sheet (some (requestAt names q))) (lookedSheet sheet (some (requestAt names q))))
@@ -241,7 +249,8 @@ module _ (names : List ℕ) (q : Places) (n : RequestNumbers)
       pub sheet-command-refused : (g : Refusal) → x .ruling ≡ Ver.Refused g → (a : GateCommand) → a ≡ withCount (refusalAnswer g) 0 → a
           ≡ gateSheetCommand sheet n process out .answer
       unfolding commanded
-      sheet-command-refused = refusal-answer (decideSheet sheet (request n)) (lookedSheet sheet (request n)) (λ a. bytesAt sheet (a .command)) out process x by-sheet
+      sheet-command-refused = refusal-answer (decideSheet sheet (request n)) (lookedSheet sheet (request n))
+          (λ a. bytesAt sheet (a .command)) out process x by-sheet
 
       pub sheet-command-kept : (g : Refusal) → x .ruling ≡ Ver.Refused g → out ≡ gateSheetCommand sheet n process out .out
       unfolding commanded
@@ -251,12 +260,14 @@ module _ (names : List ℕ) (q : Places) (n : RequestNumbers)
         pub sheet-command-answer : (w : Written) → w ≡ writtenOf (expand c (some (requestAt names q)) process (length out))
             → (a : GateCommand) → a ≡ commandWritten b (x .looked) w → a ≡ gateSheetCommand sheet n process out .answer
         unfolding commanded
-        sheet-command-answer = written-answer (decideSheet sheet (request n)) (lookedSheet sheet (request n)) (λ a. bytesAt sheet (a .command)) out process x by-sheet b e c is-c
+        sheet-command-answer = written-answer (decideSheet sheet (request n)) (lookedSheet sheet (request n))
+            (λ a. bytesAt sheet (a .command)) out process x by-sheet b e c is-c
 
         pub sheet-command-holds : (o : List ℕ) → o ≡ lentAfter out (expand c (some (requestAt names q)) process (length out))
             → o ≡ gateSheetCommand sheet n process out .out
         unfolding commanded
-        sheet-command-holds = written-holds (decideSheet sheet (request n)) (lookedSheet sheet (request n)) (λ a. bytesAt sheet (a .command)) out process x by-sheet b e c is-c
+        sheet-command-holds = written-holds (decideSheet sheet (request n)) (lookedSheet sheet (request n))
+            (λ a. bytesAt sheet (a .command)) out process x by-sheet b e c is-c
 
 -- ## The port decisions
 

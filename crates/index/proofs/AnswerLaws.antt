@@ -54,7 +54,8 @@ use Rattle.index.specs.declared.requests.Fields.{Fields}
 use Rattle.index.specs.declared.requests.RequestRead.{RequestRead}
 use Rattle.index.specs.declared.requests.RequestRead.the-variants as R
 use Rattle.index.specs.Index.{twoBytes, answerBytes, loneAnswer, answersTo, parted, readRequests}
-use Rattle.index.specs.Code.{searchedAt, fieldsAt, requestReadOf, numbersIn, knownPart, userPart, namedAt, foundNumbers, unfitNumbers, Ready, allAnswers, Fitting}
+use Rattle.index.specs.Code.{searchedAt, fieldsAt, requestReadOf, numbersIn, knownPart, userPart, namedAt, foundNumbers, unfitNumbers, Ready, allAnswers}
+use Rattle.index.specs.Code.{Fitting}
 use Rattle.index.proofs.TableLaws.{length-two, Two, Wrote, two-wrote, wrote-more}
 use Rattle.index.proofs.RequestLaws.{parted-empty, parted-none, andThen, parted-cut, parted-more}
 
@@ -71,7 +72,8 @@ eight-digits n =
     ∙ append-assoc h (n / 256 / 256 / 256 % 256 ∷ []) (n / 256 / 256 % 256 ∷ n / 256 % 256 ∷ n % 256 ∷ []))
 
 whole-answer : (a : GateAnswer)
-    → twoBytes (a .number) (a .section) ++ twoBytes (a .line) (a .word) ++ twoBytes (a .file) (a .place) ++ twoBytes (a .len) (a .looked / 256 / 256 / 256 / 256)
+    → twoBytes (a .number) (a .section) ++ twoBytes (a .line) (a .word) ++ twoBytes (a .file) (a .place) ++ twoBytes (a .len)
+    (a .looked / 256 / 256 / 256 / 256)
     ++ toDigits 256 4 (a .looked)
     ≡ answerBytes a
 unfolding answerBytes twoBytes
@@ -108,7 +110,17 @@ pub put-answer : (d o₁ o₂ o₃ o₄ o₅ : List ℕ) (number section line wo
     → Two d o₁ number section at n₁ → Two o₁ o₂ line word n₁ n₂ → Two o₂ o₃ file place n₂ n₃
     → Two o₃ o₄ len (looked / 256 / 256 / 256 / 256) n₃ n₄ → (n₅ ≡ n₄ + 4) × (o₅ ≡ putAt o₄ n₄ (toDigits 256 4 looked))
     → (n₅ ≡ at + 36)
-    × (o₅ ≡ putAt d at (answerBytes (record { number = number; section = section; line = line; word = word; file = file; place = place; len = len; looked = looked })))
+    × (o₅ ≡ putAt d at (answerBytes (record {
+      number = number;
+      section = section;
+      line = line;
+      word = word;
+      file = file;
+      place = place;
+      len = len;
+      looked =
+          looked;
+    })))
 put-answer d o₁ o₂ o₃ o₄ o₅ number section line word file place len looked at n₁ n₂ n₃ n₄ n₅ room w₁ w₂ w₃ w₄ w₅ =
     let k : ℕ = looked / 256 / 256 / 256 / 256 in
     let x : List ℕ = twoBytes number section in
@@ -130,7 +142,8 @@ put-answer d o₁ o₂ o₃ o₄ o₅ number section line word file place len lo
     let v₄ : Wrote d o₄ (x ++ y ++ z ++ u) at n₄ = wrote-more d o₃ o₄ (x ++ y ++ z) u at n₃ n₄ v₃ (two-wrote o₃ o₄ len k n₃ n₄ w₄) (omega arith) in
     let v₅ : Wrote d o₅ (x ++ y ++ z ++ u ++ v) at n₅ = wrote-more d o₄ o₅ (x ++ y ++ z ++ u) v at n₄ n₅ v₄ (omega (arith, w₅ .0), w₅ .1) (omega arith) in (
       omega (arith, w₁ .0, w₂ .0, w₃ .0, w₄ .0, w₅ .0),
-      v₅ .1 ∙ ap (putAt d at) (whole-answer (record { number = number; section = section; line = line; word = word; file = file; place = place; len = len; looked = looked })),
+      v₅ .1 ∙ ap (putAt d at)
+          (whole-answer (record { number = number; section = section; line = line; word = word; file = file; place = place; len = len; looked = looked })),
     )
 
 -- ## The request of an answer
@@ -165,7 +178,16 @@ user-some u p e = rw e
 
 pub named-is : (x : States) (f : Fields) (c s u : Part) → c ≡ knownPart (x .client .name) (f .client .name) → s ≡ knownPart (x .server .name) (f .server .name)
     → u ≡ userPart (x .user) (f .«user_name»)
-    → _≡_ {A = Places} (record { daemon = f .daemon; client = x .client; «client_name» = c; server = x .server; «server_name» = s; user = x .user; «user_name» = u }) (namedAt x f)
+    → _≡_ {A = Places} (record {
+      daemon = f .daemon;
+      client = x .client;
+      «client_name» = c;
+      server = x .server;
+      «server_name» = s;
+      user = x .user;
+      «user_name» =
+          u;
+    }) (namedAt x f)
 unfolding namedAt
 named-is x f c s u is-c is-s is-u = rw (is-c, is-s, is-u)
 
@@ -195,7 +217,8 @@ pub found-numbers : (s y : Searched) → y ≡ s → (r : Reported) → r ≡ re
     → a ≡ foundNumbers s
 found-numbers s y is-y r is-r a is-a = is-a ∙ ap verdictNumbers is-r ∙ ap foundNumbers is-y
 
-pub unfit-numbers : (g : Refusal) → g ≡ placeless F.BadRequest → (r : Reported) → r ≡ refusedReport g → (a : GateAnswer) → a ≡ verdictNumbers r → a ≡ unfitNumbers
+pub unfit-numbers : (g : Refusal) → g ≡ placeless F.BadRequest → (r : Reported) → r ≡ refusedReport g → (a : GateAnswer) → a ≡ verdictNumbers r
+    → a ≡ unfitNumbers
 unfit-numbers g is-g r is-r a is-a = is-a ∙ ap verdictNumbers (is-r ∙ ap refusedReport is-g)
 
 module _ (sheet : List ℕ) (p : Parts) (allow deny : List ℕ) (ready : Ready sheet p allow deny) (names : List ℕ) (f : Fields) (x : States)
@@ -210,7 +233,8 @@ module _ (sheet : List ℕ) (p : Parts) (allow deny : List ℕ) (ready : Ready s
   asked =
       request-taken (bytesAt names (f .daemon)) (bytesAt names (f .client .name)) (bytesAt names (f .server .name)) (bytesAt names (f .«user_name»))
       (f .client .numbers) (f .server .numbers) (f .user)
-      ∙ ap (λ (y : States). given (y .fit) (withNames y (bytesAt names (f .daemon)) (bytesAt names (f .client .name)) (bytesAt names (f .server .name)) (bytesAt names (f .«user_name»)))) (sym is-x)
+      ∙ ap (λ (y : States). given (y .fit) (withNames y (bytesAt names (f .daemon)) (bytesAt names (f .client .name)) (bytesAt names (f .server .name))
+      (bytesAt names (f .«user_name»)))) (sym is-x)
       ∙ ap (given (x .fit)) (sym (ap (requestAt names) is-q ∙ named-request names x f))
 
   held-own : requestAt names h ≡ held own
@@ -331,12 +355,14 @@ module _ (sheet : List ℕ) (all : Option (List RequestNumbers)) (d o : List ℕ
       lengths : length (allAnswers sheet all) ≡ length (w .done) + 36 + length (answersTo sheet others)
       lengths =
           ap length whole-on ∙ length-append (w .done ++ own-bytes) (answersTo sheet others)
-          ∙ ap (λ (k : ℕ). k + length (answersTo sheet others)) (length-append (w .done) own-bytes ∙ ap (λ (k : ℕ). length (w .done) + k) (length-answer (loneAnswer sheet (numbersIn rest f))))
+          ∙ ap (λ (k : ℕ). k + length (answersTo sheet others)) (length-append (w .done) own-bytes
+          ∙ ap (λ (k : ℕ). length (w .done) + k) (length-answer (loneAnswer sheet (numbersIn rest f))))
 
       pub answering-room : next + 36 ≤ length o
       answering-room = omega (arith, lengths, w .place, w .long, w .room)
 
-      pub answering-more : (a : GateAnswer) → a ≡ loneAnswer sheet (numbersIn rest f) → (m : ℕ) (o' : List ℕ) → m ≡ next + 36 → o' ≡ putAt o next (answerBytes a)
+      pub answering-more : (a : GateAnswer) → a ≡ loneAnswer sheet (numbersIn rest f) → (m : ℕ) (o' : List ℕ) → m ≡ next + 36
+          → o' ≡ putAt o next (answerBytes a)
           → Answering sheet all d o' m (take (length rest - f .end) (drop (f .end) rest))
       answering-more a is-a m o' is-m is-o =
           let p : o' ≡ putAt o next own-bytes = is-o ∙ ap (λ (b : GateAnswer). putAt o next (answerBytes b)) is-a in

@@ -78,11 +78,13 @@ module _ (sheet : List ℕ) (x : Unpacked) (is-x : x ≡ unpackedOf (unpack shee
         pub index-is : index ≡ indexBytes sheet p
         index-is = eq-of-equal index (indexBytes sheet p) (sym is-b ∙ h)
 
-        pub verdicts-answer : (n : ℕ) (r : Written) → r ≡ writtenOf (answerAll sheet n (readRequests requests)) → r ≡ writtenOf (verdicts sheet index requests n)
+        pub verdicts-answer : (n : ℕ) (r : Written) → r ≡ writtenOf (answerAll sheet n (readRequests requests))
+            → r ≡ writtenOf (verdicts sheet index requests n)
         unfolding verdicts
         verdicts-answer n r w = rw (unpack-is, ← is-b, h) w
 
-        pub verdicts-holds : (out o : List ℕ) (n : ℕ) → o ≡ lentAfter out (answerAll sheet n (readRequests requests)) → o ≡ lentAfter out (verdicts sheet index requests n)
+        pub verdicts-holds : (out o : List ℕ) (n : ℕ) → o ≡ lentAfter out (answerAll sheet n (readRequests requests))
+            → o ≡ lentAfter out (verdicts sheet index requests n)
         unfolding verdicts
         verdicts-holds out o n w = rw (unpack-is, ← is-b, h) w
 
@@ -173,7 +175,8 @@ module _ (sheet requests : List ℕ) (x : Counted) (is-x : x ≡ countedOf (read
 
 -- ## What the calls answer
 
-pub written-index : (sheet : List ℕ) (room : ℕ) (i : List ℕ) → writeIndex sheet room ≡ answered i → (p : Parts) × ((unpack sheet ≡ answered p) × (i ≡ indexBytes sheet p))
+pub written-index : (sheet : List ℕ) (room : ℕ) (i : List ℕ) → writeIndex sheet room ≡ answered i → (p : Parts)
+    × ((unpack sheet ≡ answered p) × (i ≡ indexBytes sheet p))
 unfolding writeIndex
 written-index sheet room i e =
     let b = bind-answered (unpack sheet) _ i e in

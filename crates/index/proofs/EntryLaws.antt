@@ -55,7 +55,8 @@ use Rattle.index.specs.declared.search.Sought.{Sought}
 use Rattle.index.specs.declared.search.Sought.the-variants as S
 use Rattle.index.specs.declared.search.Seeking.{Seeking}
 use Rattle.index.specs.Index.{range, rulesAt, twoBytes, entryBytes, tableBytes}
-use Rattle.index.specs.Code.{numberFrom, rangeAt, entryAt, SmallRange, Small, AllSmall, Table, between, joinedList, listAt, commandStart, commandText, entryCommand, joinsIn, entryRule}
+use Rattle.index.specs.Code.{numberFrom, rangeAt, entryAt, SmallRange, Small, AllSmall, Table, between, joinedList, listAt, commandStart, commandText}
+use Rattle.index.specs.Code.{entryCommand, joinsIn, entryRule}
 use Rattle.index.specs.Code.{ruleAnswerAt, entryAnswer, entryLooked, soughtOf, seeking, seekIn, endedBy, seekThen, seekBoth}
 use Rattle.index.proofs.TableLaws.{length-two, length-entry}
 
@@ -158,7 +159,8 @@ list-plain b s e = rw e
 -- what a list finds, by the places of a request
 module _ (v : View) (names : List ℕ) (q : Places) (b : Bool) (s : List ℕ) where
   module _ (a : List ℕ) (is-a : a ≡ bytesAt names (q .daemon)) (n : List ℕ) (is-n : n ≡ bytesAt names (q .«server_name»)) where
-    pub daemons-joined : b ≡ true → (u : List ℕ) → u ≡ joinedList s → (r : Looked) → r ≡ listLooked (daemonFinds v a (endpoint (q .server) n)) (daemonCounts v) (words u)
+    pub daemons-joined : b ≡ true → (u : List ℕ) → u ≡ joinedList s → (r : Looked)
+        → r ≡ listLooked (daemonFinds v a (endpoint (q .server) n)) (daemonCounts v) (words u)
         → r ≡ listLooked (daemonFinds v (requestAt names q .daemon) (requestAt names q .server)) (daemonCounts v) (listAt b s)
     daemons-joined e u is-u r is-r = is-r ∙ rw (is-a, is-n, list-joined b s u e is-u)
 
@@ -394,7 +396,8 @@ module _ (sheet : List ℕ) (base : ℕ) (v : Verdict) (f : File) (q : Query) wh
 
         looked-here : n ≡ capped (k + capped (entryLooked sheet q head))
         unfolding entryLooked
-        looked-here = is-n ∙ ap (λ (z : Looked). capped (k + z .looked)) is-x ∙ ap (λ (z : Entry). capped (k + capped (queryLooked q (entryRule sheet z)))) is-head
+        looked-here = is-n ∙ ap (λ (z : Looked). capped (k + z .looked)) is-x
+            ∙ ap (λ (z : Entry). capped (k + capped (queryLooked q (entryRule sheet z)))) is-head
 
         pub seeks-found : (a : Answer) → o ≡ S.Answer a → _≡_ {A = Seeking} (record { sought = S.Answer a; looked = n }) (seekIn sheet base v f q whole)
         unfolding seekIn

@@ -13,7 +13,8 @@ use Rattle.lines.specs.Rule.{splitSeparator}
 use Rattle.sheet.specs.declared.Parts.{Parts}
 use Rattle.codes.specs.Requests.{hostNumbers, requestNumbers}
 use Rattle.index.specs.declared.Entry.{Entry}
-use Rattle.index.specs.Index.{range, ruleEntry, ruleTable, twoBytes, entryBytes, tableBytes, indexBytes, readText, readHost, readRequest, parted, readRequests}
+use Rattle.index.specs.Index.{range, ruleEntry, ruleTable, twoBytes, entryBytes, tableBytes, indexBytes, readText, readHost, readRequest, parted}
+use Rattle.index.specs.Index.{readRequests}
 
 abbrev number : ℕ → List ℕ
 number n = 0 ∷ 0 ∷ 0 ∷ n ∷ []
@@ -47,5 +48,6 @@ pub record Table : Type 0 where
   pub cut-short : readRequests (3 ∷ bytes "in") ≡ none
 
 pub table : Table
-unfolding indexBytes tableBytes entryBytes twoBytes toDigits fromDigits ruleTable ruleEntry lines logicalLines split splitSeparator join any all readText readHost readRequest parted readRequests
+unfolding indexBytes tableBytes entryBytes twoBytes toDigits fromDigits ruleTable ruleEntry lines logicalLines split splitSeparator join any all readText
+    readHost readRequest parted readRequests
 table = record { example = refl; skipped = refl; continued = refl; with-command = refl; request = refl; none-asked = refl; cut-short = refl }

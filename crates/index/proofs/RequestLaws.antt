@@ -35,7 +35,8 @@ use Rattle.index.specs.declared.requests.RequestRead.the-variants as R
 use Rattle.index.specs.declared.requests.Counted.{Counted}
 use Rattle.index.specs.declared.requests.Counted.the-variants as C
 use Rattle.index.specs.Index.{cut, numberAt, readText, readHost, readRequest, parted, readRequests}
-use Rattle.index.specs.Code.{numberFrom, textAt, textReadOf, numbersAt, hostFields, hostAt, hostReadOf, fieldsOf, userFrom, hostsFrom, fieldsAt, requestReadOf, countedOf, numbersIn}
+use Rattle.index.specs.Code.{numberFrom, textAt, textReadOf, numbersAt, hostFields, hostAt, hostReadOf, fieldsOf, userFrom, hostsFrom, fieldsAt}
+use Rattle.index.specs.Code.{requestReadOf, countedOf, numbersIn}
 
 -- ## Numbers
 
@@ -120,7 +121,8 @@ text-placed s at = by (leb (length s) at) refl
         let l : length (drop (at + 1) s) ≡ length s - (at + 1) = length-drop (at + 1) s in
         ap₂ (λ (k : ℕ) (t : List ℕ). cut k t) n (drop-drop 1 at s) ∙ tell b e
       where
-        tell : (b : Bool) → leb (length s - at) (getD s at 0) ≡ b → cut (getD s at 0) (drop (at + 1) s) ≡ textBy s (if b then none else some (part (at + 1) (getD s at 0)))
+        tell : (b : Bool) → leb (length s - at) (getD s at 0) ≡ b → cut (getD s at 0) (drop (at + 1) s)
+            ≡ textBy s (if b then none else some (part (at + 1) (getD s at 0)))
         tell true e =
             let k : length s - at ≤ getD s at 0 = leb-true (length s - at) (getD s at 0) e in
             rw (lt-leb (getD s at 0) (length (drop (at + 1) s)) (omega (arith, length-drop (at + 1) s)))
@@ -188,7 +190,8 @@ hostPlaced s (some h) = some ((h .numbers, bytesAt s (h .name)), drop (partEnd (
 
 -- the numbers at the front of a host
 head-numbers : (s : List ℕ) (at : ℕ) → at + 18 ≤ length s
-    → hostNumbers (numberAt 0 1 (take 18 (drop at s))) (numberAt 1 1 (take 18 (drop at s))) (numberAt 2 8 (take 18 (drop at s))) (numberAt 10 8 (take 18 (drop at s)))
+    → hostNumbers (numberAt 0 1 (take 18 (drop at s))) (numberAt 1 1 (take 18 (drop at s))) (numberAt 2 8 (take 18 (drop at s)))
+    (numberAt 10 8 (take 18 (drop at s)))
     ≡ numbersAt at s
 unfolding numbersAt
 head-numbers s at h =
@@ -223,7 +226,8 @@ host-placed s at h = by (ltb (length s - at) 18) refl
     named (some p) e w = rw e (ap (λ (n : HostNumbers). some ((n, bytesAt s p), drop (partEnd p) s)) (head-numbers s at w))
 
     by : (b : Bool) → ltb (length s - at) 18 ≡ b
-        → (cut 18 (drop at s) >>= λ h. readText (h .1) >>= λ name. some ((hostNumbers (numberAt 0 1 (h .0)) (numberAt 1 1 (h .0)) (numberAt 2 8 (h .0)) (numberAt 10 8 (h .0)), name .0), name .1))
+        → (cut 18 (drop at s) >>= λ h. readText (h .1) >>= λ name. some
+        ((hostNumbers (numberAt 0 1 (h .0)) (numberAt 1 1 (h .0)) (numberAt 2 8 (h .0)) (numberAt 10 8 (h .0)), name .0), name .1))
         ≡ hostPlaced s (if b then none else (textAt (at + 18) s >>= λ name. some (hostFields (numbersAt at s) name)))
     by true e =
         let k : length s - at < 18 = ltb-true (length s - at) 18 e in
@@ -329,11 +333,18 @@ module _ (t : List ℕ) where
     where
       named : (o : Option Part) → readText (drop 1 (drop (partEnd (s .name)) t)) ≡ textBy t o → partEnd (s .name) < length t
           → (readText (drop 1 (drop (partEnd (s .name)) t)) >>= λ n.
-          some (requestNumbers (bytesAt t d) (c .numbers) (bytesAt t (c .name)) (s .numbers) (bytesAt t (s .name)) (numberAt 0 1 (take 1 (drop (partEnd (s .name)) t))) (n .0), n .1))
+          some (
+            requestNumbers (bytesAt t d) (c .numbers) (bytesAt t (c .name)) (s .numbers) (bytesAt t (s .name))
+                (numberAt 0 1 (take 1 (drop (partEnd (s .name)) t))) (n .0),
+            n .1,
+          ))
           ≡ requestBy t (o >>= λ name. some (fieldsOf d c s (getD t (partEnd (s .name)) 0) name))
       named none e w = rw e
       named (some p) e w =
-          rw e (ap (λ (u : ℕ). some (requestNumbers (bytesAt t d) (c .numbers) (bytesAt t (c .name)) (s .numbers) (bytesAt t (s .name)) u (bytesAt t p), drop (partEnd p) t))
+          rw e (ap (λ (u : ℕ). some (
+            requestNumbers (bytesAt t d) (c .numbers) (bytesAt t (c .name)) (s .numbers) (bytesAt t (s .name)) u (bytesAt t p),
+            drop (partEnd p) t,
+          ))
           (ap (fromDigits 256 0) (take-take 1 1 (drop (partEnd (s .name)) t) (omega arith)) ∙ one-byte t (partEnd (s .name)) w))
 
       by : (b : Bool) → leb (length t) (partEnd (s .name)) ≡ b
@@ -451,7 +462,8 @@ parted-cons-none : (k x : ℕ) (t : List ℕ) → readRequest (x ∷ t) ≡ none
 unfolding parted
 parted-cons-none k x t e = rw e
 
-parted-cons-some : (k x : ℕ) (t : List ℕ) (n : RequestNumbers) (u : List ℕ) → readRequest (x ∷ t) ≡ some (n, u) → parted (suc k) (x ∷ t) ≡ andThen n (parted k u)
+parted-cons-some : (k x : ℕ) (t : List ℕ) (n : RequestNumbers) (u : List ℕ) → readRequest (x ∷ t) ≡ some (n, u)
+    → parted (suc k) (x ∷ t) ≡ andThen n (parted k u)
 unfolding parted
 parted-cons-some k x t n u e = rw e (by (parted k u))
   where

@@ -173,7 +173,8 @@ module _ (sheet : List ℕ) (p : Parts) (ok : unpack sheet ≡ answered p) where
     seek-deny = ap₂ (λ (o : Option Answer) (n : ℕ). seeking o (capped n)) (same-deny .answers) (same-deny .counts)
 
     place-of : (f : File) (base : ℕ) → filePlace p f ≡ base → (a : Answer) → a .file ≡ f → moved base a ≡ inSheet p a
-    place-of f base e a h = ap (λ (k : ℕ). answer (a .verdict) (a .file) (a .line) (part (k + a .command .place) (a .command .len))) (sym e ∙ ap (filePlace p) (sym h))
+    place-of f base e a h = ap (λ (k : ℕ). answer (a .verdict) (a .file) (a .line) (part (k + a .command .place) (a .command .len)))
+        (sym e ∙ ap (filePlace p) (sym h))
 
     abbrev end : Answer
     end = answer Ver.Granted Neither 0 (part 0 0)
@@ -235,7 +236,8 @@ module _ (sheet : List ℕ) (p : Parts) (ok : unpack sheet ≡ answered p) where
         let last : Answer = answer Ver.Granted Neither 0 (part 0 0) in
         both-lines query
         ∙ ap₂ searched
-        (ap (λ (g : Rule → Found). inSheet p (Option·getD (first (lineAnswer Ver.Granted Allow g) (lines al) orElse first (lineAnswer Ver.Denied Deny g) (lines de)) last)) same-found)
+        (ap (λ (g : Rule → Found). inSheet p (Option·getD (first (lineAnswer Ver.Granted Allow g) (lines al) orElse first (lineAnswer Ver.Denied Deny g)
+        (lines de)) last)) same-found)
         (ap (λ (g : Rule → Found). capped (total g (queryLooked query) al de)) same-found
         ∙ total-near (ruleFound (matchOf ts) r) (queryLooked query) (ruleLooked ts r) same-looked al de)
 
@@ -276,7 +278,13 @@ module _ (sheet : List ℕ) (p : Parts) (ok : unpack sheet ≡ answered p) (inde
       ∙ ap₂ _+_ (length-two (length ra) (length rd)) (length-append (tableBytes ra) (tableBytes rd) ∙ ap₂ _+_ (length-table ra) (length-table rd))
 
   allow-few : length ra ≤ 57360
-  allow-few = omega (arith, rules-at-most (p .allow .place) (bytesAt sheet (p .allow)), allow-inside sheet p ok, allow-length sheet p ok, sheet-length sheet p ok)
+  allow-few = omega (
+    arith,
+    rules-at-most (p .allow .place) (bytesAt sheet (p .allow)),
+    allow-inside sheet p ok,
+    allow-length sheet p ok,
+    sheet-length sheet p ok,
+  )
 
   pub index-four : 0 + 4 ≤ length index
   index-four = omega (arith, index-length)
@@ -332,7 +340,8 @@ module _ (out : List ℕ) (n m : ℕ) (x y : List ℕ) (o₁ : List ℕ) (k₁ :
         let s₂ : o₂ ≡ after (f ++ x) out = put-more out o₁ o₂ f x k₁ (w₂ .1) s₁ (omega (arith, w₁ .0, length-two n m)) in
         (omega (arith, w₁ .0, w₂ .0, w₃ .0), put-more out o₂ o₃ (f ++ x) y k₂ (w₃ .1) s₂ (omega (arith, w₁ .0, w₂ .0, length-append f x, length-two n m)))
 
-module _ (sheet : List ℕ) (p : Parts) (ok : unpack sheet ≡ answered p) (a d : List ℕ) (is-a : a ≡ bytesAt sheet (p .allow)) (is-d : d ≡ bytesAt sheet (p .deny)) where
+module _ (sheet : List ℕ) (p : Parts) (ok : unpack sheet ≡ answered p) (a d : List ℕ) (is-a : a ≡ bytesAt sheet (p .allow))
+    (is-d : d ≡ bytesAt sheet (p .deny)) where
   pub allow-fits : p .allow .place + length a ≤ 57360
   allow-fits = rw is-a (omega (arith, allow-inside sheet p ok, allow-length sheet p ok, sheet-length sheet p ok))
 
@@ -376,13 +385,23 @@ module _ (sheet : List ℕ) (p : Parts) (ok : unpack sheet ≡ answered p) (a d 
         enough : o ≡ answered (indexBytes sheet p)
         enough = rw (le-ltb (length out) (length whole) (omega (arith, whole-length)))
 
-        pub index-room : 8 + length (tableBytes (ruleTable (p .allow .place) (lines a))) + length (tableBytes (ruleTable (p .deny .place) (lines d))) ≤ length out
+        pub index-room : 8 + length (tableBytes (ruleTable (p .allow .place) (lines a))) + length
+            (tableBytes (ruleTable (p .deny .place) (lines d))) ≤ length out
         index-room = omega (arith, length-table (ruleTable (p .allow .place) (lines a)), length-table (ruleTable (p .deny .place) (lines d)), is-n, is-m)
 
-        pub index-count : (k : ℕ) → k ≡ 8 + length (tableBytes (ruleTable (p .allow .place) (lines a))) + length (tableBytes (ruleTable (p .deny .place) (lines d)))
+        pub index-count : (k : ℕ) → k ≡ 8 + length (tableBytes (ruleTable (p .allow .place) (lines a))) + length
+            (tableBytes (ruleTable (p .deny .place) (lines d)))
             → W.Count k ≡ writtenOf o
         index-count k e =
-            let z : k ≡ length whole = omega (arith, e, whole-length, length-table (ruleTable (p .allow .place) (lines a)), length-table (ruleTable (p .deny .place) (lines d)), is-n, is-m) in
+            let z : k ≡ length whole = omega (
+              arith,
+              e,
+              whole-length,
+              length-table (ruleTable (p .allow .place) (lines a)),
+              length-table (ruleTable (p .deny .place) (lines d)),
+              is-n,
+              is-m,
+            ) in
             ap W.Count z ∙ sym (ap writtenOf enough)
 
         pub index-text : (q : List ℕ) → q ≡ after index-of out → q ≡ lentAfter out o
@@ -409,6 +428,7 @@ module _ (sheet : List ℕ) (p : Parts) (ok : unpack sheet ≡ answered p) (a d 
           let e₂ : y ≡ equal (take (length s) (drop (length f) index)) s
           = is-y ∙ ap₂ (λ (j k : ℕ). equal (take j (drop k index)) s) (q ∙ sym ls) (sym lf) in
           let e₃ : z ≡ equal (drop (length s) (drop (length f) index)) u
-          = is-z ∙ ap (λ (t : List ℕ). equal t u) (take-rest index (8 + 32 * n) ∙ ap₂ (λ (j k : ℕ). drop (j + k) index) (sym lf) (sym ls) ∙ sym (drop-drop (length s) (length f) index)) in
+          = is-z ∙ ap (λ (t : List ℕ). equal t u) (take-rest index (8 + 32 * n) ∙ ap₂ (λ (j k : ℕ). drop (j + k) index) (sym lf) (sym ls)
+          ∙ sym (drop-drop (length s) (length f) index)) in
           sym (ap (equal index) (whole-is ∙ append-assoc f s u) ∙ equal-append index f (s ++ u)
           ∙ ap₂ _&&_ (sym e₁) (equal-append (drop (length f) index) s u ∙ ap₂ _&&_ (sym e₂) (sym e₃)) ∙ sym (and-assoc x y z))

@@ -124,13 +124,24 @@ module _ (raw : List ℕ) (a : ℕ) (is-a : a ≡ separatorIndex false raw) (res
 
 module _ (base : ℕ) (t : List ℕ) (i n : ℕ) (l : LineSpan) (is-l : l ≡ spanAt i (scanLine (drop i t))) (h : i < length t) where
   pub line-fits : base + length t ≤ 57360 → base + i + length (take (l .end - i) (drop i t)) + 1 < 18446744073709551616
-  line-fits k = omega (arith, length-line t i l is-l (omega arith), scanLine-bounds t i l (omega arith) is-l .within, scanLine-bounds t i l (omega arith) is-l .from)
+  line-fits k = omega (
+    arith,
+    length-line t i l is-l (omega arith),
+    scanLine-bounds t i l (omega arith) is-l .within,
+    scanLine-bounds t i l (omega arith) is-l .from,
+  )
 
   pub lines-fit : n ≤ i + 1 → base + length t ≤ 57360 → n + l .joins < 18446744073709551616
-  lines-fit k m = omega (arith, scanLine-bounds t i l (omega arith) is-l .within, scanLine-bounds t i l (omega arith) is-l .from, scanLine-bounds t i l (omega arith) is-l .pairs)
+  lines-fit k m = omega (
+    arith,
+    scanLine-bounds t i l (omega arith) is-l .within,
+    scanLine-bounds t i l (omega arith) is-l .from,
+    scanLine-bounds t i l (omega arith) is-l .pairs,
+  )
 
   pub line-entry-is : (b : Bool) → b ≡ hasRule (take (l .end - i) (drop i t)) → (e : Entry) → e ≡ entryBy (take (l .end - i) (drop i t)) (base + i) n (l .joins)
-      → _≡_ {A = LineEntry} (record { next = l .end + 1; number = n + l .joins + 1; ruled = b; entry = e }) (lineEntry base t i n (spanAt i (scanLine (drop i t))))
+      → _≡_ {A = LineEntry} (record { next = l .end + 1; number = n + l .joins + 1; ruled = b; entry = e })
+      (lineEntry base t i n (spanAt i (scanLine (drop i t))))
   line-entry-is b is-b e is-e = rw (is-b, is-e, is-l)
 
 -- ## The entries from a line on
@@ -283,7 +294,8 @@ module _ (base : ℕ) (t : List ℕ) (i n count : ℕ) (w : Counting base t i n 
   pub counting-few : base + length t ≤ 57360 → count ≤ 57361
   counting-few h = omega (arith, w .few, w .within)
 
-  module _ (h : i < length t) (x : LineEntry) (is-x : x ≡ lineEntry base t i n (spanAt i (scanLine (drop i t)))) (k : ℕ) (is-k : k ≡ rulesIn x) (one : k ≤ 1) where
+  module _ (h : i < length t) (x : LineEntry) (is-x : x ≡ lineEntry base t i n (spanAt i (scanLine (drop i t)))) (k : ℕ) (is-k : k ≡ rulesIn x)
+      (one : k ≤ 1) where
     pub counting-more : Counting base t (x .next) (x .number) (count + k)
     counting-more = record {
       within = next-within base t i n h x is-x;
@@ -472,7 +484,12 @@ pub record Comparing (base : ℕ) (t bytes rest : List ℕ) (i n : ℕ) : Type 0
   pub same : equal bytes (tableBytes (ruleTable base (lines t))) ≡ equal rest (tableBytes (tableFrom base t i n))
 
 pub comparing-start : (base : ℕ) (t bytes : List ℕ) → Comparing base t bytes bytes 0 1
-comparing-start base t bytes = record { within = omega arith; number = omega arith; same = ap (λ (es : List Entry). equal bytes (tableBytes es)) (table-start base t) }
+comparing-start base t bytes = record {
+  within = omega arith;
+  number = omega arith;
+  same =
+      ap (λ (es : List Entry). equal bytes (tableBytes es)) (table-start base t);
+}
 
 module _ (base : ℕ) (t bytes rest : List ℕ) (i n : ℕ) (w : Comparing base t bytes rest i n) where
   pub comparing-end : length t ≤ i → eqb (length rest) 0 ≡ equal bytes (tableBytes (ruleTable base (lines t)))
@@ -490,7 +507,8 @@ module _ (base : ℕ) (t bytes rest : List ℕ) (i n : ℕ) (w : Comparing base 
     line-length = length-lineBytes x ∙ ap (λ (m : ℕ). 32 * m) (sym is-k)
 
     pub comparing-short : length rest < 32 * k → false ≡ equal bytes (tableBytes (ruleTable base (lines t)))
-    comparing-short s = sym (here-same ∙ equal-lengths rest (lineBytes x ++ tail) (λ e. absurd (omega (arith, e, length-append (lineBytes x) tail, line-length))))
+    comparing-short s = sym (here-same ∙ equal-lengths rest (lineBytes x ++ tail)
+        (λ e. absurd (omega (arith, e, length-append (lineBytes x) tail, line-length))))
 
     module _ (y : Bool) (is-y : y ≡ equal (take (32 * k) rest) (lineBytes x)) where
       parted-same-bytes : equal bytes (tableBytes (ruleTable base (lines t))) ≡ (y && equal (drop (32 * k) rest) tail)

@@ -46,7 +46,8 @@ use Rattle.rules.proofs.JoinLaws.{joinParts, splitSeparator-join, isEmpty-trimm
 use Rattle.sheet.proofs.FrameLaws.{take-drop-take}
 use Rattle.index.specs.declared.Entry.{Entry}
 use Rattle.index.specs.Index.{range, ruleEntry, withEntry, ruleTable}
-use Rattle.index.specs.Code.{hasRule, entryBy, SmallRange, Small, AllSmall, between, joinedList, listAt, commandStart, commandText, entryCommand, joinsIn, entryRule}
+use Rattle.index.specs.Code.{hasRule, entryBy, SmallRange, Small, AllSmall, between, joinedList, listAt, commandStart, commandText, entryCommand, joinsIn}
+use Rattle.index.specs.Code.{entryRule}
 use Rattle.index.specs.Code.{ruleAnswerAt, entryAnswer, entryLooked}
 use Rattle.index.proofs.TableLaws.{separatorIndex-le, entry-of-line}
 
@@ -91,7 +92,8 @@ module _ (base : ℕ) (t : List ℕ) (few : base + length t + 2 < 4294967296) wh
         let s : separatorIndex false raw ≤ length raw = separatorIndex-le false raw in
         let u : separatorIndex false (drop (separatorIndex false raw + 1) raw) ≤ length (drop (separatorIndex false raw + 1) raw)
         = separatorIndex-le false (drop (separatorIndex false raw + 1) raw) in
-        let v : length (drop (separatorIndex false raw + 1) raw) ≡ length raw - (separatorIndex false raw + 1) = length-drop (separatorIndex false raw + 1) raw in
+        let v : length (drop (separatorIndex false raw + 1) raw) ≡ length raw - (separatorIndex false raw + 1) =
+        length-drop (separatorIndex false raw + 1) raw in
         let bf : i ≤ l .end = b .from in
         let bw : l .end ≤ length t = b .within in
         let bp : 2 * l .joins ≤ l .end - i = b .pairs in
@@ -124,7 +126,8 @@ split-le s x e = by (ltb (separatorIndex false s) (length s)) refl
     by : (b : Bool) → ltb (separatorIndex false s) (length s) ≡ b → (length (x .0) ≤ length s) × (length (x .1) ≤ length s)
     by true k =
         let l : separatorIndex false s < length s = ltb-true (separatorIndex false s) (length s) k in
-        let same : (take (separatorIndex false s) s, drop (separatorIndex false s + 1) s) ≡ x = cc (sym (splitSeparator-some s (separatorIndex false s) refl l) ∙ e) in
+        let same : (take (separatorIndex false s) s, drop (separatorIndex false s + 1) s) ≡ x =
+        cc (sym (splitSeparator-some s (separatorIndex false s) refl l) ∙ e) in
         subst (λ (x : List ℕ × List ℕ). (length (x .0) ≤ length s) × (length (x .1) ≤ length s)) same
         (omega (arith, length-take-le (separatorIndex false s) s (omega arith)), omega (arith, length-drop (separatorIndex false s + 1) s))
     by false k =
@@ -393,7 +396,8 @@ module _ (sheet : List ℕ) (p : Part) (inside : p .place + p .len ≤ length sh
       same-ruled e en an co = record {
         answers = rw en (ap₂ _orElse_ an (s .answers) ∙ sym (inFile-orElse base (lin x) (first lin ls)));
         counts = rw (en, co)
-            (ap₂ (λ (b : Bool) (k : ℕ). lineCount (queryLooked q) x + (if b then 0 else k)) (ap (λ (o : Option Answer). isSome o) an ∙ inFile-some base (lin x)) (s .counts));
+            (ap₂ (λ (b : Bool) (k : ℕ). lineCount (queryLooked q) x + (if b then 0 else k)) (ap (λ (o : Option Answer). isSome o) an ∙ inFile-some base (lin x))
+            (s .counts));
       }
 
     module _ (s : Section) where

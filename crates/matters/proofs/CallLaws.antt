@@ -177,7 +177,8 @@ module _ (allow deny names : List ℕ) (q : Places) where
   by-texts = matterOf (nameMatters allow deny (some own))
 
   module _ (b : Bool) (is-b : b ≡ wellFormed own) where
-    pub texts-unfit : not b ≡ true → (n : ℕ) (y : Reported) → y ≡ reported (decide allow deny (some own)) n → (x : Matter) → x ≡ refusedBy (y .ruling) → x ≡ by-texts
+    pub texts-unfit : not b ≡ true → (n : ℕ) (y : Reported) → y ≡ reported (decide allow deny (some own)) n → (x : Matter) → x ≡ refusedBy (y .ruling)
+        → x ≡ by-texts
     unfolding decide nameMatters
     texts-unfit e n y is-y x is-x =
         is-x ∙ ap (λ (z : Reported). refusedBy (z .ruling)) is-y ∙ unfit text-checks [] allow deny own (sym is-b ∙ unfits b e) n
@@ -186,7 +187,8 @@ module _ (allow deny names : List ℕ) (q : Places) where
         unfits true e = sym e
         unfits false e = refl
 
-    module _ (e : not b ≡ false) (u : Places) (is-u : u ≡ unfetchedAt q) (n : ℕ) (y : Reported) (is-y : y ≡ reported (decide allow deny (some (requestAt names u))) n) where
+    module _ (e : not b ≡ false) (u : Places) (is-u : u ≡ unfetchedAt q) (n : ℕ) (y : Reported)
+        (is-y : y ≡ reported (decide allow deny (some (requestAt names u))) n) where
       fitting : wellFormed own ≡ true
       fitting = sym is-b ∙ by b e
         where

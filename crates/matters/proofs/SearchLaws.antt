@@ -188,7 +188,8 @@ module _ (v : Verdict) (f : File) where
         by true o b p e = absurd (other e)
         by false none b p e = absurd (other e)
         by false (some x) b p e =
-            let w : (t : List ℕ) × (inRange 1 64 (length t) ≡ true) × (sameFound (ruleFound m (withUser r U.Unknown []) x) (ruleFound m (withUser r U.Known t) x) ≡ false) =
+            let w : (t : List ℕ) × (inRange 1 64 (length t) ≡ true) × (sameFound (ruleFound m (withUser r U.Unknown []) x)
+            (ruleFound m (withUser r U.Known t) x) ≡ false) =
             told-differs m r x e in (
               w .0,
               w .1,
@@ -233,7 +234,8 @@ module _ (v : Verdict) (f : File) where
         by Told.Decides h e ih =
             let w : At (l .number) (by-user u t l) = decides l h u t s in
             (w .given, rw (w .is), w .at-place ∙ ap outer e)
-        by Told.Differs h e ih = absurd (true≢false (sym (ap (λ (o : Option (Option Place)). elim (Option·getD o (some p)) [ none ↦ false | some x ↦ true ]) e)))
+        by Told.Differs h e ih =
+            absurd (true≢false (sym (ap (λ (o : Option (Option Place)). elim (Option·getD o (some p)) [ none ↦ false | some x ↦ true ]) e)))
 
     along-differs : (ls : List Line) → Ascends ls → along ls ≡ some none
         → (t : List ℕ) × (inRange 1 64 (length t) ≡ true) × Apart (answered-by U.Unknown [] ls) (answered-by U.Known t ls)
@@ -350,7 +352,8 @@ module _ (m : Matcher) (allow deny : List ℕ) (r : Request) where
       -- the user with an answer of allow at the line n, and the one without up to there
       allow-apart : (n : ℕ) (o o′ q q′ : Option Answer) → At Granted Allow n o → Later Granted Allow n o′ → ((a : Answer) → q′ ≡ some a → a .file ≡ Deny)
           → placeOf (Option·getD (o orElse q) nothing) ≡ placeOf (Option·getD (o′ orElse q′) nothing) → ⊥
-      allow-apart n o o′ q q′ w l d e = split o′ l (sym (w .at-place) ∙ sym (ap (λ (x : Option Answer). placeOf (Option·getD (x orElse q) nothing)) (w .is)) ∙ e)
+      allow-apart n o o′ q q′ w l d e = split o′ l (sym (w .at-place) ∙ sym (ap (λ (x : Option Answer). placeOf (Option·getD (x orElse q) nothing)) (w .is))
+          ∙ e)
         where
           split : (o′ : Option Answer) → Later Granted Allow n o′ → place Granted Allow n ≡ placeOf (Option·getD (o′ orElse q′) nothing) → ⊥
           split none l e = else-file q′ d (sym (ap (λ (p : Place). fileSection (p .file)) e))
@@ -370,7 +373,8 @@ module _ (m : Matcher) (allow deny : List ℕ) (r : Request) where
       allow-either t i (first-has n w l) e =
           allow-apart n (in-allow U.Unknown []) (in-allow U.Known t) (in-deny U.Unknown []) (in-deny U.Known t) w l (deny-file U.Known t (named t i)) e
       allow-either t i (second-has n w l) e =
-          allow-apart n (in-allow U.Known t) (in-allow U.Unknown []) (in-deny U.Known t) (in-deny U.Unknown []) w l (deny-file U.Unknown [] (unknown [])) (sym e)
+          allow-apart n (in-allow U.Known t) (in-allow U.Unknown []) (in-deny U.Known t) (in-deny U.Unknown []) w l (deny-file U.Unknown [] (unknown []))
+          (sym e)
 
       deny-either : (t : List ℕ) → Apart Denied Deny (in-deny U.Unknown []) (in-deny U.Known t)
           → placeOf (Option·getD (in-deny U.Unknown []) nothing) ≡ placeOf (Option·getD (in-deny U.Known t) nothing) → ⊥

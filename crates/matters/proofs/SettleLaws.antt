@@ -55,8 +55,10 @@ use Rattle.matters.specs.declared.Place.{Place}
 use Rattle.matters.specs.declared.Matter.{Matter}
 use Rattle.matters.specs.declared.Told.{Told}
 use Rattle.matters.specs.declared.Told.the-variants as Told
-use Rattle.matters.specs.Matters.{place, placeOf, sameFound, freshName, nameFinds, asksAt, halfHolds, askerHolds, toldBy, askedTold, foundTold, ruleTold, parsedTold, lineTold, toldAt, textTold, settled, matterBy}
-use Rattle.matters.specs.Code.{Finder, finderBy, nameAgrees, halfAgrees, askedList, listToldOn, listTold, clientsTold, parsedBy, kindToldAs, kindTold, textToldBy, settledBy}
+use Rattle.matters.specs.Matters.{place, placeOf, sameFound, freshName, nameFinds, asksAt, halfHolds, askerHolds, toldBy, askedTold, foundTold, ruleTold}
+use Rattle.matters.specs.Matters.{parsedTold, lineTold, toldAt, textTold, settled, matterBy}
+use Rattle.matters.specs.Code.{Finder, finderBy, nameAgrees, halfAgrees, askedList, listToldOn, listTold, clientsTold, parsedBy, kindToldAs, kindTold}
+use Rattle.matters.specs.Code.{textToldBy, settledBy}
 use Rattle.matters.proofs.RuleLaws.{Stated, unknown, named}
 use Rattle.matters.proofs.SearchLaws.{settled-same, unsettled}
 
@@ -68,7 +70,8 @@ module _ (v : View) (m : Matcher) (r : Request) (server : (n : List ℕ) → v .
   finds = finderBy v r
 
   -- what a rule finds, by what its lists do
-  by-lists : (x : Rule) (u : User) (t : List ℕ) → ruleFound m (withUser r u t) x ≡ onFound (finds .daemons (x .daemons)) (finds .clients u t (x .clients)) Found.No
+  by-lists : (x : Rule) (u : User) (t : List ℕ) → ruleFound m (withUser r u t) x
+      ≡ onFound (finds .daemons (x .daemons)) (finds .clients u t (x .clients)) Found.No
   by-lists x u t =
       sym (ap (λ (g : Rule → Found). g x) (view-found (v .server) (v .client) m (withUser r u t) server client))
       ∙ ruleFound-lists v (withUser r u t) (x .daemons) (x .clients) (x .command)
@@ -185,7 +188,8 @@ module _ (allow deny t : List ℕ) (sound : contentsFault allow deny t ≡ none)
   few-tables whole = rw whole (ltb-false 64 (length (tablesOf t)) (by (ltb 64 (length (tablesOf t))) refl bad-none))
     where
       by : (b : Bool) → ltb 64 (length (tablesOf t)) ≡ b
-          → ((given (b || ltb 12288 (length t)) 0 orElse firstTable (λ before x. isUnsound x) 1 [] (tablesOf t)) >>= λ n. some (refusal F.BadTable 5 n)) ≡ none → b ≡ false
+          → ((given (b || ltb 12288 (length t)) 0 orElse firstTable (λ before x. isUnsound x) 1 [] (tablesOf t)) >>= λ n. some (refusal F.BadTable 5 n)) ≡ none
+          → b ≡ false
       by false e h = refl
       by true e h = absurd (true≢false (ap (λ (o : Option Refusal). elim o [ none ↦ false | some x ↦ true ]) h))
 

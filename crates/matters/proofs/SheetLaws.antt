@@ -157,7 +157,8 @@ module _ (sheet names : List ℕ) (q : Places) where
   by-sheet = matterOf (nameMattersSheet sheet (some own))
 
   module _ (b : Bool) (is-b : b ≡ wellFormed own) where
-    pub sheet-unfit : not b ≡ true → (n : ℕ) (y : Reported) → y ≡ reported (decideSheet sheet (some own)) n → (x : Matter) → x ≡ refusedBy (y .ruling) → x ≡ by-sheet
+    pub sheet-unfit : not b ≡ true → (n : ℕ) (y : Reported) → y ≡ reported (decideSheet sheet (some own)) n → (x : Matter) → x ≡ refusedBy (y .ruling)
+        → x ≡ by-sheet
     sheet-unfit e n y is-y x is-x = is-x ∙ ap (λ (z : Reported). refusedBy (z .ruling)) is-y ∙ unfit sheet own (sym is-b ∙ unfits b e) n
       where
         unfits : (b : Bool) → not b ≡ true → b ≡ false
@@ -171,7 +172,8 @@ module _ (sheet names : List ℕ) (q : Places) where
         by true e = refl
         by false e = sym e
 
-    module _ (e : not b ≡ false) (u : Places) (is-u : u ≡ unfetchedAt q) (n : ℕ) (y : Reported) (is-y : y ≡ reported (decideSheet sheet (some (requestAt names u))) n) where
+    module _ (e : not b ≡ false) (u : Places) (is-u : u ≡ unfetchedAt q) (n : ℕ) (y : Reported)
+        (is-y : y ≡ reported (decideSheet sheet (some (requestAt names u))) n) where
       pub sheet-refused : (f : Refusal) → y .ruling ≡ R.Refused f → M.Refused f ≡ by-sheet
       unfolding unfetchedAt
       sheet-refused f k = refuses sheet own (sheet-fits e) f
@@ -202,10 +204,12 @@ module _ (sheet names : List ℕ) (q : Places) where
       pub sheet-framed : (p : Parts) → x ≡ Fr.Parts p → frame sheet ≡ answered p
       sheet-framed p e = frame-parts (frame sheet) p (sym is-x ∙ e)
 
-    module _ (p : Parts) (framed : frame sheet ≡ answered p) (al : List ℕ) (is-al : al ≡ bytesAt sheet (p .allow)) (de : List ℕ) (is-de : de ≡ bytesAt sheet (p .deny))
+    module _ (p : Parts) (framed : frame sheet ≡ answered p) (al : List ℕ) (is-al : al ≡ bytesAt sheet (p .allow)) (de : List ℕ)
+        (is-de : de ≡ bytesAt sheet (p .deny))
         (ta : List ℕ) (is-ta : ta ≡ bytesAt sheet (p .tables)) where
       pub parts-whole : tablesIn ta ≡ tablesOf ta
-      parts-whole = rw is-ta (tables-in-of (bytesAt sheet (p .tables)) (frame-none (bytesAt sheet (p .tables)) (nones sheet own fits a given-unfetched p framed .0)))
+      parts-whole = rw is-ta (tables-in-of (bytesAt sheet (p .tables))
+          (frame-none (bytesAt sheet (p .tables)) (nones sheet own fits a given-unfetched p framed .0)))
 
       pub parts-sound : contentsFault al de ta ≡ none
       parts-sound = rw (is-al, is-de, is-ta) (nones sheet own fits a given-unfetched p framed .1)

@@ -50,7 +50,8 @@ use Rattle.matters.specs.declared.Telling.the-variants as T
 use Rattle.matters.specs.declared.Matter.{Matter}
 use Rattle.matters.specs.declared.Matter.the-variants as M
 use Rattle.matters.specs.Matters.{place, sameFound, freshName, toldOf, toldBy, toldAt, matterBy}
-use Rattle.matters.specs.Code.{Finder, finderBy, nameAgrees, halfAgrees, askedList, listToldOn, listTold, clientsTold, parsedBy, kindTold, textToldBy, tellingOf, settledBy, endedBy}
+use Rattle.matters.specs.Code.{Finder, finderBy, nameAgrees, halfAgrees, askedList, listToldOn, listTold, clientsTold, parsedBy, kindTold, textToldBy}
+use Rattle.matters.specs.Code.{tellingOf, settledBy, endedBy}
 
 -- ## A request at places of a block
 
@@ -202,10 +203,12 @@ module _ (v : View) (names : List ℕ) (q : Places) (t : List ℕ) (joined : NoN
       (sym (is-d ∙ ap₂ (λ (x y : List ℕ). included (daemonFinds v x (endpoint (q .server) y)) (words (take i t))) is-a is-b)))
 
   pub rule-no : d ≡ Found.No → Told.Passes ≡ parsedBy F (parseRule t)
-  rule-no e = sym (told-lists (afterSeparator i t) refl ∙ ap (λ (x : Found). clientsTold F x (words (take (separatorIndex false (afterSeparator i t)) (afterSeparator i t)))) e)
+  rule-no e = sym (told-lists (afterSeparator i t) refl ∙ ap (λ (x : Found). clientsTold F x
+      (words (take (separatorIndex false (afterSeparator i t)) (afterSeparator i t)))) e)
 
   pub rule-ask : d ≡ Found.Ask → Told.Passes ≡ parsedBy F (parseRule t)
-  rule-ask e = sym (told-lists (afterSeparator i t) refl ∙ ap (λ (x : Found). clientsTold F x (words (take (separatorIndex false (afterSeparator i t)) (afterSeparator i t)))) e)
+  rule-ask e = sym (told-lists (afterSeparator i t) refl ∙ ap (λ (x : Found). clientsTold F x
+      (words (take (separatorIndex false (afterSeparator i t)) (afterSeparator i t)))) e)
 
   pub rule-yes : d ≡ Found.Yes → (s : List ℕ) → s ≡ afterSeparator i t → (j : ℕ) → j ≡ separatorIndex false s
       → (r : Told) → r ≡ listTold F (words (take j s)) → r ≡ parsedBy F (parseRule t)
@@ -235,7 +238,8 @@ told-join F s h = told-parts F s (splitSeparator false s) refl (joined-all s h)
 pub joined-told : (F : Finder) (s o d : List ℕ) (n : ℕ) → n ≡ length (join s) → o ≡ join s ++ drop (length (join s)) d → NoNewline (join s)
     → (r : Told) → r ≡ parsedBy F (parseRule (take n o)) → r ≡ parsedBy F (parseRule s)
 joined-told F s o d n is-n is-o h r is-r =
-    is-r ∙ ap (λ (t : List ℕ). parsedBy F (parseRule t)) (rw (is-n, is-o) (take-at (join s) (drop (length (join s)) d) (length (join s)) refl)) ∙ told-join F s h
+    is-r ∙ ap (λ (t : List ℕ). parsedBy F (parseRule t)) (rw (is-n, is-o) (take-at (join s) (drop (length (join s)) d) (length (join s)) refl))
+    ∙ told-join F s h
 
 -- ## What a line tells
 

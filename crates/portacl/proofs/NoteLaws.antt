@@ -141,7 +141,8 @@ module _ (t : List ℕ) (uid : ℕ) (m₀ u₀ m u : List ℕ) (n at : ℕ) (w :
       unfolding notes
       noting-bad-udp = sym (w .over-udp ∙ rw (more, none-read))
 
-    pub noting-on : (x : Entry) → r ≡ Value x → (m' u' : List ℕ) → m' ≡ noted uid Tcp x m → u' ≡ noted uid Udp x u → Noting t uid m₀ u₀ m' u' (n + 1) (at + i + 1)
+    pub noting-on : (x : Entry) → r ≡ Value x → (m' u' : List ℕ) → m' ≡ noted uid Tcp x m → u' ≡ noted uid Udp x u
+        → Noting t uid m₀ u₀ m' u' (n + 1) (at + i + 1)
     unfolding notes faultIn
     noting-on x e m' u' is-m is-u =
         let here = asEntry-some x (entryData (take (at + i - at) (drop at t))) (sym is-r ∙ e) in
@@ -216,4 +217,5 @@ any-granted b (some x ∷ es) = ap (λ (z : Bool). grantsTo x b || z) (any-grant
 pub notes-here : (uid : ℕ) (p : Protocol) (t m : List ℕ) (port : ℕ) → port < length m → portaclFault t ≡ none
     → getD (notes uid p (entriesData t) m) port 0 ≡ (if any (holds λ grants. grants (bind uid [] p port)) (entries t) then 1 else getD m port 0)
 notes-here uid p t m port h e =
-    rw (entries-entriesData t, any-granted (bind uid [] p port) (entriesData t)) (notes-from uid p 1 (entriesData t) m port h (sym (portaclFault-faultIn t) ∙ e))
+    rw (entries-entriesData t, any-granted (bind uid [] p port) (entriesData t))
+    (notes-from uid p 1 (entriesData t) m port h (sym (portaclFault-faultIn t) ∙ e))

@@ -225,7 +225,8 @@ list-weights (x ∷ t) = omega (arith, weights-lengths (split "," (x ∷ t)), le
 -- ## The list and its ports
 
 pub granted-bytes : (t : List ℕ) (uid k from : ℕ)
-    → sumIf (λ q. any (holds λ grants. grants (bind uid [] Tcp q)) (entries t)) k from + sumIf (λ q. any (holds λ grants. grants (bind uid [] Udp q)) (entries t)) k from ≤ length t
+    → sumIf (λ q. any (holds λ grants. grants (bind uid [] Tcp q)) (entries t)) k from + sumIf
+    (λ q. any (holds λ grants. grants (bind uid [] Udp q)) (entries t)) k from ≤ length t
 granted-bytes t uid k from =
     let has : (p : Protocol) (q : ℕ) → any (holds λ grants. grants (bind uid [] p q)) (entries t) ≡ granting uid p q (entriesData t)
     = λ p q. rw (entries-entriesData t) (any-granted (bind uid [] p q) (entriesData t)) in

@@ -170,7 +170,8 @@ module _ (a d bu po t : List ℕ) (b : Searched) (x : Framing) (is-x : x ≡ fra
 pub find-parts : (sheet : List ℕ) (p : Parts) (a d bu po t : List ℕ) → a ≡ bytesAt sheet (p .allow) → d ≡ bytesAt sheet (p .deny)
     → bu ≡ bytesAt sheet (p .byuid) → po ≡ bytesAt sheet (p .portacl) → t ≡ bytesAt sheet (p .tables) → (r : Request) (f : Finding)
     → f ≡ findingOf (framedFault a d bu po t) (searched (search (matchOf (tablesOf t)) a d r) (capped (looked (tablesOf t) a d r)))
-    → f ≡ findingOf (framedFault (bytesAt sheet (p .allow)) (bytesAt sheet (p .deny)) (bytesAt sheet (p .byuid)) (bytesAt sheet (p .portacl)) (bytesAt sheet (p .tables)))
+    → f ≡ findingOf (framedFault (bytesAt sheet (p .allow)) (bytesAt sheet (p .deny)) (bytesAt sheet (p .byuid)) (bytesAt sheet (p .portacl))
+    (bytesAt sheet (p .tables)))
     (searched (search (matchOf (tablesOf (bytesAt sheet (p .tables)))) (bytesAt sheet (p .allow)) (bytesAt sheet (p .deny)) r)
     (capped (looked (tablesOf (bytesAt sheet (p .tables))) (bytesAt sheet (p .allow)) (bytesAt sheet (p .deny)) r)))
 find-parts sheet p a d bu po t is-a is-d is-bu is-po is-t r f is-f = is-f ∙ rw (is-a, is-d, is-bu, is-po, is-t)
@@ -262,7 +263,8 @@ module _ (sheet : List ℕ) (p : Parts) (framed : frame sheet ≡ answered p) wh
         unfolding decideSheet lookedSheet lookedOver
         parts-answered c is-c s is-s x is-x =
             is-x ∙ rw (is-s, is-c, unpack-framed, answer-found .0, ← (answer-found .1), held-at names q h is-h, held-fits (requestAt names q))
-            (by (wellFormed (requestAt names q)) (search (matchOf (tablesOf t)) a d (held (requestAt names q))) (capped (looked (tablesOf t) a d (held (requestAt names q)))))
+            (by (wellFormed (requestAt names q)) (search (matchOf (tablesOf t)) a d (held (requestAt names q)))
+            (capped (looked (tablesOf t) a d (held (requestAt names q)))))
           where
             by : (z : Bool) (w : Answer) (k : ℕ) → refusingRequest z (inSheet p w) k
                 ≡ reported ((if z then answered w else refused (placeless F.BadRequest)) >>= λ a. answered (inSheet p a))
@@ -299,7 +301,8 @@ pub command-bytes : (sheet : List ℕ) (p : Parts) → frame sheet ≡ answered 
 command-bytes sheet p framed r b ts e =
     by (b .file)
     (subst (λ (x : Answer). x .command .place + x .command .len ≤ fileLength (bytesAt sheet (p .allow)) (bytesAt sheet (p .deny)) (x .file))
-    (over-search ts (bytesAt sheet (p .allow)) (bytesAt sheet (p .deny)) r b e) (search-within (matchOf ts) (bytesAt sheet (p .allow)) (bytesAt sheet (p .deny)) (held r)))
+    (over-search ts (bytesAt sheet (p .allow)) (bytesAt sheet (p .deny)) r b e)
+    (search-within (matchOf ts) (bytesAt sheet (p .allow)) (bytesAt sheet (p .deny)) (held r)))
   where
     by : (f : File) → b .command .place + b .command .len ≤ fileLength (bytesAt sheet (p .allow)) (bytesAt sheet (p .deny)) f
         → take (b .command .len) (drop (filePlace p f + b .command .place) sheet)

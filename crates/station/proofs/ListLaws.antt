@@ -32,7 +32,8 @@ use Rattle.station.specs.Station.{decidePortaclSheet}
 use Rattle.station.specs.Code.{withoutList}
 
 -- what a decision says of its list
-decided-sound : (t : List ℕ) (s : Settings) (o : Option Bind) (d : Decision) → decidePortacl t s o ≡ answered d → (overLimit S.portacl t ≡ none) × (portaclFault t ≡ none)
+decided-sound : (t : List ℕ) (s : Settings) (o : Option Bind) (d : Decision) → decidePortacl t s o ≡ answered d → (overLimit S.portacl t ≡ none)
+    × (portaclFault t ≡ none)
 unfolding decidePortacl
 decided-sound t s o d = by (overLimit S.portacl t) (portaclFault t)
   where
@@ -64,7 +65,8 @@ module _ (sheet : List ℕ) (p : Parts) (framed : frame sheet ≡ answered p) (s
   others : textsFault (textsAt sheet p) ≡ textsFault (withoutList (textsAt sheet p))
   others =
       let k = decided-sound (bytesAt sheet (p .portacl)) s o d decided in
-      same-fault (bytesAt sheet (p .allow)) (bytesAt sheet (p .deny)) (bytesAt sheet (p .byuid)) (bytesAt sheet (p .portacl)) (bytesAt sheet (p .tables)) (k .0) (k .1)
+      same-fault (bytesAt sheet (p .allow)) (bytesAt sheet (p .deny)) (bytesAt sheet (p .byuid)) (bytesAt sheet (p .portacl)) (bytesAt sheet (p .tables)) (k .0)
+      (k .1)
 
   pub others-refused : (g : Refusal) → c ≡ C.Refused g → R.Refused g ≡ portaclRuling (decidePortaclSheet sheet s o)
   unfolding decidePortaclSheet unpack

@@ -42,7 +42,8 @@ use Rattle.rules.specs.Code.{linesFault, contentsFault}
 use Rattle.tidy.specs.declared.Checked.{Checked}
 use Rattle.tidy.specs.declared.Checked.the-variants as C
 use Rattle.tidy.specs.Tidy.{named, accepts, proposal, dropped, sectionOf, withSection, fileFault, propose, acceptedBytes, numbersOf, dropRules}
-use Rattle.tidy.specs.Code.{checkedOf, checkedBy, textsFault, sectionFault, dropSound, Sound, flag, Marked, markedHere, markedFrom, markedBytes, namesMarked, setNamed, Named, keptHere, keptLine, keptBytes}
+use Rattle.tidy.specs.Code.{checkedOf, checkedBy, textsFault, sectionFault, dropSound, Sound, flag, Marked, markedHere, markedFrom, markedBytes}
+use Rattle.tidy.specs.Code.{namesMarked, setNamed, Named, keptHere, keptLine, keptBytes}
 use Rattle.tidy.proofs.ProposalLaws.{Ascend, accepts-proposed}
 use Rattle.tidy.proofs.NumberLaws.{marked-proposal, named-by}
 
@@ -59,7 +60,8 @@ module _ (p : Pass) where
   by-matched a e = rw e
 
 module _ (allow deny five : List ℕ) (f : Framing) (is-f : f ≡ frameOf (readTables five)) where
-  pub checked-cut : f ≡ Framing.Cut → (g : Refusal) → g ≡ refusal F.CutShort 5 0 → C.Refused g ≡ checkedOf (tablesFrame five orElse contentsFault allow deny five)
+  pub checked-cut : f ≡ Framing.Cut → (g : Refusal) → g ≡ refusal F.CutShort 5 0
+      → C.Refused g ≡ checkedOf (tablesFrame five orElse contentsFault allow deny five)
   checked-cut k g is-g = rw (frame-cut five f is-f k, is-g)
 
   pub checked-trailing : f ≡ Framing.Trailing → (g : Refusal) → g ≡ placeless F.TrailingBytes
@@ -98,7 +100,8 @@ module _ (allow deny five : List ℕ) (o : Bool) (is-o : o ≡ ltb 16384 (length
     unfolding textsFault
     over-deny k g is-g = rw (← is-o, e, ← is-x, k, is-g)
 
-    pub over-none : x ≡ false → (c : Checked) → c ≡ checkedOf (tablesFrame five orElse contentsFault allow deny five) → c ≡ checkedOf (textsFault allow deny five)
+    pub over-none : x ≡ false → (c : Checked) → c ≡ checkedOf (tablesFrame five orElse contentsFault allow deny five)
+        → c ≡ checkedOf (textsFault allow deny five)
     unfolding textsFault
     over-none k c is-c = is-c ∙ rw (← is-o, e, ← is-x, k)
 
@@ -213,11 +216,13 @@ unfolding hostsFault Sound
 hosts-sound s t e = sound-lines s (lines t) e
 
 pub file-parts : (s : Section) (t five : List ℕ) → fileFault s t five ≡ none → (overLimit s t ≡ none) × ((tablesFrame five ≡ none) × ((hostsFault s t ≡ none)
-    × ((missingFault (tablesOf five) s t ≡ none) × ((tableNameFault (tablesOf five) ≡ none) × ((depthFault (tablesOf five) s t ≡ none) × (badTableFault five ≡ none))))))
+    × ((missingFault (tablesOf five) s t ≡ none) × ((tableNameFault (tablesOf five) ≡ none)
+    × ((depthFault (tablesOf five) s t ≡ none) × (badTableFault five ≡ none))))))
 unfolding fileFault
 file-parts s t five e =
     let a = overLimit s t in
-    by (overLimit s t) (tablesFrame five) (hostsFault s t) (missingFault (tablesOf five) s t) (tableNameFault (tablesOf five)) (depthFault (tablesOf five) s t) (badTableFault five) e
+    by (overLimit s t) (tablesFrame five) (hostsFault s t) (missingFault (tablesOf five) s t) (tableNameFault (tablesOf five)) (depthFault (tablesOf five) s t)
+    (badTableFault five) e
   where
     by : (a b c d e f g : Option Refusal) → (((((a orElse b) orElse c) orElse d) orElse e) orElse f) orElse g ≡ none
         → (a ≡ none) × ((b ≡ none) × ((c ≡ none) × ((d ≡ none) × ((e ≡ none) × ((f ≡ none) × (g ≡ none))))))
@@ -245,7 +250,8 @@ sound-text n t five e = by (eqb n 1) (eqb n 2) e
         let p = file-parts s t five k in
         (omega (arith, within-limit (s .limit) (length t) (refusal F.OverLimit (s .order) 0) (p .0), l), hosts-sound s t (p .1 .1 .0))
 
-    by : (a b : Bool) → (if a then textsFault t [] five else if b then textsFault [] t five else some (placeless F.BadRequest)) ≡ none → (length t ≤ 16384) × Sound t
+    by : (a b : Bool) → (if a then textsFault t [] five else if b then textsFault [] t five else some (placeless F.BadRequest)) ≡ none → (length t ≤ 16384)
+        × Sound t
     by true b k = of S.allow refl (sym (file-allow t five) ∙ k)
     by false true k = of S.deny refl (sym (file-deny t five) ∙ k)
     by false false k = let z : _≡_ {A = ℕ} 0 1 = cc k in absurd (omega arith)
@@ -285,7 +291,8 @@ unfolding flatMap
 flat-ext f g h [] = refl
 flat-ext f g h (l ∷ ls) = ap₂ (λ (a b : List ℕ). a ++ b) (h l) (flat-ext f g h ls)
 
-kept-dropped : (t marks : List ℕ) → Marked marks (proposal t) → (p : List ℕ) → namesMarked marks p ≡ true → (names : List ℕ) → names ≡ setNamed marks (numbersOf p)
+kept-dropped : (t marks : List ℕ) → Marked marks (proposal t) → (p : List ℕ) → namesMarked marks p ≡ true → (names : List ℕ)
+    → names ≡ setNamed marks (numbersOf p)
     → keptBytes names (lines t) ≡ dropped (numbersOf p) t
 unfolding keptBytes dropped rewrite keptHere
 kept-dropped t marks m p e names is-names =
@@ -371,5 +378,6 @@ module _ (t out p marks : List ℕ) (m : Marked marks (proposal t)) (x : Bool) (
     pub accepted-answer : (r : Written) → r ≡ writtenOf (withinRoom (length out) (keptBytes names (lines t))) → r ≡ writtenOf (dropSound t p (length out))
     accepted-answer r h = h ∙ ap writtenOf (sym gone)
 
-    pub accepted-written : (o : List ℕ) → o ≡ lentAfter out (withinRoom (length out) (keptBytes names (lines t))) → o ≡ lentAfter out (dropSound t p (length out))
+    pub accepted-written : (o : List ℕ) → o ≡ lentAfter out (withinRoom (length out) (keptBytes names (lines t)))
+        → o ≡ lentAfter out (dropSound t p (length out))
     accepted-written o h = h ∙ ap (lentAfter out) (sym gone)

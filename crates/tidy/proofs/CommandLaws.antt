@@ -53,11 +53,19 @@ command-few raw u e = by (ltb (separatorIndex false raw) (length raw)) refl
     by : (b : Bool) → ltb (separatorIndex false raw) (length raw) ≡ b → length (u .command) ≤ length raw
     by true q =
         let rest : List ℕ = afterSeparator (separatorIndex false raw) raw in
-        let p = parseRule-parts raw (separatorIndex false raw) refl (ltb-true (separatorIndex false raw) (length raw) q) (afterSeparator (separatorIndex false raw) raw) refl
+        let p = parseRule-parts raw (separatorIndex false raw) refl (ltb-true (separatorIndex false raw) (length raw) q)
+        (afterSeparator (separatorIndex false raw) raw) refl
         (separatorIndex false (afterSeparator (separatorIndex false raw) raw)) refl
         (afterSeparator (separatorIndex false (afterSeparator (separatorIndex false raw) raw)) (afterSeparator (separatorIndex false raw) raw)) refl in
-        let c : u .command ≡ afterSeparator (separatorIndex false (afterSeparator (separatorIndex false raw) raw)) (afterSeparator (separatorIndex false raw) raw) = cc (sym e ∙ p) in
-        omega (arith, ap length c, after-few (separatorIndex false (afterSeparator (separatorIndex false raw) raw)) (afterSeparator (separatorIndex false raw) raw), after-few (separatorIndex false raw) raw)
+        let c : u .command ≡ afterSeparator (separatorIndex false (afterSeparator (separatorIndex false raw) raw))
+        (afterSeparator (separatorIndex false raw) raw) = cc (sym e ∙ p) in
+        omega (
+          arith,
+          ap length c,
+          after-few (separatorIndex false (afterSeparator (separatorIndex false raw) raw))
+              (afterSeparator (separatorIndex false raw) raw),
+          after-few (separatorIndex false raw) raw,
+        )
     by false q =
         let p = parseRule-none raw (separatorIndex false raw) refl (ltb-false (separatorIndex false raw) (length raw) q) in
         let z : _≡_ {A = ℕ} 0 1 = cc (sym e ∙ p) in absurd (omega arith)
@@ -106,7 +114,8 @@ module _ (v : Verdict) (f : File) (found : Rule → Found) (ns old new : List �
       by-found u e Found.Ask = (refl, (refl, refl))
 
       by : (c : Bool) (o : Option Rule) → parseRule s ≡ o
-          → SameCommand (if c then none else (o >>= λ u. ruleAnswer v f (line n at s b) u (found u))) (if c then none else (o >>= λ u. ruleAnswer v f (line m pl s b) u (found u)))
+          → SameCommand (if c then none else (o >>= λ u. ruleAnswer v f (line n at s b) u (found u)))
+          (if c then none else (o >>= λ u. ruleAnswer v f (line m pl s b) u (found u)))
       by true o e = tt
       by false none e = tt
       by false (some u) e = by-found u e (found u)
@@ -121,7 +130,8 @@ module _ (v : Verdict) (f : File) (found : Rule → Found) (ns old new : List �
   answerOf l = lineAnswer v f found l
 
   unfoldable Commands : List ℕ → Type 0
-  Commands t = (n at m pl : ℕ) → drop at old ≡ t → drop pl new ≡ flatMap (rest-of ns) (logicalLines n at (split "\n" t)) → first lineFault (logicalLines n at (split "\n" t)) ≡ none
+  Commands t = (n at m pl : ℕ) → drop at old ≡ t → drop pl new ≡ flatMap (rest-of ns) (logicalLines n at (split "\n" t))
+      → first lineFault (logicalLines n at (split "\n" t)) ≡ none
       → SameCommand (first answerOf (keptLines ns (logicalLines n at (split "\n" t))))
       (first answerOf (logicalLines m pl (split "\n" (flatMap (rest-of ns) (logicalLines n at (split "\n" t))))))
 
@@ -145,7 +155,8 @@ module _ (v : Verdict) (f : File) (found : Rule → Found) (ns old new : List �
         ap (λ (k : ℕ). drop k old) same ∙ (sym (drop-drop (scanLine t .end + 1) at old) ∙ ap (drop (scanLine t .end + 1)) p)
 
     commands-line : (c : Bool) → named ns own ≡ c → drop pl new ≡ rest-of ns own ++ rest → lineFault own ≡ none → first lineFault others ≡ none
-        → SameCommand (first answerOf (if named ns own then keptLines ns others else own ∷ keptLines ns others)) (first answerOf (logicalLines m pl (split "\n" (rest-of ns own ++ rest))))
+        → SameCommand (first answerOf (if named ns own then keptLines ns others else own ∷ keptLines ns others))
+        (first answerOf (logicalLines m pl (split "\n" (rest-of ns own ++ rest))))
     unfolding Commands first
     commands-line true q d g h =
         rw q (ih (n + scanLine t .joins + 1) (at + scanLine t .end + 1) m pl old-next (rw q at d) h)
@@ -159,9 +170,11 @@ module _ (v : Verdict) (f : File) (found : Rule → Found) (ns old new : List �
           whole-cons (take (scanLine t .end) t) (scanLine t .joins) (scan-whole t b (scanLine t .end) refl (scan-length t b)) rest m pl,
         )
         (same-else (answerOf (line n at (take (scanLine t .end) t) true)) (answerOf (line m pl (take (scanLine t .end) t) true))
-        (first answerOf (keptLines ns others)) (first answerOf (logicalLines (m + scanLine t .joins + 1) (pl + length (take (scanLine t .end) t) + 1) (split "\n" rest)))
+        (first answerOf (keptLines ns others)) (first answerOf (logicalLines (m + scanLine t .joins + 1) (pl + length (take (scanLine t .end) t) + 1)
+        (split "\n" rest)))
         (same-line n at m pl (take (scanLine t .end) t) (drop (scanLine t .end) t) (10 ∷ rest) true (p ∙ sym (take-append-drop (scanLine t .end) t)) e)
-        (ih (n + scanLine t .joins + 1) (at + scanLine t .end + 1) (m + scanLine t .joins + 1) (pl + length (take (scanLine t .end) t) + 1) old-next (new-next e) h))
+        (ih (n + scanLine t .joins + 1) (at + scanLine t .end + 1) (m + scanLine t .joins + 1) (pl + length (take (scanLine t .end) t) + 1) old-next
+        (new-next e) h))
       where
         new-next : drop pl new ≡ take (scanLine t .end) t ++ (10 ∷ rest) → drop (pl + length (take (scanLine t .end) t) + 1) new ≡ rest
         new-next e =
@@ -181,4 +194,5 @@ pub dropped-command : (v : Verdict) (f : File) (found : Rule → Found) (ns t : 
     → SameCommand v f found ns t (dropped ns t) (first (lineAnswer v f found) (keptLines ns (lines t))) (first (lineAnswer v f found) (lines (dropped ns t)))
 unfolding Commands lines dropped rewrite
 dropped-command v f found ns t h =
-    line-ind (Commands v f found ns t (dropped ns t)) (commands-nil v f found ns t (dropped ns t)) (commands-more v f found ns t (dropped ns t)) t 1 0 1 0 refl refl h
+    line-ind (Commands v f found ns t (dropped ns t)) (commands-nil v f found ns t (dropped ns t))
+    (commands-more v f found ns t (dropped ns t)) t 1 0 1 0 refl refl h

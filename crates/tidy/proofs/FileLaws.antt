@@ -203,11 +203,14 @@ module _ (v : Verdict) (f : File) (ts : List Table) (r : Request) (s : Section) 
             whole-cons (take (scanLine t .end) t) (scanLine t .joins) (scan-whole t b (scanLine t .end) refl (scan-length t b)) new m pl,
           )
           (moved-first (line n at (take (scanLine t .end) t) true) n m d (n + scanLine t .joins + 1) ls refl e (omega arith) q
-          (ascend-from (suc n) (n + scanLine t .joins + 1) ls (omega arith) (ascending (drop (scanLine t .end + 1) t) (n + scanLine t .joins + 1) (at + scanLine t .end + 1)))
+          (ascend-from (suc n) (n + scanLine t .joins + 1) ls (omega arith)
+          (ascending (drop (scanLine t .end + 1) t) (n + scanLine t .joins + 1) (at + scanLine t .end + 1)))
           (answerOf (line n at (take (scanLine t .end) t) true)) (answerOf (line m pl (take (scanLine t .end) t) true))
-          (first answerOf (keptLines ns ls)) (first answerOf (logicalLines (m + scanLine t .joins + 1) (pl + length (take (scanLine t .end) t) + 1) (split "\n" new)))
+          (first answerOf (keptLines ns ls)) (first answerOf (logicalLines (m + scanLine t .joins + 1) (pl + length (take (scanLine t .end) t) + 1)
+          (split "\n" new)))
           (moved-line v f found n at m pl (take (scanLine t .end) t) true)
-          (ih (n + scanLine t .joins + 1) (at + scanLine t .end + 1) (m + scanLine t .joins + 1) (pl + length (take (scanLine t .end) t) + 1) d (omega arith) (rw p at h)))
+          (ih (n + scanLine t .joins + 1) (at + scanLine t .end + 1) (m + scanLine t .joins + 1) (pl + length (take (scanLine t .end) t) + 1) d (omega arith)
+          (rw p at h)))
 
   under-lines : (t : List ℕ) → first faultOf (lines t) ≡ none
       → Moved 1 0 (lines t) (first answerOf (keptLines ns (lines t))) (first answerOf (lines (flatMap rest-of (lines t))))

@@ -138,7 +138,13 @@ pub record Measuring (text marks : List ℕ) (len i n : ℕ) : Type 0 where
 
 pub measuring-start : (text marks : List ℕ) → length text ≤ 16384 → Sound text → Measuring text marks 0 0 1
 measuring-start text marks l s =
-    record { at = at-start text s; short = l; few = omega arith; so-far = omega (arith, ap (λ (ls : List Line). length (keptBytes marks ls)) (lines-start text)) }
+    record {
+      at = at-start text s;
+      short = l;
+      few = omega arith;
+      so-far =
+          omega (arith, ap (λ (ls : List Line). length (keptBytes marks ls)) (lines-start text));
+    }
 
 module _ (text marks : List ℕ) (len i n : ℕ) (h : Measuring text marks len i n) where
   pub measuring-end : length text ≤ i → len ≡ length (keptBytes marks (lines text))
@@ -216,7 +222,8 @@ module _ (d text marks out : List ℕ) (at i n : ℕ) (h : Keeping d text marks 
     keeping-room = omega (arith, h .place, h .long, h .room, ap length parted, length-append (h .done ++ own) others, length-append (h .done) own)
 
     pub keeping-more : (o : List ℕ) (m : ℕ)
-        → (m ≡ at + length (keptHere marks n (take (r .end + 1 - i) (drop i text)))) × (o ≡ putAt out at (keptHere marks n (take (r .end + 1 - i) (drop i text))))
+        → (m ≡ at + length (keptHere marks n (take (r .end + 1 - i) (drop i text))))
+        × (o ≡ putAt out at (keptHere marks n (take (r .end + 1 - i) (drop i text))))
         → Keeping d text marks o m (r .end + 1) (n + (r .joins + 1))
     keeping-more o m w =
         let same : n + (r .joins + 1) ≡ n + r .joins + 1 = omega arith in

@@ -14,7 +14,8 @@ use Rattle.text.specs.Basics.{if_then_else_, any}
 use Rattle.text.specs.Text.{bytes, equal, equalFold, isWord, lower}
 use Rattle.text.proofs.ScanLaws.{equalFold-lengths, take-rest}
 use Rattle.lines.specs.declared.rule.ElementSpan.{ElementSpan}
-use Rattle.lines.specs.Parts.{separatorIndex, afterSeparator, words, isParting, isElementByte, partingLength, elementLength, elementSpan, firstElement, afterElement}
+use Rattle.lines.specs.Parts.{separatorIndex, afterSeparator, words, isParting, isElementByte, partingLength, elementLength, elementSpan, firstElement}
+use Rattle.lines.specs.Parts.{afterElement}
 use Rattle.text.specs.Scan.{spanLen}
 use Rattle.lines.proofs.RuleLaws.{Passed, passed-stop, passed-more, words-none, words-more, rest-shorter}
 use Rattle.tidy.specs.Tidy.{sameList, allAlone}
@@ -50,7 +51,8 @@ span-is s a n is-a is-n = rw (is-n, take-rest s a, is-a)
 
 -- ## Two lists
 
-module _ (a b s t w v : List ℕ) (so-far : sameList (words a) (words b) ≡ sameList (words s) (words t)) (is-w : w ≡ firstElement s) (is-v : v ≡ firstElement t) where
+module _ (a b s t w v : List ℕ) (so-far : sameList (words a) (words b) ≡ sameList (words s) (words t)) (is-w : w ≡ firstElement s)
+    (is-v : v ≡ firstElement t) where
   pub same-ended : length w ≡ 0 → eqb (length v) 0 ≡ sameList (words a) (words b)
   unfolding sameList
   same-ended z = by (eqb (length v) 0) refl

@@ -30,7 +30,8 @@ use Rattle.lines.proofs.RewriteLaws.{whole-cons, scan-whole, scan-length, scan-
 use Rattle.tables.specs.Table.{isMissing, leadsPast, depth, tablesOf, tablesFrame, tableNameFault, badTableFault}
 use Rattle.rules.specs.Check.{lineFaultBy, lineFault, hostsFault, lineNames, namingFault, missingFault, depthFault}
 use Rattle.tidy.specs.Tidy.{ruleOf, covers, coveredBy, withRule, named, coveredLines, proposal, dropped, fileFault}
-use Rattle.tidy.proofs.ProposalLaws.{CoverLess, less-both, less-right, less-covered, Ascend, ascend-from, Ascending, ascending, lines-ascend, named-covered, Below, below-more}
+use Rattle.tidy.proofs.ProposalLaws.{CoverLess, less-both, less-right, less-covered, Ascend, ascend-from, Ascending, ascending, lines-ascend}
+use Rattle.tidy.proofs.ProposalLaws.{named-covered, Below, below-more}
 use Rattle.tidy.proofs.CheckLaws.{none-both, file-parts}
 
 -- ## Lines by their bytes
@@ -95,7 +96,8 @@ rest-of ns l = if named ns l then [] else lineBytes l
 module _ (ns : List ℕ) where
   module _ (P : List ℕ → Bool → Type 0) (ended : (r : List ℕ) (b : Bool) → P r b → b ≡ true) where
     unfoldable Kept : List ℕ → Type 0
-    Kept t = (n at m pl : ℕ) → Every P (logicalLines n at (split "\n" t)) → Every P (logicalLines m pl (split "\n" (flatMap (rest-of ns) (logicalLines n at (split "\n" t)))))
+    Kept t = (n at m pl : ℕ) → Every P (logicalLines n at (split "\n" t))
+        → Every P (logicalLines m pl (split "\n" (flatMap (rest-of ns) (logicalLines n at (split "\n" t)))))
 
     kept-nil : Kept []
     unfolding Kept flatMap
@@ -123,9 +125,13 @@ module _ (ns : List ℕ) where
               q,
               b,
               append-assoc (take (scanLine t .end) t) (10 ∷ []) (flatMap (rest-of ns) ls),
-              whole-cons (take (scanLine t .end) t) (scanLine t .joins) (scan-whole t b (scanLine t .end) refl (scan-length t b)) (flatMap (rest-of ns) ls) m pl,
+              whole-cons (take (scanLine t .end) t) (scanLine t .joins) (scan-whole t b (scanLine t .end) refl (scan-length t b))
+                  (flatMap (rest-of ns) ls) m pl,
+            ) (
+              rw b at (h .0),
+              ih (n + scanLine t .joins + 1) (at + scanLine t .end + 1) (m + scanLine t .joins + 1) (pl + length (take (scanLine t .end) t) + 1)
+                  (h .1),
             )
-            (rw b at (h .0), ih (n + scanLine t .joins + 1) (at + scanLine t .end + 1) (m + scanLine t .joins + 1) (pl + length (take (scanLine t .end) t) + 1) (h .1))
 
     pub every-kept : (t : List ℕ) → Every P (lines t) → Every P (lines (dropped ns t))
     unfolding Kept lines dropped rewrite
@@ -144,13 +150,15 @@ module _ (ns : List ℕ) where
   unfolding NoLonger flatMap
   no-longer-more t k ih n at =
       rw (logicalLines-cons t n at k)
-      (by (named ns (line n at (take (scanLine t .end) t) (scanLine t .ended))) (scanLine t .ended) refl (ih (n + scanLine t .joins + 1) (at + scanLine t .end + 1)))
+      (by (named ns (line n at (take (scanLine t .end) t) (scanLine t .ended))) (scanLine t .ended) refl
+      (ih (n + scanLine t .joins + 1) (at + scanLine t .end + 1)))
     where
       tail : List ℕ
       tail = flatMap (rest-of ns) (logicalLines (n + scanLine t .joins + 1) (at + scanLine t .end + 1) (split "\n" (drop (scanLine t .end + 1) t)))
 
       by : (c b : Bool) → scanLine t .ended ≡ b
-          → length (flatMap (rest-of ns) (logicalLines (n + scanLine t .joins + 1) (at + scanLine t .end + 1) (split "\n" (drop (scanLine t .end + 1) t)))) ≤ length (drop (scanLine t .end + 1) t)
+          → length (flatMap (rest-of ns) (logicalLines (n + scanLine t .joins + 1) (at + scanLine t .end + 1) (split "\n" (drop (scanLine t .end + 1) t)))) ≤
+          length (drop (scanLine t .end + 1) t)
           → length ((if c then [] else (take (scanLine t .end) t ++ (if b then 10 ∷ [] else [])))
           ++ flatMap (rest-of ns) (logicalLines (n + scanLine t .joins + 1) (at + scanLine t .end + 1) (split "\n" (drop (scanLine t .end + 1) t)))) ≤ length t
       by true b e h = omega (arith, h, length-drop (scanLine t .end + 1) t)
@@ -169,7 +177,8 @@ module _ (ns : List ℕ) where
   unfolding lineFaultBy
   line-same n at m pl r b = refl
 
-  names-same : (f : Fault) (p : List ℕ → Bool) (n at m pl : ℕ) (r : List ℕ) (b : Bool) → given (lineNames p (line n at r b)) f ≡ given (lineNames p (line m pl r b)) f
+  names-same : (f : Fault) (p : List ℕ → Bool) (n at m pl : ℕ) (r : List ℕ) (b : Bool)
+      → given (lineNames p (line n at r b)) f ≡ given (lineNames p (line m pl r b)) f
   unfolding lineNames
   names-same f p n at m pl r b = refl
 
@@ -188,7 +197,8 @@ module _ (ns : List ℕ) where
     unfolding namingFault
     naming-stays f p e =
         every-first (λ l. given (lineNames p l) f) (names-same f p) (s .order) (lines (dropped ns t))
-        (every-map (λ r b. (lineFault (line 0 0 r b) ≡ none) × (given (lineNames p (line 0 0 r b)) f ≡ none)) (λ r b. given (lineNames p (line 0 0 r b)) f ≡ none) (λ r b x. x .1)
+        (every-map (λ r b. (lineFault (line 0 0 r b) ≡ none) × (given (lineNames p (line 0 0 r b)) f ≡ none))
+        (λ r b. given (lineNames p (line 0 0 r b)) f ≡ none) (λ r b x. x .1)
         (lines (dropped ns t))
         (every-kept (λ r b. (lineFault (line 0 0 r b) ≡ none) × (given (lineNames p (line 0 0 r b)) f ≡ none)) (λ r b x. sound-ended 0 0 r b (x .0)) t
         (every-both (λ r b. lineFault (line 0 0 r b) ≡ none) (λ r b. given (lineNames p (line 0 0 r b)) f ≡ none) (lines t) every-sound
@@ -222,18 +232,21 @@ module _ (ns : List ℕ) where
 
 unfoldable Again : List ℕ → Type 0
 Again t = (n at m pl : ℕ) (pre : List ℕ) (seen kept : List Rule) → Below n pre → CoverLess kept seen → first lineFault (logicalLines n at (split "\n" t)) ≡ none
-    → coveredLines kept (logicalLines m pl (split "\n" (flatMap (rest-of (pre ++ coveredLines seen (logicalLines n at (split "\n" t)))) (logicalLines n at (split "\n" t))))) ≡ []
+    → coveredLines kept (logicalLines m pl (split "\n" (flatMap (rest-of (pre ++ coveredLines seen (logicalLines n at (split "\n" t))))
+    (logicalLines n at (split "\n" t))))) ≡ []
 
 again-nil : Again []
 unfolding Again flatMap coveredLines
 again-nil n at m pl pre seen kept p c h = rw (logicalLines-nil n at, logicalLines-nil m pl)
 
-kept-cons : (kept : List Rule) (l : Line) (ls : List Line) → coveredBy kept l ≡ false → coveredLines (withRule (ruleOf l) kept) ls ≡ [] → coveredLines kept (l ∷ ls) ≡ []
+kept-cons : (kept : List Rule) (l : Line) (ls : List Line) → coveredBy kept l ≡ false → coveredLines (withRule (ruleOf l) kept) ls ≡ []
+    → coveredLines kept (l ∷ ls) ≡ []
 unfolding coveredLines
 kept-cons kept l ls e h = rw e h
 
 -- one line, the numbers of whose proposal are parted
-module _ (t : List ℕ) (n at m pl : ℕ) (pre : List ℕ) (seen kept : List Rule) (p : Below n pre) (c : CoverLess kept seen) (ih : Again (drop (scanLine t .end + 1) t)) where
+module _ (t : List ℕ) (n at m pl : ℕ) (pre : List ℕ) (seen kept : List Rule) (p : Below n pre) (c : CoverLess kept seen)
+    (ih : Again (drop (scanLine t .end + 1) t)) where
   abbrev own : Line
   own = line n at (take (scanLine t .end) t) (scanLine t .ended)
 
@@ -270,10 +283,13 @@ module _ (t : List ℕ) (n at m pl : ℕ) (pre : List ℕ) (seen kept : List Rul
       let is-named : named proposed own ≡ false = named-covered pre seen own others up (p n (omega arith)) ∙ q in
       let b : scanLine t .ended ≡ true = sound-ended n at (take (scanLine t .end) t) (scanLine t .ended) f in
       rw is-named
-      (ap (λ (x : Bool). coveredLines kept (logicalLines m pl (split "\n" ((take (scanLine t .end) t ++ (if x then 10 ∷ [] else [])) ++ flatMap (rest-of proposed) others)))) b
-      ∙ (ap (λ (s : List ℕ). coveredLines kept (logicalLines m pl (split "\n" s))) (append-assoc (take (scanLine t .end) t) (10 ∷ []) (flatMap (rest-of proposed) others))
+      (ap (λ (x : Bool). coveredLines kept (logicalLines m pl (split "\n"
+      ((take (scanLine t .end) t ++ (if x then 10 ∷ [] else [])) ++ flatMap (rest-of proposed) others)))) b
+      ∙ (ap (λ (s : List ℕ). coveredLines kept (logicalLines m pl (split "\n" s)))
+      (append-assoc (take (scanLine t .end) t) (10 ∷ []) (flatMap (rest-of proposed) others))
       ∙ (ap (coveredLines kept)
-      (whole-cons (take (scanLine t .end) t) (scanLine t .joins) (scan-whole t b (scanLine t .end) refl (scan-length t b)) (flatMap (rest-of proposed) others) m pl)
+      (whole-cons (take (scanLine t .end) t) (scanLine t .joins) (scan-whole t b (scanLine t .end) refl (scan-length t b))
+      (flatMap (rest-of proposed) others) m pl)
       ∙ first-kept)))
     where
       first-kept : coveredLines kept (line m pl (take (scanLine t .end) t) true
@@ -282,7 +298,8 @@ module _ (t : List ℕ) (n at m pl : ℕ) (pre : List ℕ) (seen kept : List Rul
           kept-cons kept (line m pl (take (scanLine t .end) t) true)
           (logicalLines (m + scanLine t .joins + 1) (pl + length (take (scanLine t .end) t) + 1) (split "\n" (flatMap (rest-of proposed) others)))
           (uncovered (coveredBy kept own) refl)
-          (later false q (m + scanLine t .joins + 1) (pl + length (take (scanLine t .end) t) + 1) (withRule (ruleOf own) kept) (less-both (ruleOf own) kept seen c) h)
+          (later false q (m + scanLine t .joins + 1) (pl + length (take (scanLine t .end) t) + 1) (withRule (ruleOf own) kept)
+          (less-both (ruleOf own) kept seen c) h)
         where
           uncovered : (x : Bool) → coveredBy kept own ≡ x → coveredBy kept own ≡ false
           uncovered true e = absurd (true≢false (sym (less-covered kept seen own c e) ∙ q))

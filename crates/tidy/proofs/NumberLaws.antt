@@ -194,7 +194,13 @@ module _ (d marks out : List ℕ) (at n : ℕ) (h : PutNumbers d marks out at n)
     putting-more o m w = record {
       done = h .done ++ markedHere marks n;
       within = omega arith;
-      place = omega (arith, w .0, h .place, ap length (words-append (h .done) (markedHere marks n)), length-append (wordBytes (h .done)) (wordBytes (markedHere marks n)));
+      place = omega (
+        arith,
+        w .0,
+        h .place,
+        ap length (words-append (h .done) (markedHere marks n)),
+        length-append (wordBytes (h .done)) (wordBytes (markedHere marks n)),
+      );
       long = ap length (w .1) ∙ (length-putAt out (wordBytes (markedHere marks n)) at putting-room ∙ h .long);
       text =
           put-more d out o (wordBytes (h .done)) (wordBytes (markedHere marks n)) at (w .1) (h .text) (h .place)
@@ -388,7 +394,8 @@ module _ (marks₀ p marks : List ℕ) (i : ℕ) (h : Naming marks₀ p marks i)
       within = omega arith;
       read = h .read ∙ (ap (λ (x : Option (List ℕ)). x >>= λ ns. some (h .pre ++ ns)) head ∙ regrouped (readWords (drop (i + 4) p)));
       names = ap (λ (m : List ℕ). set m n 2) (h .names) ∙ sym (setNamed-snoc marks₀ (h .pre) n);
-      good = all-two (λ n. not (eqb (getD marks₀ n 0) 0)) (h .pre) (n ∷ []) ∙ rw (h .good) (all-one (λ n. not (eqb (getD marks₀ n 0) 0)) n (ap not (sym here ∙ ne-eqb (getD marks n 0) 0 e)));
+      good = all-two (λ n. not (eqb (getD marks₀ n 0) 0)) (h .pre) (n ∷ [])
+          ∙ rw (h .good) (all-one (λ n. not (eqb (getD marks₀ n 0) 0)) n (ap not (sym here ∙ ne-eqb (getD marks n 0) 0 e)));
       long = length-set marks n 2 ∙ h .long;
     }
       where
@@ -434,14 +441,16 @@ above n x d l = by (ltb n x) refl
     by false e = let h = borrow.Author.Tests.ltb-false n x e in absurd (d (omega arith))
 
 -- the marks from n on are those of ns
-from-is : (marks : List ℕ) (k n : ℕ) (ns : List ℕ) → Rises n (n + k) ns → ((j : ℕ) → n ≤ j → eqb (getD marks j 0) 1 ≡ any (eqb j) ns) → markedFrom marks k n ≡ ns
+from-is : (marks : List ℕ) (k n : ℕ) (ns : List ℕ) → Rises n (n + k) ns → ((j : ℕ) → n ≤ j → eqb (getD marks j 0) 1 ≡ any (eqb j) ns)
+    → markedFrom marks k n ≡ ns
 unfolding markedFrom markedHere any
 from-is marks zero n [] r h = refl
 from-is marks zero n (x ∷ ns) r h = absurd (omega (arith, r .0, r .1 .0))
 from-is marks (suc k) n [] r h = rw (h n (omega arith)) (from-is marks k (suc n) [] tt (λ j l. h j (omega arith)))
 from-is marks (suc k) n (x ∷ ns) r h =
     by (eqb n x) refl
-    (λ q. from-is marks k (suc n) ns (rises-to x ns (omega arith) (subst (λ (y : ℕ). Rises (suc y) (n + suc k) ns) (sym q) (r .1 .1))) (λ j l. h j (omega arith) ∙ ap (λ (b : Bool). b || any (eqb j) ns) (ne-eqb j x (λ e. omega arith))))
+    (λ q. from-is marks k (suc n) ns (rises-to x ns (omega arith) (subst (λ (y : ℕ). Rises (suc y) (n + suc k) ns) (sym q) (r .1 .1)))
+    (λ j l. h j (omega arith) ∙ ap (λ (b : Bool). b || any (eqb j) ns) (ne-eqb j x (λ e. omega arith))))
     (λ q. from-is marks k (suc n) (x ∷ ns) (q, (omega (arith, r .1 .0), rises-up (suc x) ns (r .1 .1))) (λ j l. h j (omega arith)))
   where
     rises-up : (a : ℕ) (xs : List ℕ) → Rises a (n + suc k) xs → Rises a (suc n + k) xs

@@ -24,7 +24,8 @@ use Rattle.lines.specs.Scan.{spanAt, scanLine, SpanBounds}
 use Rattle.lines.proofs.LineLaws.{scanLine-bounds, logicalLines-cons, logicalLines-nil}
 use Rattle.lines.proofs.RewriteLaws.{line-ind}
 use Rattle.lines.specs.Rule.{Rule}
-use Rattle.tidy.specs.Tidy.{ruleOf, sameList, allAlone, sameLists, matchesAll, covers, coveredBy, withRule, named, witnessed, areLines, accepts, coveredLines, proposal}
+use Rattle.tidy.specs.Tidy.{ruleOf, sameList, allAlone, sameLists, matchesAll, covers, coveredBy, withRule, named, witnessed, areLines, accepts}
+use Rattle.tidy.specs.Tidy.{coveredLines, proposal}
 
 -- ## Covering
 
@@ -64,8 +65,10 @@ covers-through w u v e f =
     by (sameList (w .daemons) (u .daemons) && sameList (w .clients) (u .clients)) refl e
     (sameList (u .daemons) (v .daemons) && sameList (u .clients) (v .clients)) refl f
   where
-    by : (b : Bool) → (sameList (w .daemons) (u .daemons) && sameList (w .clients) (u .clients)) ≡ b → (b || allAlone (w .daemons) && allAlone (w .clients)) ≡ true
-        → (c : Bool) → (sameList (u .daemons) (v .daemons) && sameList (u .clients) (v .clients)) ≡ c → (c || allAlone (u .daemons) && allAlone (u .clients)) ≡ true
+    by : (b : Bool) → (sameList (w .daemons) (u .daemons) && sameList (w .clients) (u .clients)) ≡ b
+        → (b || allAlone (w .daemons) && allAlone (w .clients)) ≡ true
+        → (c : Bool) → (sameList (u .daemons) (v .daemons) && sameList (u .clients) (v .clients)) ≡ c
+        → (c || allAlone (u .daemons) && allAlone (u .clients)) ≡ true
         → (sameList (w .daemons) (v .daemons) && sameList (w .clients) (v .clients) || allAlone (w .daemons) && allAlone (w .clients)) ≡ true
     by false p h c q k = rw h (or-true (sameList (w .daemons) (v .daemons) && sameList (w .clients) (v .clients)))
     by true p h true q k =
@@ -167,7 +170,8 @@ ascending = line-ind Ascending
     (λ t k h n at. rw (logicalLines-cons t n at k) (
       omega arith,
       ascend-from (suc n) (n + scanLine t .joins + 1)
-          (logicalLines (n + scanLine t .joins + 1) (at + scanLine t .end + 1) (split "\n" (drop (scanLine t .end + 1) t))) (omega arith) (h (n + scanLine t .joins + 1) (at + scanLine t .end + 1)),
+          (logicalLines (n + scanLine t .joins + 1) (at + scanLine t .end + 1) (split "\n" (drop (scanLine t .end + 1) t))) (omega arith)
+          (h (n + scanLine t .joins + 1) (at + scanLine t .end + 1)),
     ))
 
 pub lines-ascend : (t : List ℕ) → Ascend 1 (lines t)
@@ -222,7 +226,8 @@ named-covered pre seen l ls a h =
     by false k = k
 
 -- a covered rule adds nothing to what the kept ones cover
-through-kept : (o : Option Rule) (seen kept : List Rule) → CoverLess seen kept → holds (λ v. any (λ u. covers u v) kept) o ≡ true → CoverLess (withRule o seen) kept
+through-kept : (o : Option Rule) (seen kept : List Rule) → CoverLess seen kept → holds (λ v. any (λ u. covers u v) kept) o ≡ true
+    → CoverLess (withRule o seen) kept
 unfolding any
 through-kept none seen kept h e v k = absurd (true≢false (sym e))
 through-kept (some u) seen kept h e v k = by (covers u v) refl k
@@ -255,7 +260,9 @@ unfolding witnessed coveredLines
 greedy n pre seen kept [] a p h = refl
 greedy n pre seen kept (l ∷ ls) a p h =
     rw (named-covered pre seen l ls (a .1) (p (l .number) (a .0)))
-    (by (coveredBy seen l) refl (λ us g. rw (← (regroup (coveredBy seen l))) (greedy (suc (l .number)) (pre ++ (if coveredBy seen l then l .number ∷ [] else [])) (withRule (ruleOf l) seen) us ls (a .1) (below-more (coveredBy seen l) n (l .number) pre (a .0) p) g)))
+    (by (coveredBy seen l) refl (λ us g. rw (← (regroup (coveredBy seen l)))
+    (greedy (suc (l .number)) (pre ++ (if coveredBy seen l then l .number ∷ [] else [])) (withRule (ruleOf l) seen) us ls (a .1)
+    (below-more (coveredBy seen l) n (l .number) pre (a .0) p) g)))
   where
     regroup : (b : Bool) → (pre ++ (if b then l .number ∷ [] else [])) ++ coveredLines (withRule (ruleOf l) seen) ls
         ≡ pre ++ ((if b then l .number ∷ [] else []) ++ coveredLines (withRule (ruleOf l) seen) ls)
@@ -270,7 +277,8 @@ greedy n pre seen kept (l ∷ ls) a p h =
     by false q ih = ih (withRule (ruleOf l) kept) (less-both (ruleOf l) seen kept h)
 
 -- every number is that of a line
-lines-of : (seen : List Rule) (ls ms : List Line) → ((n : ℕ) → any (λ (l : Line). eqb (l .number) n) ls ≡ true → any (λ (l : Line). eqb (l .number) n) ms ≡ true)
+lines-of : (seen : List Rule) (ls ms : List Line) → ((n : ℕ) → any (λ (l : Line). eqb (l .number) n) ls ≡ true
+    → any (λ (l : Line). eqb (l .number) n) ms ≡ true)
     → areLines (coveredLines seen ls) ms ≡ true
 unfolding coveredLines any all
 lines-of seen [] ms h = refl
@@ -326,7 +334,8 @@ all-within ms [] e m k = absurd (true≢false (sym k))
 all-within ms (n ∷ ns) e m k =
     let a = and-true (any (eqb n) ms) (all (λ n. any (eqb n) ms) ns) e in by (eqb m n) refl k (λ z. all-within ms ns (a .1) m z) (a .0)
   where
-    by : (b : Bool) → eqb m n ≡ b → (b || any (eqb m) ns) ≡ true → (any (eqb m) ns ≡ true → any (eqb m) ms ≡ true) → any (eqb n) ms ≡ true → any (eqb m) ms ≡ true
+    by : (b : Bool) → eqb m n ≡ b → (b || any (eqb m) ns) ≡ true → (any (eqb m) ns ≡ true → any (eqb m) ms ≡ true) → any (eqb n) ms ≡ true
+        → any (eqb m) ms ≡ true
     by true q z ih h = rw (eqb-true m n q) h
     by false q z ih h = ih z
 
@@ -384,7 +393,8 @@ within-lines ls [] h = refl
 within-lines ls (n ∷ ns) h = rw (h n (rw (eq-eqb n n refl)), within-lines ls ns (λ m k. h m (rw k (or-true (eqb m n)))))
 
 -- what is proposed of a proposal's lines
-among-within : (ns ms : List ℕ) (ls : List Line) → Among ns ms ls → (n : ℕ) → any (λ (l : Line). eqb (l .number) n) ls ≡ true → any (eqb n) ns ≡ true → any (eqb n) ms ≡ true
+among-within : (ns ms : List ℕ) (ls : List Line) → Among ns ms ls → (n : ℕ) → any (λ (l : Line). eqb (l .number) n) ls ≡ true → any (eqb n) ns ≡ true
+    → any (eqb n) ms ≡ true
 unfolding any
 among-within ns ms [] a n e k = absurd (true≢false (sym e))
 among-within ns ms (l ∷ ls) a n e k = by (eqb (l .number) n) refl e (λ z. among-within ns ms ls (a .1) n z k)

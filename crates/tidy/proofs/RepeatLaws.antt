@@ -28,7 +28,8 @@ use Rattle.lines.proofs.LineLaws.{logicalLines-drop, logicalLines-end, lines-st
 use Rattle.lines.proofs.RuleLaws.{parseRule-none, parseRule-parts}
 use Rattle.rules.specs.Check.{lineFault}
 use Rattle.tidy.specs.Tidy.{ruleOf, sameLists, matchesAll, covers, coveredBy, withRule, coveredLines, proposal}
-use Rattle.tidy.specs.Code.{sameText, allText, bucketText, rawAt, sameAt, linkAt, repeats, beginning, isRepeat, linked, ruleAll, ruleMarks, ruleLinks, hasRule, stepAll, stepMarks, stepLinks, Sound, flag, Marked}
+use Rattle.tidy.specs.Code.{sameText, allText, bucketText, rawAt, sameAt, linkAt, repeats, beginning, isRepeat, linked, ruleAll, ruleMarks, ruleLinks}
+use Rattle.tidy.specs.Code.{hasRule, stepAll, stepMarks, stepLinks, Sound, flag, Marked}
 use Rattle.tidy.proofs.RuleLaws.{same-of, all-of, bucketOf, bucket-of, bucket-same, bucket-small}
 use Rattle.tidy.proofs.ProposalLaws.{coveredLines-same, covered-adds}
 use Rattle.tidy.proofs.WalkLaws.{At, at-start, at-next, at-short, at-raw, at-from, at-number}
@@ -47,7 +48,8 @@ module _ (raw : List ℕ) (x : Bool) (is-x : x ≡ firstAmong "#" (join raw)) wh
     has-separator f i is-i = rw (← is-x, e, ← is-y, f) (by (ltb i (length raw)) refl)
       where
         by : (b : Bool) → ltb i (length raw) ≡ b → b ≡ isSome (parseRule raw)
-        by true q = rw (parseRule-parts raw i is-i (ltb-true i (length raw) q) (afterSeparator i raw) refl (separatorIndex false (afterSeparator i raw)) refl (afterSeparator (separatorIndex false (afterSeparator i raw)) (afterSeparator i raw)) refl)
+        by true q = rw (parseRule-parts raw i is-i (ltb-true i (length raw) q) (afterSeparator i raw) refl (separatorIndex false (afterSeparator i raw)) refl
+            (afterSeparator (separatorIndex false (afterSeparator i raw)) (afterSeparator i raw)) refl)
         by false q = rw (parseRule-none raw i is-i (ltb-false i (length raw) q))
 
 module _ (s o o₀ : List ℕ) (n : ℕ) (is-n : n ≡ length (join s)) (is-o : o ≡ join s ++ drop (length (join s)) o₀) where
@@ -182,7 +184,8 @@ module _ (links : List ℕ) where
 abbrev pub Chain : List ℕ → List ℕ → ℕ → ℕ → List Rule → Type 0
 Chain text links top h [] = h ≡ 0
 Chain text links top h (u ∷ us) =
-    (p : ℕ) × ((h ≡ suc p) × ((p < top) × ((parseRule (rawAt text p) ≡ some u) × ((length (join (rawAt text p)) ≤ 2048) × Chain text links p (linkAt links p) us))))
+    (p : ℕ) × ((h ≡ suc p) × ((p < top) × ((parseRule (rawAt text p) ≡ some u)
+    × ((length (join (rawAt text p)) ≤ 2048) × Chain text links p (linkAt links p) us))))
 
 chain-set : (text links : List ℕ) (top h : ℕ) (us : List Rule) (a x : ℕ) → top ≤ a → Chain text links top h us → Chain text (set links a x) top h us
 chain-set text links top h [] a x l c = c
@@ -241,10 +244,12 @@ module _ (text links : List ℕ) (i : ℕ) (us : List Rule) (short : length text
   unfolding isRepeat Hung
   repeat-is =
       rw (bucket-of raw v is-v)
-      (chain-repeats text links raw v is-v 16384 i (linkAt links (16384 + bucketOf v)) (inBucket (bucketOf v) us) (omega arith) within (hung (bucketOf v) (bucket-small v))
+      (chain-repeats text links raw v is-v 16384 i (linkAt links (16384 + bucketOf v)) (inBucket (bucketOf v) us) (omega arith) within
+      (hung (bucketOf v) (bucket-small v))
       ∙ any-bucket v us)
 
-  pub hung-more : length links ≡ 18432 → i < length text → rawAt text i ≡ raw → length (join raw) ≤ 2048 → Hung text (linked links i (join raw)) (suc i) (v ∷ us)
+  pub hung-more : length links ≡ 18432 → i < length text → rawAt text i ≡ raw → length (join raw) ≤ 2048
+      → Hung text (linked links i (join raw)) (suc i) (v ∷ us)
   unfolding Hung linked inBucket
   hung-more long l is-raw fits b k = rw (bucket-of raw v is-v) (by (eqb (bucketOf v) b) refl)
     where
@@ -257,7 +262,8 @@ module _ (text links : List ℕ) (i : ℕ) (us : List Rule) (short : length text
           (if x then v ∷ inBucket b us else inBucket b us)
       by true e =
           let same : bucketOf v ≡ b = eqb-true (bucketOf v) b e in
-          let room : 16384 + bucketOf v < length (set links i (linkAt links (16384 + bucketOf v))) = rw (length-set links i (linkAt links (16384 + bucketOf v)), long) (omega arith) in
+          let room : 16384 + bucketOf v < length (set links i (linkAt links (16384 + bucketOf v))) =
+          rw (length-set links i (linkAt links (16384 + bucketOf v)), long) (omega arith) in
           let mine : linkAt (set (set links i (linkAt links (16384 + bucketOf v))) (16384 + bucketOf v) (i + 1)) i ≡ linkAt links (16384 + b) =
           link-other (set links i (linkAt links (16384 + bucketOf v))) (16384 + bucketOf v) i (i + 1) (λ q. omega arith)
           ∙ (link-same links i (linkAt links (16384 + bucketOf v)) (omega arith) (link-few links (16384 + bucketOf v)) ∙ rw same) in (
@@ -271,7 +277,8 @@ module _ (text links : List ℕ) (i : ℕ) (us : List Rule) (short : length text
                   (
                     rw is-raw fits,
                     rw mine
-                        (chain-set text (set links i (linkAt links (16384 + bucketOf v))) i (linkAt links (16384 + b)) (inBucket b us) (16384 + bucketOf v) (i + 1) (omega arith)
+                        (chain-set text (set links i (linkAt links (16384 + bucketOf v))) i (linkAt links (16384 + b)) (inBucket b us) (16384 + bucketOf v)
+                        (i + 1) (omega arith)
                         (chain-set text links i (linkAt links (16384 + b)) (inBucket b us) i (linkAt links (16384 + bucketOf v)) (omega arith) (hung b k))),
                   ),
                 ),
@@ -284,8 +291,10 @@ module _ (text links : List ℕ) (i : ℕ) (us : List Rule) (short : length text
                 (λ q. eqb-false (bucketOf v) b e (omega arith)),
             link-other links i (16384 + b) (linkAt links (16384 + bucketOf v)) (λ q. omega arith),
           )
-          (chain-top text (set (set links i (linkAt links (16384 + bucketOf v))) (16384 + bucketOf v) (i + 1)) i (suc i) (linkAt links (16384 + b)) (inBucket b us) (omega arith)
-          (chain-set text (set links i (linkAt links (16384 + bucketOf v))) i (linkAt links (16384 + b)) (inBucket b us) (16384 + bucketOf v) (i + 1) (omega arith)
+          (chain-top text (set (set links i (linkAt links (16384 + bucketOf v))) (16384 + bucketOf v) (i + 1)) i (suc i) (linkAt links (16384 + b))
+          (inBucket b us) (omega arith)
+          (chain-set text (set links i (linkAt links (16384 + bucketOf v))) i (linkAt links (16384 + b)) (inBucket b us) (16384 + bucketOf v) (i + 1)
+          (omega arith)
           (chain-set text links i (linkAt links (16384 + b)) (inBucket b us) i (linkAt links (16384 + bucketOf v)) (omega arith) (hung b k))))
 
 pub hung-on : (text links : List ℕ) (i j : ℕ) (us : List Rule) → i ≤ j → Hung text links i us → Hung text links j us
@@ -442,7 +451,8 @@ module _ (text marks links : List ℕ) (all : Bool) (i n : ℕ) (h : Marking tex
       }
 
       -- not covered
-      kept : all ≡ false → any (λ u. covers u v) (h .seen) ≡ false → Marking text marks (linked links i (join raw)) (allText (join raw)) (r .end + 1) (n + r .joins + 1)
+      kept : all ≡ false → any (λ u. covers u v) (h .seen) ≡ false → Marking text marks (linked links i (join raw)) (allText (join raw)) (r .end + 1)
+          (n + r .joins + 1)
       unfolding any
       kept f c = record {
         seen = v ∷ h .seen;
@@ -481,7 +491,8 @@ module _ (text marks links : List ℕ) (all : Bool) (i n : ℕ) (h : Marking tex
               right false = refl
 
           by : (x : Bool) → all ≡ x → (y : Bool) → isRepeat text links (join raw) ≡ y
-              → Marking text (if x then set marks n 1 else (if y then set marks n 1 else marks)) (if x then links else (if y then links else linked links i (join raw)))
+              → Marking text (if x then set marks n 1 else (if y then set marks n 1 else marks))
+              (if x then links else (if y then links else linked links i (join raw)))
               (if x then true else (if y then false else allText (join raw))) (r .end + 1) (n + r .joins + 1)
           by true f y g = rw f at (repeated (every f))
           by false f true g = rw f at (repeated (same f ∙ g))
@@ -499,7 +510,8 @@ module _ (text marks links : List ℕ) (all : Bool) (i n : ℕ) (h : Marking tex
     pub marking-long : (length marks ≡ 16385) × (length links ≡ 18432)
     marking-long = (h .marked .long, h .long)
 
-    module _ (a : Bool) (m k : List ℕ) (is-a : a ≡ stepAll text links all raw) (is-m : m ≡ stepMarks text links all n raw marks) (is-k : k ≡ stepLinks text links all i raw) where
+    module _ (a : Bool) (m k : List ℕ) (is-a : a ≡ stepAll text links all raw) (is-m : m ≡ stepMarks text links all n raw marks)
+        (is-k : k ≡ stepLinks text links all i raw) where
       stepped : Marking text m k a (r .end + 1) (n + r .joins + 1)
       unfolding stepAll stepMarks stepLinks
       stepped = rw (is-a, is-m, is-k) (by (ruleOf (line 0 0 raw true)) refl)

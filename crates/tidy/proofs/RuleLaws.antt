@@ -63,7 +63,8 @@ clients-rest : (t r : List ℕ) → r ≡ afterSeparator (separatorIndex false t
 unfolding daemonsPart clientsPart
 clients-rest t r e = rw e
 
-pub rule-parts : (raw : List ℕ) (u : Rule) → parseRule raw ≡ some u → (u .daemons ≡ words (daemonsPart (join raw))) × (u .clients ≡ words (clientsPart (join raw)))
+pub rule-parts : (raw : List ℕ) (u : Rule) → parseRule raw ≡ some u → (u .daemons ≡ words (daemonsPart (join raw)))
+    × (u .clients ≡ words (clientsPart (join raw)))
 unfolding parseRule
 rule-parts raw u e = by (splitSeparator false raw) refl e
   where
@@ -74,7 +75,8 @@ rule-parts raw u e = by (splitSeparator false raw) refl e
         let is-u : ruleBy p (splitSeparator false (p .1)) ≡ u = cc k in
         let h = before-some (join raw) (join (p .0), join (p .1)) (splitSeparator-join false raw ∙ ap joinParts q) in (
           sym (ap (λ (x : Rule). x .daemons) is-u) ∙ (elements-words (p .0) ∙ ap words (h .0)),
-          sym (ap (λ (x : Rule). x .clients) is-u) ∙ (rest-words (p .1) (splitSeparator false (p .1)) refl ∙ ap words (clients-rest (join raw) (join (p .1)) (h .1))),
+          sym (ap (λ (x : Rule). x .clients) is-u) ∙ (rest-words (p .1) (splitSeparator false (p .1)) refl
+              ∙ ap words (clients-rest (join raw) (join (p .1)) (h .1))),
         )
 
 pub same-of : (a b : List ℕ) (u v : Rule) → parseRule a ≡ some u → parseRule b ≡ some v → sameText (join a) (join b) ≡ sameLists u v
@@ -109,7 +111,8 @@ unfolding printList printNext printWords words split nonEmpty isParting
 print-words h [] = refl
 print-words h (x ∷ t) = by (among " \t," x) (print-words h t) (print-words (printMore h x) t)
   where
-    by : (b : Bool) → printList h t ≡ printWords h (nonEmpty (split " \t," t)) → printList (printMore h x) t ≡ printWords (printMore h x) (nonEmpty (split " \t," t))
+    by : (b : Bool) → printList h t ≡ printWords h (nonEmpty (split " \t," t))
+        → printList (printMore h x) t ≡ printWords (printMore h x) (nonEmpty (split " \t," t))
         → printList (if b then h else printMore h x) t ≡ printWords h (nonEmpty (if b then [] ∷ split " \t," t else consHead x (split " \t," t)))
     by true e f = e
     by false e f = f ∙ sym (print-head h x (split " \t," t))

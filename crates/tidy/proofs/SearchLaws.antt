@@ -135,7 +135,8 @@ module _ (m : Matcher) (r : Request) (blind : CaseBlind m r) where
   missed-any [] v h e = absurd (true≢false (sym e))
   missed-any (u ∷ us) v h e = by (covers u v) refl e (λ k. missed-any us v (h .1) k)
     where
-      by : (b : Bool) → covers u v ≡ b → (b || any (λ u. covers u v) us) ≡ true → (any (λ u. covers u v) us ≡ true → ruleFound m r v ≡ Found.No) → ruleFound m r v ≡ Found.No
+      by : (b : Bool) → covers u v ≡ b → (b || any (λ u. covers u v) us) ≡ true → (any (λ u. covers u v) us ≡ true → ruleFound m r v ≡ Found.No)
+          → ruleFound m r v ≡ Found.No
       by true q k ih = covered-misses u v q (h .0)
       by false q k ih = ih k
 
@@ -174,7 +175,8 @@ module _ (m : Matcher) (r : Request) (blind : CaseBlind m r) where
     search-kept ns kept (l ∷ ls) h e = by (named ns l) e (λ k. search-kept ns kept ls h k) (λ us m k. search-kept ns us ls m k)
       where
         on : (o : Option Answer) → lineAnswer v f (ruleFound m r) l ≡ o → witnessed ns (withRule (ruleOf l) kept) ls ≡ true
-            → ((us : List Rule) → Missed us → witnessed ns us ls ≡ true → first (lineAnswer v f (ruleFound m r)) ls ≡ first (lineAnswer v f (ruleFound m r)) (keptLines ns ls))
+            → ((us : List Rule) → Missed us → witnessed ns us ls ≡ true
+            → first (lineAnswer v f (ruleFound m r)) ls ≡ first (lineAnswer v f (ruleFound m r)) (keptLines ns ls))
             → o orElse first (lineAnswer v f (ruleFound m r)) ls ≡ o orElse first (lineAnswer v f (ruleFound m r)) (keptLines ns ls)
         on (some a) q k ih = refl
         on none q k ih = rule (ruleOf l) refl
@@ -190,8 +192,10 @@ module _ (m : Matcher) (r : Request) (blind : CaseBlind m r) where
 
         by : (b : Bool) → (if b then coveredBy kept l && witnessed ns kept ls else witnessed ns (withRule (ruleOf l) kept) ls) ≡ true
             → (witnessed ns kept ls ≡ true → first (lineAnswer v f (ruleFound m r)) ls ≡ first (lineAnswer v f (ruleFound m r)) (keptLines ns ls))
-            → ((us : List Rule) → Missed us → witnessed ns us ls ≡ true → first (lineAnswer v f (ruleFound m r)) ls ≡ first (lineAnswer v f (ruleFound m r)) (keptLines ns ls))
-            → lineAnswer v f (ruleFound m r) l orElse first (lineAnswer v f (ruleFound m r)) ls ≡ first (lineAnswer v f (ruleFound m r)) (if b then keptLines ns ls else l ∷ keptLines ns ls)
+            → ((us : List Rule) → Missed us → witnessed ns us ls ≡ true
+            → first (lineAnswer v f (ruleFound m r)) ls ≡ first (lineAnswer v f (ruleFound m r)) (keptLines ns ls))
+            → lineAnswer v f (ruleFound m r) l orElse first (lineAnswer v f (ruleFound m r)) ls
+            ≡ first (lineAnswer v f (ruleFound m r)) (if b then keptLines ns ls else l ∷ keptLines ns ls)
         by true k ih ih' =
             let a = and-true (coveredBy kept l) (witnessed ns kept ls) k in
             rw (covered-line kept l h (a .0)) (ih (a .1))

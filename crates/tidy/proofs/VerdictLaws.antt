@@ -103,7 +103,8 @@ module _ (ts : List Table) (r : Request) (ns : List ℕ) where
         let is-deny = first-file Denied Deny found (lines deny) c e in
         record { verdict = refl; file = refl; command = rw is-deny; line = rw is-deny (omega arith) }
 
-    by-answers : (x y : Option Answer) → Moved Granted Allow ts r S.allow ns 1 0 (lines allow) x y → SameCommand Granted Allow found ns allow (dropped ns allow) x y
+    by-answers : (x y : Option Answer) → Moved Granted Allow ts r S.allow ns 1 0 (lines allow) x y
+        → SameCommand Granted Allow found ns allow (dropped ns allow) x y
         → MovedAllow (Option·getD (x orElse first (lineAnswer Denied Deny found) (lines deny)) (answer Granted Neither 0 (part 0 0)))
         (Option·getD (y orElse first (lineAnswer Denied Deny found) (lines deny)) (answer Granted Neither 0 (part 0 0)))
     by-answers none none m c = others (first (lineAnswer Denied Deny found) (lines deny)) refl
@@ -171,7 +172,8 @@ alike-fitting : (p : Answer → Answer → Type 0) (f g : Request → Answer) �
 alike-fitting p f g h none = refl
 alike-fitting p f g h (some r) = by (wellFormed r)
   where
-    by : (b : Bool) → Alike p (if b then answered (f r) else refused (Rattle.section.specs.Refusal.placeless F.BadRequest)) (if b then answered (g r) else refused (Rattle.section.specs.Refusal.placeless F.BadRequest))
+    by : (b : Bool) → Alike p (if b then answered (f r) else refused (Rattle.section.specs.Refusal.placeless F.BadRequest))
+        (if b then answered (g r) else refused (Rattle.section.specs.Refusal.placeless F.BadRequest))
     by true = h r
     by false = refl
 
@@ -210,7 +212,8 @@ module _ (allow deny five ns : List ℕ) (o : Option Request) where
   unfolding decideTables
   decide-allow e ok =
       alike-before (λ a b. SameVerdict allow deny (dropped ns allow) deny (inAllow (a .file) (removedAbove ns (a .line) (lines allow))) a b)
-      (checks allow deny five) (checks (dropped ns allow) deny five) (decideOver (tablesOf five) allow deny o) (decideOver (tablesOf five) (dropped ns allow) deny o)
+      (checks allow deny five) (checks (dropped ns allow) deny five) (decideOver (tablesOf five) allow deny o)
+      (decideOver (tablesOf five) (dropped ns allow) deny o)
       (without-allow (dropped ns allow) deny five (file-stays ns S.allow allow five e) ∙ sym (without-allow allow deny five e))
       (alike-fitting (λ a b. SameVerdict allow deny (dropped ns allow) deny (inAllow (a .file) (removedAbove ns (a .line) (lines allow))) a b)
       (λ r. search (matchOf (tablesOf five)) allow deny (held r)) (λ r. search (matchOf (tablesOf five)) (dropped ns allow) deny (held r))
@@ -222,7 +225,8 @@ module _ (allow deny five ns : List ℕ) (o : Option Request) where
   unfolding decideTables
   decide-deny e ok =
       alike-before (λ a b. SameVerdict allow deny allow (dropped ns deny) (inDeny (a .file) (removedAbove ns (a .line) (lines deny))) a b)
-      (checks allow deny five) (checks allow (dropped ns deny) five) (decideOver (tablesOf five) allow deny o) (decideOver (tablesOf five) allow (dropped ns deny) o)
+      (checks allow deny five) (checks allow (dropped ns deny) five) (decideOver (tablesOf five) allow deny o)
+      (decideOver (tablesOf five) allow (dropped ns deny) o)
       (without-deny allow (dropped ns deny) five (file-stays ns S.deny deny five e) ∙ sym (without-deny allow deny five e))
       (alike-fitting (λ a b. SameVerdict allow deny allow (dropped ns deny) (inDeny (a .file) (removedAbove ns (a .line) (lines deny))) a b)
       (λ r. search (matchOf (tablesOf five)) allow deny (held r)) (λ r. search (matchOf (tablesOf five)) allow (dropped ns deny) (held r))

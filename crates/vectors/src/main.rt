@@ -762,6 +762,6 @@ fn run_input(input: &mut [u8]) {
 }
 
 fn main() {
-    let mut input = [0u8; 262144];
+    let mut input = [0u8; 1048576];
     run_input(&mut input);
 }

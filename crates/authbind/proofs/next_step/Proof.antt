@@ -25,7 +25,8 @@ returns-4 c =
     let r = l .before .before in
     let e = r .before .before in
     let k = e .before in
-    goes-on _ _ _ _ (k .before .before .before .before .args .out .now) _ _ (k .before .all-kinds .ensures) (k .is-known .ensures) (e .if1 .left) _ (r .before .is-ruled .ensures) (r .if2 .left) _
+    goes-on _ _ _ _ (k .before .before .before .before .args .out .now) _ _ (k .before .all-kinds .ensures) (k .is-known .ensures) (e .if1 .left) _
+    (r .before .is-ruled .ensures) (r .if2 .left) _
     (l .before .is-left-out .ensures) (l .if3 .left) _ (s .before .before .count-tests .ensures) _ (s .before .turn-after .ensures) _ _ (s .step .ensures)
 
 pub next-step-spec : {M : Type 1} → statement M
@@ -34,7 +35,8 @@ next-step-spec =
     (λ c κs. search needs)
     (λ c κs. search needs)
     (λ c κs. search needs)
-    (λ c. let k = c .before .before in unfit _ _ _ _ _ _ _ (k .before .all-kinds .ensures) (k .is-known .ensures) (c .before .if1 .taken) _ (c .placeless .ensures))
+    (λ c. let k = c .before .before in unfit _ _ _ _ _ _ _ (k .before .all-kinds .ensures) (k .is-known .ensures) (c .before .if1 .taken) _
+    (c .placeless .ensures))
     (λ c κs. search needs)
     returns-2
     (λ c κs. search needs)

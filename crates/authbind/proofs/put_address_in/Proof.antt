@@ -12,7 +12,8 @@ put-requires c κs =
 returns-2 : tie.Need-returns-2
 returns-2 c =
     let s = c .before .before .before .before .before .before .before .before .before .before .before .before in
-    text-all _ _ _ _ _ (in-address _ _ (search needs)) (s .pre) _ _ (c .before .before .before .before .before .before .before .put-address .ensures) _ _ (c .before .before .put .ensures)
+    text-all _ _ _ _ _ (in-address _ _ (search needs)) (s .pre) _ _ (c .before .before .before .before .before .before .before .put-address .ensures) _ _
+    (c .before .before .put .ensures)
 
 pub put-address-in-spec : {M : Type 1} → statement M
 put-address-in-spec =

@@ -10,6 +10,7 @@ put-mark-spec =
     (λ c. search needs)
     (λ c κs. search (mark-room, needs))
     (λ c. search needs)
-    (λ c. marked _ (c .before .before .before .before .before .before .before .args .port) _ (c .before .before .before .before .before .if1 .taken) _ _ (c .before .before .put .ensures))
+    (λ c. marked _ (c .before .before .before .before .before .before .before .args .port) _ (c .before .before .before .before .before .if1 .taken) _ _
+    (c .before .before .put .ensures))
     (λ c. unmarked _ (c .before .before .args .port) _ (c .if1 .left)) in
     tie.close facts

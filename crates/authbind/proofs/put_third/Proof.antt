@@ -7,12 +7,14 @@ use Rattle.authbind.proofs.put_third.Tie as tie
 returns-2 : tie.Need-returns-2
 returns-2 c =
     let s = c .before .before .before .before .before .before .before .before .before .before .before .before in
-    text-all _ _ _ _ _ (search (third-v4, needs)) (s .pre) _ _ (c .before .before .before .before .before .before .before .put-address .ensures) _ _ (c .before .before .put .ensures)
+    text-all _ _ _ _ _ (search (third-v4, needs)) (s .pre) _ _ (c .before .before .before .before .before .before .before .put-address .ensures) _ _
+    (c .before .before .put .ensures)
 
 returns-3 : tie.Need-returns-3
 returns-3 c =
     let s = c .before .before .before .before .before .before .before .before .before .before .before .before .before in
-    text-all _ _ _ _ _ (search (third-v6, needs)) (s .pre) _ _ (c .before .before .before .before .before .before .before .put-unabbreviated .ensures) _ _ (c .before .before .put2 .ensures)
+    text-all _ _ _ _ _ (search (third-v6, needs)) (s .pre) _ _ (c .before .before .before .before .before .before .before .put-unabbreviated .ensures) _ _
+    (c .before .before .put2 .ensures)
 
 pub put-third-spec : {M : Type 1} → statement M
 put-third-spec =

@@ -8,7 +8,11 @@ use Rattle.authbind.proofs.write_name.Statement.{statement}
 use Rattle.authbind.proofs.write_name.Tie as tie
 
 put-name-requires : tie.Need-put-name-requires
-put-name-requires c κs = omega (arith, length-name (c .before .before .args .file) (c .before .before .args .port) (c .before .before .args .addr) (c .before .before .args .uid))
+put-name-requires c κs = omega (
+  arith,
+  length-name (c .before .before .args .file) (c .before .before .args .port) (c .before .before .args .addr)
+      (c .before .before .args .uid),
+)
 
 returns : tie.Need-returns
 returns c = name-refused _ _ _ _ (c .before .before .before .put-name .ensures) _ (c .before .if1 .taken) _ (c .placeless .ensures)

@@ -10,7 +10,10 @@ put-line-spec =
     (λ c κs. search (line-room, needs))
     (λ c κs. search (line-room-2, needs))
     (λ c. search needs)
-    (λ c κs. line-room-3 _ _ _ _ (c .before .before .before .before .before .before .before .before .before .before .before .before .pre) _ _ (c .before .before .before .before .before .before .before .before .put .ensures) _ _ (c .before .before .before .before .put-decimal .ensures))
+    (λ c κs. line-room-3 _ _ _ _ (c .before .before .before .before .before .before .before .before .before .before .before .before .pre) _ _
+    (c .before .before .before .before .before .before .before .before .put .ensures) _ _ (c .before .before .before .before .put-decimal .ensures))
     (λ c. search needs)
-    (λ c. line-all _ _ _ _ (c .before .before .before .before .before .before .before .before .before .before .before .before .before .before .before .pre) _ _ (c .before .before .before .before .before .before .before .before .before .before .before .put .ensures) _ _ (c .before .before .before .before .before .before .before .put-decimal .ensures) _ _ (c .before .before .put2 .ensures)) in
+    (λ c. line-all _ _ _ _ (c .before .before .before .before .before .before .before .before .before .before .before .before .before .before .before .pre) _ _
+    (c .before .before .before .before .before .before .before .before .before .before .before .put .ensures) _ _
+    (c .before .before .before .before .before .before .before .put-decimal .ensures) _ _ (c .before .before .put2 .ensures)) in
     tie.close facts

@@ -12,5 +12,6 @@ put-lines-spec =
     (λ c. search needs)
     (λ c κs. search (lines-room-2, needs))
     (λ c. search needs)
-    (λ c. lines-all _ _ _ (c .before .before .before .before .before .before .before .before .before .before .before .pre) _ _ (c .before .before .before .before .before .before .before .put-line .ensures) _ _ (c .before .before .put-line2 .ensures)) in
+    (λ c. lines-all _ _ _ (c .before .before .before .before .before .before .before .before .before .before .before .pre) _ _
+    (c .before .before .before .before .before .before .before .put-line .ensures) _ _ (c .before .before .put-line2 .ensures)) in
     tie.close facts

@@ -25,7 +25,8 @@ same-length c = search needs
 
 -- src/lib.rt:87:9
 returns : tie.Need-returns
-returns c = put-there _ _ _ (c .before .before .before .before .before .is-in-both .ensures) (c .before .before .before .before .if1 .taken) _ _ _ _ (c .before .before .put-lines .ensures)
+returns c = put-there _ _ _ (c .before .before .before .before .before .is-in-both .ensures) (c .before .before .before .before .if1 .taken) _ _ _ _
+    (c .before .before .put-lines .ensures)
 
 -- src/lib.rt:80:1
 returns-2 : tie.Need-returns-2

@@ -12,10 +12,15 @@ write-texts-spec =
     (λ c. no-plain-room _ _ _ _ (c .before .before .measure .ensures) (c .before .if1 .taken) _ (c .placeless .ensures))
     (λ c κs. search needs)
     (λ c κs. search needs)
-    (λ c. no-marked-room _ _ _ _ (c .before .before .before .before .measure .ensures) (c .before .before .before .if1 .left) _ (c .before .before .measure2 .ensures) (c .before .if2 .taken) _ (c .placeless2 .ensures))
+    (λ c. no-marked-room _ _ _ _ (c .before .before .before .before .measure .ensures) (c .before .before .before .if1 .left) _
+    (c .before .before .measure2 .ensures) (c .before .if2 .taken) _ (c .placeless2 .ensures))
     (λ c κs. search needs)
     (λ c κs. search needs)
     (λ c. search needs)
     (λ c. search needs)
-    (λ c. both-written _ _ _ _ (c .before .before .before .before .before .before .before .before .before .before .before .measure .ensures) (c .before .before .before .before .before .before .before .before .before .before .if1 .left) _ (c .before .before .before .before .before .before .before .before .before .measure2 .ensures) (c .before .before .before .before .before .before .before .before .if2 .left) _ _ _ _ (c .before .before .before .before .before .before .put-span .ensures) (c .before .before .put-span2 .ensures)) in
+    (λ c. both-written _ _ _ _ (c .before .before .before .before .before .before .before .before .before .before .before .measure .ensures)
+    (c .before .before .before .before .before .before .before .before .before .before .if1 .left) _
+    (c .before .before .before .before .before .before .before .before .before .measure2 .ensures)
+    (c .before .before .before .before .before .before .before .before .if2 .left) _ _ _ _
+    (c .before .before .before .before .before .before .put-span .ensures) (c .before .before .put-span2 .ensures)) in
     tie.close facts

@@ -12,10 +12,13 @@ put-address-requires c κs = omega
     (arith, length-addrText (c .before .before .before .before .before .before .before .before .before .before .args .request .client .addr))
 
 put-address-requires-2 : tie.Need-put-address-requires-2
-put-address-requires-2 c κs = let r = c .before .before .before .before .before .before .before .before .before .before .before .before .before .args .request in omega (arith, length-addrText (r .client .addr), length-addrText (r .server .addr))
+put-address-requires-2 c κs = let r = c .before .before .before .before .before .before .before .before .before .before .before .before .before .args .request
+    in omega (arith, length-addrText (r .client .addr), length-addrText (r .server .addr))
 
 put-decimal-requires : tie.Need-put-decimal-requires
-put-decimal-requires c κs = let a = c .before .before .before .before .before .before .before .before .before .before .before .before .before .before .before .before .args in omega (arith, length-addrText (a .request .client .addr), length-addrText (a .request .server .addr), length-numeral 10 10 (a .process) .0)
+put-decimal-requires c κs = let a =
+    c .before .before .before .before .before .before .before .before .before .before .before .before .before .before .before .before .args in
+    omega (arith, length-addrText (a .request .client .addr), length-addrText (a .request .server .addr), length-numeral 10 10 (a .process) .0)
 
 write-expansion-requires : tie.Need-write-expansion-requires
 write-expansion-requires c κs =

@@ -1,6 +1,7 @@
 -- `verdicts` meets its contract. Assumes nothing.
 use borrow.Author.Needs.{needs}
-use Rattle.index.proofs.CallLaws.{verdicts-refused, verdicts-untouched, unpack-is, index-is, verdicts-answer, verdicts-holds, verdicts-wrong, wrong-untouched}
+use Rattle.index.proofs.CallLaws.{verdicts-refused, verdicts-untouched, unpack-is, index-is, verdicts-answer, verdicts-holds, verdicts-wrong}
+use Rattle.index.proofs.CallLaws.{wrong-untouched}
 use Rattle.index.proofs.verdicts.Statement.{statement}
 use Rattle.index.proofs.verdicts.Tie as tie
 

@@ -1,7 +1,9 @@
--- `portacl::note_ports` meets its contract. The loop's invariant is Noting: what is found and noted from the start is what is found and noted from at on. Assumes nothing.
+-- `portacl::note_ports` meets its contract. The loop's invariant is Noting: what is found and noted from the start is what is found and noted from at on.
+-- Assumes nothing.
 use Prim.Native.Nat.{_+_, _-_}
 use lib.ListN.{length}
-use Rattle.portacl.proofs.NoteLaws.{Noting, note-empty, notes-empty, noting-start, noting-end, noting-end-tcp, noting-end-udp, noting-bad, noting-bad-tcp, noting-bad-udp, noting-on}
+use Rattle.portacl.proofs.NoteLaws.{Noting, note-empty, notes-empty, noting-start, noting-end, noting-end-tcp, noting-end-udp, noting-bad}
+use Rattle.portacl.proofs.NoteLaws.{noting-bad-tcp, noting-bad-udp, noting-on}
 use borrow.Author.Needs.{needs}
 use Rattle.portacl.proofs.note_ports.Statement.{statement}
 use Rattle.portacl.proofs.note_ports.Tie as tie

@@ -15,12 +15,14 @@ answer-to-spec =
     (λ c.
     let f = c .before .before .before in
     let x = f .before .before .before in
-    answer-fits _ _ _ _ (x .before .before .before .before .before .before .before .pre .1) _ _ _ (x .read-states .ensures) _ (f .before .before .named .ensures) _ (f .before .held .ensures) _ (f .fits2 .ensures)
+    answer-fits _ _ _ _ (x .before .before .before .before .before .before .before .pre .1) _ _ _ (x .read-states .ensures) _
+    (f .before .before .named .ensures) _ (f .before .held .ensures) _ (f .fits2 .ensures)
     (c .before .if1 .taken) _ (c .found-answer .ensures))
     (λ c κs. search needs)
     (λ c.
     let f = c .before .before .before in
     let x = f .before .before .before in
-    answer-unfit _ _ _ _ (x .before .before .before .before .before .before .before .pre .1) _ _ _ (x .read-states .ensures) _ (f .before .before .named .ensures) _ (f .before .held .ensures) _ (f .fits2 .ensures)
+    answer-unfit _ _ _ _ (x .before .before .before .before .before .before .before .pre .1) _ _ _ (x .read-states .ensures) _
+    (f .before .before .named .ensures) _ (f .before .held .ensures) _ (f .fits2 .ensures)
     (c .before .if1 .left) _ (c .unfit-answer .ensures)) in
     tie.close facts

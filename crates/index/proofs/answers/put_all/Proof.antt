@@ -2,7 +2,8 @@
 use borrow.Author.Needs.{needs}
 use lib.ListN.{length}
 use Rattle.index.specs.Index.{readRequests}
-use Rattle.index.proofs.AnswerLaws.{Answering, answering-start, answering-cut, answering-cut-text, answering-room, answering-more, answering-end, answering-text}
+use Rattle.index.proofs.AnswerLaws.{Answering, answering-start, answering-cut, answering-cut-text, answering-room, answering-more, answering-end}
+use Rattle.index.proofs.AnswerLaws.{answering-text}
 use Rattle.index.proofs.RequestLaws.{fields-within, rest-shorter}
 use Rattle.index.proofs.answers.put_all.Statement.{statement}
 use Rattle.index.proofs.answers.put_all.Tie as tie

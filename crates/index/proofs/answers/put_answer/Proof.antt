@@ -23,6 +23,7 @@ put-answer-spec =
     let p₃ = p₄ .before .before .before .before in
     let p₂ = p₃ .before .before .before .before .before in
     let p₁ = p₂ .before .before .before .before .before in
-    put-answer _ _ _ _ _ _ _ _ _ _ _ _ _ _ _ _ _ _ _ _ (p₁ .before .before .before .before .before .pre) (p₁ .put-two .ensures) (p₂ .put-two2 .ensures) (p₃ .put-two3 .ensures)
+    put-answer _ _ _ _ _ _ _ _ _ _ _ _ _ _ _ _ _ _ _ _ (p₁ .before .before .before .before .before .pre) (p₁ .put-two .ensures) (p₂ .put-two2 .ensures)
+    (p₃ .put-two3 .ensures)
     (p₄ .put-two4 .ensures) (p₅ .put-count .ensures)) in
     tie.close facts

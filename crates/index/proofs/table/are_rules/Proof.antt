@@ -1,4 +1,5 @@
--- `table::are_rules` meets its contract: the loop's invariant is Comparing: what is left is compared with the entries of the lines that are left. Assumes nothing.
+-- `table::are_rules` meets its contract: the loop's invariant is Comparing: what is left is compared with the entries of the lines that are left. Assumes
+-- nothing.
 use borrow.Author.Needs.{needs}
 use Prim.Native.Nat.{_-_}
 use lib.ListN.{length}

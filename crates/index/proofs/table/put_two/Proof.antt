@@ -10,5 +10,6 @@ put-two-spec =
     (λ c κs. search needs)
     (λ c κs. search needs)
     (λ c. search needs)
-    (λ c. let p₂ = c .before .before in let p₁ = p₂ .before .before .before .before in put-two _ _ _ _ _ _ _ _ (search needs) (p₁ .put-count .ensures) (p₂ .put-count2 .ensures)) in
+    (λ c. let p₂ = c .before .before in let p₁ = p₂ .before .before .before .before in
+    put-two _ _ _ _ _ _ _ _ (search needs) (p₁ .put-count .ensures) (p₂ .put-count2 .ensures)) in
     tie.close facts

@@ -1,10 +1,12 @@
--- `tell::text_told` meets its contract. The invariant: the text tells what its lines from i on do; n is at most i + 1. The measure is what is left of the text. Assumes nothing.
+-- `tell::text_told` meets its contract. The invariant: the text tells what its lines from i on do; n is at most i + 1. The measure is what is left of the text.
+-- Assumes nothing.
 use borrow.Author.Needs.{needs}
 use Prim.Native.Nat.{_-_}
 use lib.ListN.{length}
 use Rattle.rules.proofs.FileLaws.{scanned-line}
 use Rattle.matters.specs.Code.{finderAt}
-use Rattle.matters.proofs.TellLaws.{Telling-from, telling-start, telling-end, telling-less, next-fits, number-fits, telling-decides, telling-differs, telling-more}
+use Rattle.matters.proofs.TellLaws.{Telling-from, telling-start, telling-end, telling-less, next-fits, number-fits, telling-decides, telling-differs}
+use Rattle.matters.proofs.TellLaws.{telling-more}
 use Rattle.matters.proofs.tell.text_told.Statement.{statement}
 use Rattle.matters.proofs.tell.text_told.Tie as tie
 

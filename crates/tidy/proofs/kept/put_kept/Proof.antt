@@ -1,4 +1,5 @@
--- `tidy::kept::put_kept` meets its contract: the invariant is Keeping: what was kept stands at the front. The measure is what is left of the text. Assumes nothing.
+-- `tidy::kept::put_kept` meets its contract: the invariant is Keeping: what was kept stands at the front. The measure is what is left of the text. Assumes
+-- nothing.
 use borrow.Author.Needs.{needs}
 use Prim.Native.Nat.{_-_}
 use lib.ListN.{length}

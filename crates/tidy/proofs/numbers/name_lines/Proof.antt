@@ -1,8 +1,10 @@
--- `tidy::numbers::name_lines` meets its contract: the invariant is Naming: the numbers so far are marked, and named. The measure is what is left of the proposal. Assumes nothing.
+-- `tidy::numbers::name_lines` meets its contract: the invariant is Naming: the numbers so far are marked, and named. The measure is what is left of the
+-- proposal. Assumes nothing.
 use borrow.Author.Needs.{needs}
 use Prim.Native.Nat.{_-_}
 use lib.ListN.{length}
-use Rattle.tidy.proofs.NumberLaws.{Naming, naming-start, naming-short, naming-outside, naming-unmarked, naming-more, naming-end, naming-names, refused-names}
+use Rattle.tidy.proofs.NumberLaws.{Naming, naming-start, naming-short, naming-outside, naming-unmarked, naming-more, naming-end, naming-names}
+use Rattle.tidy.proofs.NumberLaws.{refused-names}
 use Rattle.tidy.proofs.numbers.name_lines.Statement.{statement}
 use Rattle.tidy.proofs.numbers.name_lines.Tie as tie
 

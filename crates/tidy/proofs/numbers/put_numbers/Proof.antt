@@ -1,4 +1,5 @@
--- `tidy::numbers::put_numbers` meets its contract: the invariant is PutNumbers: the numbers so far stand at the front. The measure is what is left of the marks. Assumes nothing.
+-- `tidy::numbers::put_numbers` meets its contract: the invariant is PutNumbers: the numbers so far stand at the front. The measure is what is left of the
+-- marks. Assumes nothing.
 use borrow.Author.Needs.{needs}
 use Prim.Native.Nat.{_-_}
 use lib.ListN.{length}

@@ -1,4 +1,5 @@
--- `tidy::repeats::covered_lines` meets its contract: the invariant is Marking: what is marked, what hangs in the chains, and what is left. The measure is what is left of the text. Assumes nothing.
+-- `tidy::repeats::covered_lines` meets its contract: the invariant is Marking: what is marked, what hangs in the chains, and what is left. The measure is what
+-- is left of the text. Assumes nothing.
 use borrow.Author.Needs.{needs}
 use Prim.Native.Nat.{_-_}
 use lib.ListN.{length}
@@ -24,7 +25,13 @@ covered-lines-spec =
     (λ c. search needs)
     (λ c. search needs)
     (λ c. search needs)
-    (λ c κs. ((search needs, search (marking-number, needs)), ((search needs, (search needs, search needs)), (search (marking-short, needs), search (marking-plain, needs)))))
+    (λ c κs. (
+      (search needs, search (marking-number, needs)),
+      (
+        (search needs, (search needs, search needs)),
+        (search (marking-short, needs), search (marking-plain, needs)),
+      ),
+    ))
     (λ c. search needs)
     (λ c. search needs)
     (λ c. search needs)

@@ -1,6 +1,8 @@
--- `tidy::repeats::is_repeated` meets its contract: the invariant is Seeking: the rest of the chain decides. The measure is what may be left of it. Assumes nothing.
+-- `tidy::repeats::is_repeated` meets its contract: the invariant is Seeking: the rest of the chain decides. The measure is what may be left of it. Assumes
+-- nothing.
 use borrow.Author.Needs.{needs}
-use Rattle.tidy.proofs.RepeatLaws.{Seeking, seeking-start, seeking-ended, seeking-past, seeking-found, seeking-on, seeking-end, place-some, place-within, place-link}
+use Rattle.tidy.proofs.RepeatLaws.{Seeking, seeking-start, seeking-ended, seeking-past, seeking-found, seeking-on, seeking-end, place-some, place-within}
+use Rattle.tidy.proofs.RepeatLaws.{place-link}
 use Rattle.tidy.proofs.repeats.is_repeated.Statement.{statement}
 use Rattle.tidy.proofs.repeats.is_repeated.Tie as tie
 

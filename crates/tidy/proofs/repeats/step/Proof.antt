@@ -1,6 +1,7 @@
 -- `tidy::repeats::step` meets its contract: no rule, or one that is marked, or noted. Assumes nothing.
 use borrow.Author.Needs.{needs}
-use Rattle.tidy.proofs.RepeatLaws.{none-all, none-marks, none-links, all-all, all-marks, all-links, plain-all, plain-marks, plain-links, rule-all, rule-marks, rule-links}
+use Rattle.tidy.proofs.RepeatLaws.{none-all, none-marks, none-links, all-all, all-marks, all-links, plain-all, plain-marks, plain-links, rule-all}
+use Rattle.tidy.proofs.RepeatLaws.{rule-marks, rule-links}
 use Rattle.tidy.proofs.repeats.step.Statement.{statement}
 use Rattle.tidy.proofs.repeats.step.Tie as tie
 

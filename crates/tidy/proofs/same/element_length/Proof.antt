@@ -1,4 +1,5 @@
--- `tidy::same::element_length` meets its contract: the invariant is `Passed`: the bytes passed belong to an element. The measure is what is left. Assumes nothing.
+-- `tidy::same::element_length` meets its contract: the invariant is `Passed`: the bytes passed belong to an element. The measure is what is left. Assumes
+-- nothing.
 use borrow.Author.Needs.{needs}
 use Prim.Native.Nat.{_-_}
 use lib.ListN.{length}
