@@ -1,8 +1,9 @@
--- Laws of the notes of any number of tables: the loop that marks the tables that name a marked one, and the recursion over the depth.
+-- Laws of the notes of any number of tables: the loop that marks the tables that name a marked one, and the one over the depths.
 -- Assumes nothing.
 use Prim.Native.Nat.{ℕ, zero, suc, _+_, _-_, _/_, _%_, _≤_, _<_}
 use native.Mathlib.Nat.{mod-lt}
 use native.Mathlib.Omega.{arith}
+use native.Mathlib.Numerals.{add-one}
 use mathlib.Core.Bool.{Bool, true, false, _&&_, _||_, and-false, or-false}
 use mathlib.Core.List.{List, [], _∷_}
 use mathlib.Core.Option.{Option, none, some}
@@ -188,17 +189,31 @@ module _ (t : List ℕ) where
   unfolding tablesIn
   tables-few h k = omega (arith, count-few t h k, entries-few (tableCount t) (drop 2 t))
 
-  pub deep-zero : getD t 0 0 < 256 → getD t 1 0 < 256 → (d : ℕ) → d ≡ 0 → Deep (tablesIn t) d (replicate 1026 18446744073709551615)
-  unfolding Deep pastAt isDeep
-  deep-zero h k d e i l =
-      let few : length (tablesIn t) < 65536 = tables-few h k in
-      rw e
-      (ap (bitAt (i % 64)) (getD-replicate 1026 (2 + i / 64) 18446744073709551615 0 (omega arith)) ∙ bit-ones (i % 64) (mod-lt i (omega arith)))
+  -- the notes are those of a depth, up to the one that is asked for
+  pub Deepening : ℕ → List ℕ → ℕ → Type 0
+  Deepening depth notes d = (d ≤ depth) × Deep (tablesIn t) d notes
 
-  pub deep-more : (d : ℕ) → (d ≡ 0 → ⊥) → (below r : List ℕ) → Deep (tablesIn t) (d - 1) below → Above (tablesIn t) (isDeep below) (isDeep r)
-      → Deep (tablesIn t) d r
-  unfolding Deep Above pastAt
-  deep-more d n below r is-below is-r i l =
-      let e : suc (d - 1) ≡ d = omega arith in
-      is-r i l ∙ text-same (tablesIn t) (isDeep below) (pastAt (tablesIn t) (d - 1)) is-below (tableAt (tablesIn t) i .text)
-      ∙ ap (λ (k : ℕ). pastAt (tablesIn t) k i) e
+  pub deepening-start : getD t 0 0 < 256 → getD t 1 0 < 256 → (depth : ℕ) → Deepening depth (replicate 1026 18446744073709551615) 0
+  unfolding Deepening Deep pastAt isDeep
+  deepening-start h k depth =
+      let few : length (tablesIn t) < 65536 = tables-few h k in (
+        omega arith,
+        λ i l.
+            ap (bitAt (i % 64)) (getD-replicate 1026 (2 + i / 64) 18446744073709551615 0 (omega arith)) ∙ bit-ones (i % 64) (mod-lt i (omega arith)),
+      )
+
+  pub deepening-more : (depth d : ℕ) (below r : List ℕ) → Deepening depth below d → d < depth → Above (tablesIn t) (isDeep below) (isDeep r)
+      → Deepening depth r (d + 1)
+  unfolding Deepening Deep Above pastAt
+  deepening-more depth d below r held l is-r = (
+    omega arith,
+    λ i k.
+        is-r i k ∙ text-same (tablesIn t) (isDeep below) (pastAt (tablesIn t) d) (held .1) (tableAt (tablesIn t) i .text)
+        ∙ ap (λ (n : ℕ). pastAt (tablesIn t) n i) (sym (add-one d)),
+  )
+
+  pub deepening-end : (depth d : ℕ) (notes : List ℕ) → Deepening depth notes d → depth ≤ d → Deep (tablesIn t) depth notes
+  unfolding Deepening
+  deepening-end depth d notes held l =
+      let e : d ≡ depth = omega (arith, held .0) in
+      rw (← e) (held .1)

@@ -428,13 +428,15 @@ fn notes_above(tables: &[u8], below: &[u64; 1026]) -> [u64; 1026]
     notes
 }
 
-// Notes that mark every table that leads more than depth deep.
+// Notes that mark every table that leads more than depth deep: those of one more depth come from those of one less.
 pub fn deep_notes(tables: &[u8], depth: u32) -> [u64; 1026]
     ensures { λ r. ⌜ Deep (tablesIn (now (tables .entry))) depth r ⌝ }
 {
-    if depth == 0 {
-        return [18446744073709551615u64; 1026];
+    let mut notes = [18446744073709551615u64; 1026];
+    let mut deep = 0;
+    while deep < depth {
+        notes = notes_above(tables, &notes);
+        deep += 1;
     }
-    let below = deep_notes(tables, depth - 1);
-    notes_above(tables, &below)
+    notes
 }
