@@ -2,7 +2,7 @@
 --   Chain, Hung   == a chain holds these rules; each bucket's chain holds those of the seen rules that are in it
 --   Marking       == the loop's invariant: what is marked, what hangs in the chains, and what is left to do
 -- Assumes nothing.
-use Prim.Native.Nat.{ℕ, zero, suc, _+_, _*_, _-_, _<_, _≤_}
+use Prim.Native.Nat.{ℕ, zero, suc, _+_, _*_, _-_, _<_, _≤_, _/_}
 use native.Mathlib.Nat.{add-sub-cancel-left}
 use native.Mathlib.Numerals.{add-one}
 use native.Mathlib.Omega.{arith}
@@ -32,7 +32,7 @@ use Rattle.tidy.specs.Code.{sameText, allText, bucketText, rawAt, sameAt
 use Rattle.tidy.specs.Code.{hasRule, stepAll, stepMarks, stepLinks, Sound, flag, Marked}
 use Rattle.tidy.proofs.RuleLaws.{same-of, all-of, bucketOf, bucket-of, bucket-same, bucket-small}
 use Rattle.tidy.proofs.ProposalLaws.{coveredLines-same, covered-adds}
-use Rattle.tidy.proofs.WalkLaws.{At, at-start, at-next, at-short, at-raw, at-from, at-number}
+use Rattle.tidy.proofs.WalkLaws.{At, at-start, at-next, at-short, at-raw, at-from, at-number, at-rule}
 
 -- ## A line
 
@@ -115,7 +115,7 @@ module _ (text links t : List ℕ) (first at left : ℕ) (h : Seeking text links
   module _ (l : 0 < left) where
     one-more : (k : ℕ) → left ≡ suc k
         → repeats text links 16384 first t
-        ≡ (if eqb at 0 || ltb (length text) at then false else (sameAt text (at - 1) t || repeats text links k (linkAt links (at - 1)) t))
+        ≡ (if eqb at 0 || ltb (length text) at then false else (sameAt text (at - 1) t || repeats text links k (linkAt links ((at - 1) / 4)) t))
     unfolding repeats
     one-more k e = h .so-far ∙ ap (λ (k : ℕ). repeats text links k at t) e
 
@@ -133,7 +133,7 @@ module _ (text links t : List ℕ) (first at left : ℕ) (h : Seeking text links
         pub seeking-found : x ≡ true → true ≡ repeats text links 16384 first t
         seeking-found f = sym (one-more (left - 1) is-suc ∙ rw (ne-eqb at 0 some-place, le-ltb (length text) at within, ← is-x, f))
 
-        pub seeking-on : x ≡ false → (k : ℕ) → k ≡ linkAt links (at - 1) → Seeking text links t first k (left - 1)
+        pub seeking-on : x ≡ false → (k : ℕ) → k ≡ linkAt links ((at - 1) / 4) → Seeking text links t first k (left - 1)
         seeking-on f k is-k =
             record { so-far = one-more (left - 1) is-suc ∙ rw (ne-eqb at 0 some-place, le-ltb (length text) at within, ← is-x, f, ← is-k) }
 
@@ -148,8 +148,8 @@ module _ (text links : List ℕ) (at : ℕ) (some-place : at ≡ 0 → ⊥) wher
   pub place-within : at ≤ length text → at - 1 ≤ length text
   place-within l = omega arith
 
-  pub place-link : at ≤ length text → length text ≤ length links → at - 1 < length links
-  place-link l k = omega (arith, place-some)
+  pub place-link : at ≤ length text → (length text ≤ 16384) × (4096 ≤ length links) → (at - 1) / 4 < length links
+  place-link l k = omega (arith, place-some, k .0, k .1)
 
 -- ## Links
 
@@ -184,20 +184,21 @@ module _ (links : List ℕ) where
 abbrev pub Chain : List ℕ → List ℕ → ℕ → ℕ → List Rule → Type 0
 Chain text links top h [] = h ≡ 0
 Chain text links top h (u ∷ us) =
-    (p : ℕ) × ((h ≡ suc p) × ((p < top) × ((parseRule (rawAt text p) ≡ some u)
-    × ((length (join (rawAt text p)) ≤ 2048) × Chain text links p (linkAt links p) us))))
+    (p : ℕ) × ((h ≡ suc p) × ((p + 4 ≤ top) × ((parseRule (rawAt text p) ≡ some u)
+    × ((length (join (rawAt text p)) ≤ 2048) × Chain text links p (linkAt links (p / 4)) us))))
 
-chain-set : (text links : List ℕ) (top h : ℕ) (us : List Rule) (a x : ℕ) → top ≤ a → Chain text links top h us → Chain text (set links a x) top h us
+chain-set : (text links : List ℕ) (top h : ℕ) (us : List Rule) (a x : ℕ) → top / 4 ≤ a → Chain text links top h us
+    → Chain text (set links a x) top h us
 chain-set text links top h [] a x l c = c
 chain-set text links top h (u ∷ us) a x l (p, (e, (k, (r, (s, c))))) =
-    (p, (e, (k, (r, (s, rw (link-other links a p x (λ q. omega arith)) (chain-set text links p (linkAt links p) us a x (omega arith) c))))))
+    (p, (e, (k, (r, (s, rw (link-other links a (p / 4) x (λ q. omega arith)) (chain-set text links p (linkAt links (p / 4)) us a x (omega arith) c))))))
 
 chain-top : (text links : List ℕ) (top wide h : ℕ) (us : List Rule) → top ≤ wide → Chain text links top h us → Chain text links wide h us
 chain-top text links top wide h [] l c = c
 chain-top text links top wide h (u ∷ us) l (p, (e, (k, (r, (s, c))))) = (p, (e, (omega arith, (r, (s, c)))))
 
 repeats-cons : (text links t : List ℕ) (k p : ℕ) → suc p ≤ length text
-    → repeats text links (suc k) (suc p) t ≡ (sameAt text p t || repeats text links k (linkAt links p) t)
+    → repeats text links (suc k) (suc p) t ≡ (sameAt text p t || repeats text links k (linkAt links (p / 4)) t)
 unfolding repeats
 repeats-cons text links t k p l = let same : suc p - 1 ≡ p = omega arith in rw (le-ltb (length text) (suc p) l, ne-eqb (suc p) 0 (λ q. omega arith), same)
 
@@ -215,7 +216,7 @@ module _ (text links raw : List ℕ) (v : Rule) (is-v : parseRule raw ≡ some v
   chain-repeats (suc k) top h (u ∷ us) l m (p, (e, (f, (r, (s, c))))) =
       ap (λ (x : ℕ). repeats text links (suc k) x (join raw)) e
       ∙ (repeats-cons text links (join raw) k p (omega arith)
-      ∙ ap₂ (λ (x y : Bool). x || y) (same-at p u r s) (chain-repeats k p (linkAt links p) us (omega arith) (omega arith) c))
+      ∙ ap₂ (λ (x y : Bool). x || y) (same-at p u r s) (chain-repeats k p (linkAt links (p / 4)) us (omega arith) (omega arith) c))
 
 -- ## The chains of all buckets
 
@@ -224,7 +225,7 @@ inBucket b [] = []
 inBucket b (u ∷ us) = if eqb (bucketOf u) b then u ∷ inBucket b us else inBucket b us
 
 pub Hung : List ℕ → List ℕ → ℕ → List Rule → Type 0
-Hung text links i us = (b : ℕ) → b < 2048 → Chain text links i (linkAt links (16384 + b)) (inBucket b us)
+Hung text links i us = (b : ℕ) → b < 2048 → Chain text links i (linkAt links (4096 + b)) (inBucket b us)
 
 any-bucket : (v : Rule) (us : List Rule) → any (λ u. sameLists u v) (inBucket (bucketOf v) us) ≡ any (λ u. sameLists u v) us
 unfolding any inBucket
@@ -244,12 +245,12 @@ module _ (text links : List ℕ) (i : ℕ) (us : List Rule) (short : length text
   unfolding isRepeat Hung
   repeat-is =
       rw (bucket-of raw v is-v)
-      (chain-repeats text links raw v is-v 16384 i (linkAt links (16384 + bucketOf v)) (inBucket (bucketOf v) us) (omega arith) within
+      (chain-repeats text links raw v is-v 16384 i (linkAt links (4096 + bucketOf v)) (inBucket (bucketOf v) us) (omega arith) within
       (hung (bucketOf v) (bucket-small v))
       ∙ any-bucket v us)
 
-  pub hung-more : length links ≡ 18432 → i < length text → rawAt text i ≡ raw → length (join raw) ≤ 2048
-      → Hung text (linked links i (join raw)) (suc i) (v ∷ us)
+  pub hung-more : length links ≡ 6144 → i < length text → rawAt text i ≡ raw → length (join raw) ≤ 2048
+      → Hung text (linked links i (join raw)) (i + 4) (v ∷ us)
   unfolding Hung linked inBucket
   hung-more long l is-raw fits b k = rw (bucket-of raw v is-v) (by (eqb (bucketOf v) b) refl)
     where
@@ -257,19 +258,19 @@ module _ (text links : List ℕ) (i : ℕ) (us : List Rule) (short : length text
       below = bucket-small v
 
       by : (x : Bool) → eqb (bucketOf v) b ≡ x
-          → Chain text (set (set links i (linkAt links (16384 + bucketOf v))) (16384 + bucketOf v) (i + 1)) (suc i)
-          (linkAt (set (set links i (linkAt links (16384 + bucketOf v))) (16384 + bucketOf v) (i + 1)) (16384 + b))
+          → Chain text (set (set links (i / 4) (linkAt links (4096 + bucketOf v))) (4096 + bucketOf v) (i + 1)) (i + 4)
+          (linkAt (set (set links (i / 4) (linkAt links (4096 + bucketOf v))) (4096 + bucketOf v) (i + 1)) (4096 + b))
           (if x then v ∷ inBucket b us else inBucket b us)
       by true e =
           let same : bucketOf v ≡ b = eqb-true (bucketOf v) b e in
-          let room : 16384 + bucketOf v < length (set links i (linkAt links (16384 + bucketOf v))) =
-          rw (length-set links i (linkAt links (16384 + bucketOf v)), long) (omega arith) in
-          let mine : linkAt (set (set links i (linkAt links (16384 + bucketOf v))) (16384 + bucketOf v) (i + 1)) i ≡ linkAt links (16384 + b) =
-          link-other (set links i (linkAt links (16384 + bucketOf v))) (16384 + bucketOf v) i (i + 1) (λ q. omega arith)
-          ∙ (link-same links i (linkAt links (16384 + bucketOf v)) (omega arith) (link-few links (16384 + bucketOf v)) ∙ rw same) in (
+          let room : 4096 + bucketOf v < length (set links (i / 4) (linkAt links (4096 + bucketOf v))) =
+          rw (length-set links (i / 4) (linkAt links (4096 + bucketOf v)), long) (omega arith) in
+          let mine : linkAt (set (set links (i / 4) (linkAt links (4096 + bucketOf v))) (4096 + bucketOf v) (i + 1)) (i / 4) ≡ linkAt links (4096 + b) =
+          link-other (set links (i / 4) (linkAt links (4096 + bucketOf v))) (4096 + bucketOf v) (i / 4) (i + 1) (λ q. omega arith)
+          ∙ (link-same links (i / 4) (linkAt links (4096 + bucketOf v)) (omega arith) (link-few links (4096 + bucketOf v)) ∙ rw same) in (
             i,
             (
-              rw (← same) (link-same (set links i (linkAt links (16384 + bucketOf v))) (16384 + bucketOf v) (i + 1) room (omega arith) ∙ add-one i),
+              rw (← same) (link-same (set links (i / 4) (linkAt links (4096 + bucketOf v))) (4096 + bucketOf v) (i + 1) room (omega arith) ∙ add-one i),
               (
                 omega arith,
                 (
@@ -277,9 +278,9 @@ module _ (text links : List ℕ) (i : ℕ) (us : List Rule) (short : length text
                   (
                     rw is-raw fits,
                     rw mine
-                        (chain-set text (set links i (linkAt links (16384 + bucketOf v))) i (linkAt links (16384 + b)) (inBucket b us) (16384 + bucketOf v)
+                        (chain-set text (set links (i / 4) (linkAt links (4096 + bucketOf v))) i (linkAt links (4096 + b)) (inBucket b us) (4096 + bucketOf v)
                         (i + 1) (omega arith)
-                        (chain-set text links i (linkAt links (16384 + b)) (inBucket b us) i (linkAt links (16384 + bucketOf v)) (omega arith) (hung b k))),
+                        (chain-set text links i (linkAt links (4096 + b)) (inBucket b us) (i / 4) (linkAt links (4096 + bucketOf v)) (omega arith) (hung b k))),
                   ),
                 ),
               ),
@@ -287,19 +288,19 @@ module _ (text links : List ℕ) (i : ℕ) (us : List Rule) (short : length text
           )
       by false e =
           rw (
-            link-other (set links i (linkAt links (16384 + bucketOf v))) (16384 + bucketOf v) (16384 + b) (i + 1)
+            link-other (set links (i / 4) (linkAt links (4096 + bucketOf v))) (4096 + bucketOf v) (4096 + b) (i + 1)
                 (λ q. eqb-false (bucketOf v) b e (omega arith)),
-            link-other links i (16384 + b) (linkAt links (16384 + bucketOf v)) (λ q. omega arith),
+            link-other links (i / 4) (4096 + b) (linkAt links (4096 + bucketOf v)) (λ q. omega arith),
           )
-          (chain-top text (set (set links i (linkAt links (16384 + bucketOf v))) (16384 + bucketOf v) (i + 1)) i (suc i) (linkAt links (16384 + b))
+          (chain-top text (set (set links (i / 4) (linkAt links (4096 + bucketOf v))) (4096 + bucketOf v) (i + 1)) i (i + 4) (linkAt links (4096 + b))
           (inBucket b us) (omega arith)
-          (chain-set text (set links i (linkAt links (16384 + bucketOf v))) i (linkAt links (16384 + b)) (inBucket b us) (16384 + bucketOf v) (i + 1)
+          (chain-set text (set links (i / 4) (linkAt links (4096 + bucketOf v))) i (linkAt links (4096 + b)) (inBucket b us) (4096 + bucketOf v) (i + 1)
           (omega arith)
-          (chain-set text links i (linkAt links (16384 + b)) (inBucket b us) i (linkAt links (16384 + bucketOf v)) (omega arith) (hung b k))))
+          (chain-set text links i (linkAt links (4096 + b)) (inBucket b us) (i / 4) (linkAt links (4096 + bucketOf v)) (omega arith) (hung b k))))
 
 pub hung-on : (text links : List ℕ) (i j : ℕ) (us : List Rule) → i ≤ j → Hung text links i us → Hung text links j us
 unfolding Hung
-hung-on text links i j us l h b k = chain-top text links i j (linkAt links (16384 + b)) (inBucket b us) l (h b k)
+hung-on text links i j us l h b k = chain-top text links i j (linkAt links (4096 + b)) (inBucket b us) l (h b k)
 
 -- ## What covers
 
@@ -348,7 +349,7 @@ marked-more marks ns n h l = record { long = length-set marks n 1 ∙ h .long; m
 length-linked : (links : List ℕ) (i : ℕ) (t : List ℕ) → length (linked links i t) ≡ length links
 unfolding linked
 length-linked links i t =
-    length-set (set links i (linkAt links (beginning t))) (beginning t) (i + 1) ∙ length-set links i (linkAt links (beginning t))
+    length-set (set links (i / 4) (linkAt links (beginning t))) (beginning t) (i + 1) ∙ length-set links (i / 4) (linkAt links (beginning t))
 
 -- ## The loop
 
@@ -358,12 +359,12 @@ pub record Marking (text marks links : List ℕ) (all : Bool) (i n : ℕ) : Type
   pub at : At text i n
   pub short : length text ≤ 16384
   pub marked : Marked marks done
-  pub long : length links ≡ 18432
+  pub long : length links ≡ 6144
   pub rest : proposal text ≡ done ++ coveredLines seen (logicalLines n i (split "\n" (drop i text)))
   pub hung : all ≡ false → Hung text links i seen
   pub all-is : all ≡ any matchesAll seen
 
-pub marking-start : (text : List ℕ) → length text ≤ 16384 → Sound text → Marking text (replicate 16385 0) (replicate 18432 0) false 0 1
+pub marking-start : (text : List ℕ) → length text ≤ 16384 → Sound text → Marking text (replicate 16385 0) (replicate 6144 0) false 0 1
 unfolding proposal Hung inBucket any
 marking-start text l s = record {
   seen = [];
@@ -371,14 +372,14 @@ marking-start text l s = record {
   at = at-start text s;
   short = l;
   marked = marked-start;
-  long = length-replicate {A = ℕ} 18432 0;
+  long = length-replicate {A = ℕ} 6144 0;
   rest = ap (coveredLines []) (lines-start text);
-  hung = λ e b k. sym (link-some (replicate 18432 0) (16384 + b) (omega (arith, zero-there b k))) ∙ zero-there b k;
+  hung = λ e b k. sym (link-some (replicate 6144 0) (4096 + b) (omega (arith, zero-there b k))) ∙ zero-there b k;
   all-is = refl;
 }
   where
-    zero-there : (b : ℕ) → b < 2048 → _≡_ {A = ℕ} (getD (replicate 18432 0) (16384 + b) 0) 0
-    zero-there b k = getD-replicate {A = ℕ} 18432 (16384 + b) 0 0 (omega arith)
+    zero-there : (b : ℕ) → b < 2048 → _≡_ {A = ℕ} (getD (replicate 6144 0) (4096 + b) 0) 0
+    zero-there b k = getD-replicate {A = ℕ} 6144 (4096 + b) 0 0 (omega arith)
 
 rule-some : (raw : List ℕ) (v : Rule) → ruleOf (line 0 0 raw true) ≡ some v → parseRule raw ≡ some v
 rule-some raw v e = by (isComment (line 0 0 raw true) || isBlank (line 0 0 raw true)) e
@@ -463,7 +464,7 @@ module _ (text marks links : List ℕ) (all : Bool) (i n : ℕ) (h : Marking tex
         long = length-linked links i (join raw) ∙ h .long;
         rest = rw e at (split-off false (covered-is ∙ c));
         hung = λ g.
-            hung-on text (linked links i (join raw)) (suc i) (r .end + 1) (v ∷ h .seen) (omega (arith, at-from text i n (h .at) l r is-r))
+            hung-on text (linked links i (join raw)) (i + 4) (r .end + 1) (v ∷ h .seen) (omega (arith, at-rule text i n (h .at) l r is-r v e))
             (hung-more text links i (h .seen) (h .short) (omega arith) (h .hung f) raw v is-v (h .long) l (at-raw text i n (h .at) l r is-r) fits);
         all-is = all-of raw v is-v ∙ (right (matchesAll v) ∙ ap (λ (b : Bool). matchesAll v || b) (sym f ∙ h .all-is));
       }
@@ -507,7 +508,7 @@ module _ (text marks links : List ℕ) (all : Bool) (i n : ℕ) (h : Marking tex
     pub marking-plain : r .joins ≡ 0 → join (take (r .end - i) (drop i text)) ≡ take (r .end - i) (drop i text)
     marking-plain e = join-line text i r is-r e
 
-    pub marking-long : (length marks ≡ 16385) × (length links ≡ 18432)
+    pub marking-long : (length marks ≡ 16385) × (length links ≡ 6144)
     marking-long = (h .marked .long, h .long)
 
     module _ (a : Bool) (m k : List ℕ) (is-a : a ≡ stepAll text links all raw) (is-m : m ≡ stepMarks text links all n raw marks)
@@ -528,14 +529,14 @@ module _ (text marks links : List ℕ) (all : Bool) (i n : ℕ) (h : Marking tex
 
 -- ## One rule
 
-pub second-write : (links : List ℕ) (i x b : ℕ) → length links ≡ 18432 → b < 2048 → 16384 + b < length (set links i x)
+pub second-write : (links : List ℕ) (i x b : ℕ) → length links ≡ 6144 → b < 2048 → 4096 + b < length (set links i x)
 second-write links i x b e l = rw (length-set links i x, e) (omega arith)
 
-module _ (text links marks t : List ℕ) (i n b : ℕ) (is-b : b ≡ bucketText t) (f : ℕ) (is-f : f ≡ linkAt links (16384 + b)) (x : Bool)
+module _ (text links marks t : List ℕ) (i n b : ℕ) (is-b : b ≡ bucketText t) (f : ℕ) (is-f : f ≡ linkAt links (4096 + b)) (x : Bool)
     (is-x : x ≡ repeats text links 16384 f t) where
   repeat-by : x ≡ isRepeat text links t
   unfolding isRepeat
-  repeat-by = is-x ∙ ap (λ (k : ℕ). repeats text links 16384 k t) (is-f ∙ ap (λ (k : ℕ). linkAt links (16384 + k)) is-b)
+  repeat-by = is-x ∙ ap (λ (k : ℕ). repeats text links 16384 k t) (is-f ∙ ap (λ (k : ℕ). linkAt links (4096 + k)) is-b)
 
   module _ (e : x ≡ true) where
     pub repeat-all : false ≡ ruleAll text links t
@@ -559,7 +560,7 @@ module _ (text links marks t : List ℕ) (i n b : ℕ) (is-b : b ≡ bucketText 
     unfolding ruleMarks
     new-marks = rw (← repeat-by, e)
 
-    pub new-links : set (set links i f) (16384 + b) (i + 1) ≡ ruleLinks text links i t
+    pub new-links : set (set links (i / 4) f) (4096 + b) (i + 1) ≡ ruleLinks text links i t
     unfolding ruleLinks linked
     new-links = rw (← repeat-by, e, is-f, is-b)
 

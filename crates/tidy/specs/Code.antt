@@ -9,7 +9,7 @@
 --   Marked marks ns          == the lines ns, and they alone, are marked
 --   keptBytes marks ls       == the bytes of the lines that are not named
 -- Assumes nothing: these are definitions.
-use Prim.Native.Nat.{ℕ, zero, suc, _+_, _-_, _*_, _%_, _≤_, _<_}
+use Prim.Native.Nat.{ℕ, zero, suc, _+_, _-_, _*_, _%_, _≤_, _<_, _/_}
 use mathlib.Core.Bool.{Bool, true, false, not, _&&_, _||_}
 use mathlib.Core.List.{List, [], _∷_, _++_, flatMap}
 use mathlib.Core.Option.{Option, none, some}
@@ -104,22 +104,22 @@ sameAt text p t = leb (length (join (rawAt text p))) 2048 && sameText (join (raw
 unfoldable pub linkAt : List ℕ → ℕ → ℕ
 linkAt links i = if ltb 16384 (getD links i 0) then 0 else getD links i 0
 
--- a chain ends at 0; what follows a place stands in links at that place
+-- a chain ends at 0; what follows a place stands in links at its quarter, as no two rules stand nearer than four bytes
 unfoldable pub repeats : List ℕ → List ℕ → ℕ → ℕ → List ℕ → Bool
 repeats text links zero h t = false
 repeats text links (suc k) h t =
     if eqb h 0 || ltb (length text) h then false
-    else (sameAt text (h - 1) t || repeats text links k (linkAt links (h - 1)) t)
+    else (sameAt text (h - 1) t || repeats text links k (linkAt links ((h - 1) / 4)) t)
 
 -- behind the places stand the chains' beginnings, one for each bucket
 abbrev pub beginning : List ℕ → ℕ
-beginning t = 16384 + bucketText t
+beginning t = 4096 + bucketText t
 
 unfoldable pub isRepeat : List ℕ → List ℕ → List ℕ → Bool
 isRepeat text links t = repeats text links 16384 (linkAt links (beginning t)) t
 
 unfoldable pub linked : List ℕ → ℕ → List ℕ → List ℕ
-linked links i t = set (set links i (linkAt links (beginning t))) (beginning t) (i + 1)
+linked links i t = set (set links (i / 4) (linkAt links (beginning t))) (beginning t) (i + 1)
 
 -- ## A step
 

@@ -1,4 +1,5 @@
-// The lines that an earlier rule covers, found in one pass over a text. Rules that were seen hang in chains, one for each bucket.
+// The lines that an earlier rule covers, found in one pass over a text. Rules that were seen hang in chains, one for each bucket;
+// a rule takes four bytes at least, so a quarter of its place tells it from the others.
 //   covered_lines(text) == a mark for each line, by its number
 ghost use mathlib.Core.Path.{_≡_};
 ghost use Prim.Native.Nat.{_≤_, _<_};
@@ -71,7 +72,7 @@ fn link_at(links: &[u16], i: usize) -> usize
 
 // Whether a rule of a chain has the lists of the joined line t.
 fn is_repeated(text: &[u8], links: &[u16], first: usize, t: &[u8]) -> bool
-    requires { ⌜ length (now text) ≤ length (now links) ⌝ }
+    requires { ⌜ (length (now text) ≤ 16384) × (4096 ≤ length (now links)) ⌝ }
     ensures { λ r. ⌜ r ≡ repeats (now (text .entry)) (now (links .entry)) 16384 first (now (t .entry)) ⌝ }
 {
     let mut at = first;
@@ -87,7 +88,7 @@ fn is_repeated(text: &[u8], links: &[u16], first: usize, t: &[u8]) -> bool
         if is_same_at(text, place, t) {
             return true;
         }
-        at = link_at(links, place);
+        at = link_at(links, place / 4);
         left -= 1;
     }
     false
@@ -96,18 +97,18 @@ fn is_repeated(text: &[u8], links: &[u16], first: usize, t: &[u8]) -> bool
 // The step over a rule at i, of number n, joined: it is marked, or hung into its chain. Whether it is hung and matches all.
 fn note_rule(marks: &mut [u8], links: &mut [u16], text: &[u8], i: usize, n: usize, t: &[u8]) -> bool
     requires { ⌜ (length (now marks) ≡ 16385) × (n < 16385) ⌝ }
-    requires { ⌜ (length (now links) ≡ 18432) × ((length (now text) ≤ 16384) × (i < length (now text))) ⌝ }
+    requires { ⌜ (length (now links) ≡ 6144) × ((length (now text) ≤ 16384) × (i < length (now text))) ⌝ }
     ensures answer { λ r. ⌜ r ≡ ruleAll (now (text .entry)) (now (links .entry)) (now (t .entry)) ⌝ }
     ensures marked { λ _. ⌜ now (marks .exit) ≡ ruleMarks (now (text .entry)) (now (links .entry)) n (now (t .entry)) (now (marks .entry)) ⌝ }
     ensures hung { λ _. ⌜ now (links .exit) ≡ ruleLinks (now (text .entry)) (now (links .entry)) i (now (t .entry)) ⌝ }
 {
-    let b = 16384 + bucket(t);
+    let b = 4096 + bucket(t);
     let first = link_at(links, b);
     if is_repeated(text, links, first, t) {
         marks[n] = 1;
         return false;
     }
-    links[i] = first as u16;
+    links[i / 4] = first as u16;
     links[b] = (i + 1) as u16;
     matches_all(t)
 }
@@ -122,7 +123,7 @@ fn note_joined(
     raw: &[u8],
 ) -> bool
     requires { ⌜ (length (now marks) ≡ 16385) × (n < 16385) ⌝ }
-    requires { ⌜ (length (now links) ≡ 18432) × ((length (now text) ≤ 16384) × (i < length (now text))) ⌝ }
+    requires { ⌜ (length (now links) ≡ 6144) × ((length (now text) ≤ 16384) × (i < length (now text))) ⌝ }
     requires { ⌜ length (join (now raw)) ≤ 2048 ⌝ }
     ensures answer { λ r. ⌜ r ≡ ruleAll (now (text .entry)) (now (links .entry)) (join (now (raw .entry))) ⌝ }
     ensures marked { λ _. ⌜ now (marks .exit) ≡ ruleMarks (now (text .entry)) (now (links .entry)) n (join (now (raw .entry))) (now (marks .entry)) ⌝ }
@@ -145,7 +146,7 @@ fn step(
     joins: usize,
 ) -> bool
     requires { ⌜ (length (now marks) ≡ 16385) × (n < 16385) ⌝ }
-    requires { ⌜ (length (now links) ≡ 18432) × ((length (now text) ≤ 16384) × (i < length (now text))) ⌝ }
+    requires { ⌜ (length (now links) ≡ 6144) × ((length (now text) ≤ 16384) × (i < length (now text))) ⌝ }
     requires { ⌜ (length (join (now raw)) ≤ 2048) × (joins ≡ 0 → join (now raw) ≡ now raw) ⌝ }
     ensures answer { λ r. ⌜ r ≡ stepAll (now (text .entry)) (now (links .entry)) all (now (raw .entry)) ⌝ }
     ensures marked { λ _. ⌜ now (marks .exit) ≡ stepMarks (now (text .entry)) (now (links .entry)) all n (now (raw .entry)) (now (marks .entry)) ⌝ }
@@ -170,7 +171,7 @@ pub(crate) fn covered_lines(text: &[u8]) -> [u8; 16385]
     ensures { λ r. ⌜ Marked r (proposal (now (text .entry))) ⌝ }
 {
     let mut marks = [0u8; 16385];
-    let mut links = [0u16; 18432];
+    let mut links = [0u16; 6144];
     let mut i = 0;
     let mut n = 1;
     let mut all = false;
