@@ -126,7 +126,7 @@ enum gate_section {
  * expansion or an address stay under 5,000. It was found in two ways: tests/stack.py adds up the frames of the archive's functions along the
  * deepest path of calls, for any input, and tests/stack.c paints the stack of a thread whose whole stack is this, and makes every call on the
  * worst inputs known; some 107,800 by these. The margin also covers the first call of memcpy through a dynamic linker (some 3,000). */
-#define GATE_STACK 131072
+#define GATE_STACK 98304
 
 /* Words of a decision. */
 enum gate_word {

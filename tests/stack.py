@@ -26,7 +26,7 @@ def macro(name):
 LEVELS = 1 + macro("GATE_LINE_LIMIT") // len("a EXCEPT ")
 # one for each depth that a rule may lead to, and one for none
 DEPTHS = 5
-RECURSIVE = {"lists::walk::clients_included": LEVELS, "lists::walk::daemons_included": LEVELS, "views::level::raised": DEPTHS, "views::deep_notes": DEPTHS}
+RECURSIVE = {"lists::walk::clients_included": LEVELS, "lists::walk::daemons_included": LEVELS, "views::level::raised": DEPTHS}
 
 
 # a frame of many pages is taken page by page, in a loop: it is read as taken at once
