@@ -8,7 +8,7 @@ use mathlib.Core.Path.{_≡_, refl, sym, ap, _∙_}
 use native.Mathlib.Omega.{arith}
 use lib.Dec.{leb}
 use lib.ListN.{length, take, drop}
-use Rattle.text.specs.Basics.{_>>=_, _orElse_, holds, isSome, any}
+use Rattle.text.specs.Basics.{if_then_else_, _>>=_, _orElse_, holds, isSome, any}
 use Rattle.text.specs.Text.{bytes, splitOnce}
 use Rattle.text.specs.Number.{readDecimal}
 use Rattle.text.specs.Scan.{indexOf, asNumber}
@@ -23,12 +23,13 @@ use Rattle.address.specs.declared.Addr.the-variants as A
 use Rattle.address.specs.declared.read.V6Read.{V6Read}
 use Rattle.address.specs.declared.read.V6Read.the-variants as W
 use Rattle.byuid.specs.Byuid.{Range, readRange, readNet, readPort, readCommaForm, readColonForm, within, lineGrants, isRetired}
-use Rattle.byuid.specs.Code.{readerOf, inside, insideBoth, membership, bothOf, betweenOf, endsOf, netFrom, portsOf, inOrder, heldOf, lookOf}
+use Rattle.byuid.specs.Code.{readerOf, inside, insideBoth, membership, bothOf, betweenOf, endsOf, netFrom, portsOf, inOrder, formOf, saidOf, lookOf}
 use Rattle.byuid.specs.declared.line.Kind.the-variants as K
+use Rattle.byuid.specs.declared.line.Looked.{Looked}
 use Rattle.byuid.specs.declared.line.Looked.the-variants as L
 use Rattle.byuid.specs.declared.line.Membership.{Membership}
 use Rattle.byuid.specs.declared.line.Membership.the-variants as H
-use Rattle.byuid.proofs.FormLaws.{retired-no-comma-v4, retired-no-comma-v6}
+use Rattle.byuid.proofs.FormLaws.{v6-none, slash-range, index-free, colon-comma-form, retired-no-comma-v4, retired-no-comma-v6}
 use Rattle.byuid.proofs.NumberLaws.{asV6-none, asV6-some, range, alone-held}
 
 -- what the code lends of a text around a mark at i
@@ -36,7 +37,7 @@ abbrev pub rest : List ℕ → ℕ → List ℕ
 rest s i = take (length s - (i + 1)) (drop (i + 1) s)
 
 -- a number of one word
-one-word : (n : ℕ) → 0 * 2 ^ 64 + n ≡ n
+pub one-word : (n : ℕ) → 0 * 2 ^ 64 + n ≡ n
 one-word n = omega arith
 
 -- ## Answers
@@ -44,28 +45,11 @@ one-word n = omega arith
 pub both-is : (x y : Membership) (a b : Bool) → x ≡ H.Is a → y ≡ H.Is b → H.Is (a && b) ≡ bothOf x y
 both-is x y a b e f = rw (e, f)
 
-module _ {A : Type 0} (p : A → Bool) (o q : Option A) (h : Membership) (is-h : h ≡ membership p o) where
-  pub or-nothing : h ≡ H.Nothing → (r : Membership) → r ≡ membership p q → r ≡ membership p (o orElse q)
-  unfolding membership
-  or-nothing e r f = by o (sym is-h ∙ e)
-    where
-      by : (o : Option A) → membership p o ≡ H.Nothing → r ≡ membership p (o orElse q)
-      by none z = f
-      by (some x) z = let z : _≡_ {A = ℕ} 0 1 = cc in absurd (omega arith)
-
-  pub or-is : (b : Bool) → h ≡ H.Is b → h ≡ membership p (o orElse q)
-  unfolding membership
-  or-is b e = is-h ∙ by o (sym is-h ∙ e)
-    where
-      by : (o : Option A) → membership p o ≡ H.Is b → membership p o ≡ membership p (o orElse q)
-      by none z = let z : _≡_ {A = ℕ} 0 1 = cc in absurd (omega arith)
-      by (some x) z = refl
-
 abbrev ranges : Range → Range → Option (Range × Range)
 ranges x y = some (x, y)
 
 -- two ranges, both read
-both-held : (a p : ℕ) (o q : Option Range) → bothOf (membership (inside a) o) (membership (inside p) q)
+pub both-held : (a p : ℕ) (o q : Option Range) → bothOf (membership (inside a) o) (membership (inside p) q)
     ≡ membership (insideBoth a p) (o >>= λ x. q >>= λ y. ranges x y)
 unfolding membership insideBoth
 both-held a p none q = refl
@@ -108,45 +92,57 @@ module _ (w : ℕ) (f : List ℕ → Option ℕ) (s : List ℕ) (i : ℕ) (is-i 
     unfolding readNet netFrom
     word-mark a e r q = q ∙ rw (take-rest s (i + 1), splitOnce-mark 47 s i is-i h, asNumber-some (f (take i s)) a (sym is-v ∙ e))
 
--- a net is read where no range was
-module _ (s : List ℕ) (a : ℕ) (h : Membership) (is-h : h ≡ membership (inside (0 * 2 ^ 64 + a)) (readRange (readerOf K.V4) s)) where
-  range-v4 : h ≡ membership (inside a) (readRange readV4 s)
-  unfolding readerOf
-  range-v4 = rw (one-word a) at is-h
+-- of addresses with a slash only a net is read, and of others only a range
+module _ (s : List ℕ) (i : ℕ) (is-i : i ≡ indexOf 47 s) (n : ℕ) where
+  pub range-v6 : length s ≤ i → (r : Membership) → r ≡ membership (inside n) (readRange (readerOf K.V6) s)
+      → r ≡ membership (inside n) (readRange readV6 s orElse readNet 128 readV6 s)
+  unfolding readerOf readNet
+  range-v6 h r e = e ∙ rw (splitOnce-no-mark 47 s i is-i h) (by (readRange readV6 s))
+    where
+      by : (o : Option Range) → membership (inside n) o ≡ membership (inside n) (o orElse none)
+      by none = refl
+      by (some g) = refl
 
-  pub net-v4 : h ≡ H.Nothing → (r : Membership) → r ≡ membership (inside a) (readNet 32 readV4 s) → r
-      ≡ membership (inside a) (readRange readV4 s orElse readNet 32 readV4 s)
-  net-v4 = or-nothing (inside a) (readRange readV4 s) (readNet 32 readV4 s) h range-v4
+  module _ (h : i < length s) (v : V6Read) (is-v : v ≡ asV6 (readV6 (take i s))) where
+    only-net : readRange readV6 s ≡ none
+    only-net = slash-range readV6 v6-none s (take i s) (drop (i + 1) s) (splitOnce-mark 47 s i is-i h)
 
-  pub range-v4-is : (b : Bool) → h ≡ H.Is b → h ≡ membership (inside a) (readRange readV4 s orElse readNet 32 readV4 s)
-  range-v4-is = or-is (inside a) (readRange readV4 s) (readNet 32 readV4 s) h range-v4
+    pub net-v6-nothing : v ≡ W.Nothing → H.Nothing ≡ membership (inside n) (readRange readV6 s orElse readNet 128 readV6 s)
+    net-v6-nothing e = rw only-net (net-nothing 128 readV6 s i is-i n h v is-v e)
 
-module _ (s : List ℕ) (a : ℕ) (h : Membership) (is-h : h ≡ membership (inside a) (readRange (readerOf K.V6) s)) where
-  range-v6 : h ≡ membership (inside a) (readRange readV6 s)
-  unfolding readerOf
-  range-v6 = is-h
-
-  pub net-v6 : h ≡ H.Nothing → (r : Membership) → r ≡ membership (inside a) (readNet 128 readV6 s)
-      → r ≡ membership (inside a) (readRange readV6 s orElse readNet 128 readV6 s)
-  net-v6 = or-nothing (inside a) (readRange readV6 s) (readNet 128 readV6 s) h range-v6
-
-  pub range-v6-is : (b : Bool) → h ≡ H.Is b → h ≡ membership (inside a) (readRange readV6 s orElse readNet 128 readV6 s)
-  range-v6-is = or-is (inside a) (readRange readV6 s) (readNet 128 readV6 s) h range-v6
+    pub net-v6 : (a b : ℕ) → v ≡ W.Value a b → (r : Membership) → r ≡ membership (inside n) (netFrom 128 (a * 2 ^ 64 + b) (rest s i))
+        → r ≡ membership (inside n) (readRange readV6 s orElse readNet 128 readV6 s)
+    net-v6 a b e r q = rw only-net (net-mark 128 readV6 s i is-i n h v is-v a b e r q)
 
 -- ## Forms
 
-module _ (w : ℕ) (f : List ℕ → Option ℕ) (l : List ℕ) (i : ℕ) (is-i : i ≡ indexOf 44 l) (a p : ℕ) where
-  pub comma-no-mark : length l ≤ i → H.Nothing ≡ membership (insideBoth a p) (readCommaForm w f l)
-  unfolding readCommaForm membership
-  comma-no-mark h = rw (splitOnce-no-mark 44 l i is-i h)
+abbrev pub addressesOf : ℕ → (List ℕ → Option ℕ) → List ℕ → Option Range
+addressesOf w f t = readRange f t orElse readNet w f t
 
-  pub comma-mark : i < length l → (x y r : Membership) → x ≡ membership (inside a) (readRange f (take i l) orElse readNet w f (take i l))
-      → y ≡ membership (inside (0 * 2 ^ 64 + p)) (readRange (readerOf K.Port) (rest l i)) → r ≡ bothOf x y → r
-      ≡ membership (insideBoth a p) (readCommaForm w f l)
-  unfolding readCommaForm readerOf
-  comma-mark h x y r is-x is-y e =
-      e ∙ rw (is-x, is-y, one-word p, take-rest l (i + 1), splitOnce-mark 44 l i is-i h)
-      (both-held a p (readRange f (take i l) orElse readNet w f (take i l)) (readRange readPort (drop (i + 1) l)))
+pub comma-form : (w : ℕ) (f : List ℕ → Option ℕ) (l : List ℕ) → formOf (addressesOf w f) l ≡ readCommaForm w f l
+unfolding formOf readCommaForm
+comma-form w f l = refl
+
+module _ (l : List ℕ) (i : ℕ) (is-i : i ≡ indexOf 44 l) (a p : ℕ) where
+  module _ (f : List ℕ → Option Range) where
+    pub form-no-mark : length l ≤ i → H.Nothing ≡ membership (insideBoth a p) (formOf f l)
+    unfolding formOf membership
+    form-no-mark h = rw (splitOnce-no-mark 44 l i is-i h)
+
+    pub form-mark : i < length l → (x y r : Membership) → x ≡ membership (inside a) (f (take i l))
+        → y ≡ membership (inside (0 * 2 ^ 64 + p)) (readRange (readerOf K.Port) (rest l i)) → r ≡ bothOf x y → r ≡ membership (insideBoth a p) (formOf f l)
+    unfolding formOf readerOf
+    form-mark h x y r is-x is-y e =
+        e ∙ rw (is-x, is-y, one-word p, take-rest l (i + 1), splitOnce-mark 44 l i is-i h) (both-held a p (f (take i l)) (readRange readPort (drop (i + 1) l)))
+
+  module _ (w : ℕ) (f : List ℕ → Option ℕ) where
+    pub comma-no-mark : length l ≤ i → H.Nothing ≡ membership (insideBoth a p) (readCommaForm w f l)
+    comma-no-mark h = form-no-mark (addressesOf w f) h ∙ ap (membership (insideBoth a p)) (comma-form w f l)
+
+    pub comma-mark : i < length l → (x y r : Membership) → x ≡ membership (inside a) (readRange f (take i l) orElse readNet w f (take i l))
+        → y ≡ membership (inside (0 * 2 ^ 64 + p)) (readRange (readerOf K.Port) (rest l i)) → r ≡ bothOf x y → r
+        ≡ membership (insideBoth a p) (readCommaForm w f l)
+    comma-mark h x y r is-x is-y e = form-mark (addressesOf w f) h x y r is-x is-y e ∙ ap (membership (insideBoth a p)) (comma-form w f l)
 
 -- ## The retired form
 
@@ -233,35 +229,11 @@ module _ (l : List ℕ) (i : ℕ) (is-i : i ≡ indexOf 58 l) where
 
 -- ## Lines
 
-module _ (addr : Addr) (p : ℕ) (l : List ℕ) where
-  pub held-unknown : addr ≡ A.Unknown → H.Nothing ≡ heldOf addr p l
-  unfolding heldOf
-  held-unknown e = rw e
-
-  module _ (r : Membership) where
-    pub held-v4 : (n : ℕ) → addr ≡ A.V4 n → r ≡ membership (insideBoth n p) (readCommaForm 32 readV4 l) → r ≡ heldOf addr p l
-    unfolding heldOf
-    held-v4 n e f = f ∙ rw e
-
-    pub held-v6 : (a b : ℕ) → addr ≡ A.V6 a b → r ≡ membership (insideBoth (a * 2 ^ 64 + b) p) (readCommaForm 128 readV6 l) → r ≡ heldOf addr p l
-    unfolding heldOf
-    held-v6 a b e f = f ∙ rw e
-
 -- what a form that was read says of the request
 within-is : (p n : ℕ) (o : Option (Range × Range)) (b : Bool) → membership (insideBoth n p) o ≡ H.Is b → b ≡ within p o n
 unfolding membership insideBoth inside
 within-is p n none b e = let z : _≡_ {A = ℕ} 0 1 = cc in absurd (omega arith)
 within-is p n (some g) b e = cc
-
-within-nothing : (p n : ℕ) (o : Option (Range × Range)) → membership (insideBoth n p) o ≡ H.Nothing → false ≡ within p o n
-unfolding membership
-within-nothing p n none e = refl
-within-nothing p n (some g) e = let z : _≡_ {A = ℕ} 0 1 = cc in absurd (omega arith)
-
-is-not-none : (p n : ℕ) (o : Option (Range × Range)) (b : Bool) → membership (insideBoth n p) o ≡ H.Is b → o ≡ none → ⊥
-unfolding membership
-is-not-none p n none b e q = let z : _≡_ {A = ℕ} 0 1 = cc in omega arith
-is-not-none p n (some g) b e q = let z : _≡_ {A = ℕ} 0 1 = cc in omega arith
 
 not-retired : (l : List ℕ) → (isRetired l ≡ true → ⊥) → isRetired l ≡ false
 not-retired l n = by (isRetired l) n
@@ -270,34 +242,46 @@ not-retired l n = by (isRetired l) n
     by true n = absurd (n refl)
     by false n = refl
 
-module _ (a : Addr) (p : ℕ) (l : List ℕ) (h : Membership) (is-h : h ≡ heldOf a p l) where
-  -- a line of a form that grants is not of the retired one
-  pub look-is : (b : Bool) → h ≡ H.Is b → L.Grants b ≡ lookOf a p l
-  unfolding heldOf lookOf lineGrants
-  look-is b e = by a (sym is-h ∙ e)
-    where
-      by : (a : Addr) → heldOf a p l ≡ H.Is b → L.Grants b ≡ lookOf a p l
-      by A.Unknown k = let z : _≡_ {A = ℕ} 0 1 = cc in absurd (omega arith)
-      by (A.V4 n) k =
-          rw (not-retired l (λ t. is-not-none p n (readCommaForm 32 readV4 l) b k (retired-no-comma-v4 l t)))
-          (ap L.Grants (within-is p n (readCommaForm 32 readV4 l) b k))
-      by (A.V6 x y) k =
-          rw (not-retired l (λ t. is-not-none p (x * 2 ^ 64 + y) (readCommaForm 128 readV6 l) b k (retired-no-comma-v6 l t)))
-          (ap L.Grants (within-is p (x * 2 ^ 64 + y) (readCommaForm 128 readV6 l) b k))
+module _ (l : List ℕ) (h : Membership) where
+  pub said-is : (b : Bool) → h ≡ H.Is b → L.Grants b ≡ saidOf h l
+  said-is b e = rw e
 
   module _ (e : h ≡ H.Nothing) (x : Bool) (is-x : x ≡ isRetired l) where
-    pub look-retired : x ≡ true → L.Retired ≡ lookOf a p l
-    unfolding lookOf
-    look-retired f = rw (← is-x, f)
+    pub said-retired : x ≡ true → L.Retired ≡ saidOf h l
+    said-retired f = rw (e, ← is-x, f)
 
-    pub look-nothing : x ≡ false → L.Grants false ≡ lookOf a p l
-    unfolding lookOf heldOf lineGrants
-    look-nothing f = rw (← is-x, f) (ap L.Grants (by a (sym is-h ∙ e)))
-      where
-        by : (a : Addr) → heldOf a p l ≡ H.Nothing → false ≡ lineGrants a p l
-        by A.Unknown k = refl
-        by (A.V4 n) k = within-nothing p n (readCommaForm 32 readV4 l) k
-        by (A.V6 x y) k = within-nothing p (x * 2 ^ 64 + y) (readCommaForm 128 readV6 l) k
+    pub said-nothing : x ≡ false → L.Grants false ≡ saidOf h l
+    said-nothing f = rw (e, ← is-x, f)
+
+-- a line of a form that grants is not of the retired one
+said-look : (p n : ℕ) (l : List ℕ) (o : Option (Range × Range)) → (isRetired l ≡ true → o ≡ none)
+    → saidOf (membership (insideBoth n p) o) l ≡ (if isRetired l then L.Retired else L.Grants (within p o n))
+unfolding membership
+said-look p n l none f = refl
+said-look p n l (some g) f =
+    rw (not-retired l (λ t. let z : _≡_ {A = ℕ} 0 1 = cc (f t) in omega arith)) (ap L.Grants (within-is p n (some g) (insideBoth n p g) refl))
+
+module _ (p : ℕ) (l : List ℕ) (r : Looked) where
+  pub look-unknown : (addr : Addr) → addr ≡ A.Unknown → r ≡ saidOf H.Nothing l → r ≡ lookOf addr p l
+  unfolding lookOf lineGrants
+  look-unknown addr e q = q ∙ rw e
+
+  module _ (h : Membership) (is-r : r ≡ saidOf h l) where
+    pub look-v4 : (addr : Addr) (n : ℕ) → addr ≡ A.V4 n → h ≡ membership (insideBoth n p) (readCommaForm 32 readV4 l) → r ≡ lookOf addr p l
+    unfolding lookOf lineGrants
+    look-v4 addr n e is-h = is-r ∙ rw (is-h, e) (said-look p n l (readCommaForm 32 readV4 l) (retired-no-comma-v4 l))
+
+    pub look-colon : (a b : ℕ) → h ≡ membership (insideBoth (a * 2 ^ 64 + b) p) (readCommaForm 128 readV6 l) → r ≡ lookOf (A.V6 a b) p l
+    unfolding lookOf lineGrants
+    look-colon a b is-h = is-r ∙ rw is-h (said-look p (a * 2 ^ 64 + b) l (readCommaForm 128 readV6 l) (retired-no-comma-v6 l))
+
+  pub look-v6 : (addr : Addr) (a b : ℕ) → addr ≡ A.V6 a b → r ≡ lookOf (A.V6 a b) p l → r ≡ lookOf addr p l
+  look-v6 addr a b e q = q ∙ rw e
+
+-- a line without a colon is neither of the retired form nor grants to an IPv6 address
+pub look-no-colon : (p a b : ℕ) (l : List ℕ) (i : ℕ) → i ≡ indexOf 58 l → length l ≤ i → L.Grants false ≡ lookOf (A.V6 a b) p l
+unfolding lookOf lineGrants
+look-no-colon p a b l i is-i h = rw (← (retired-no-mark l i is-i h), colon-comma-form l (index-free 58 l (rw is-i at h)))
 
 -- a line of no bytes
 pub grants-nil : (addr : Addr) (p : ℕ) → lineGrants addr p [] ≡ false

@@ -8,7 +8,10 @@
 --   endsOf f x y         == the range from what x writes to what y writes
 --   netFrom w n t        == the net of n, of w bits, whose length t writes
 --   portsOf t            == the ports `pmin,pmax`; inOrder g == a range whose min is not over its max
---   heldOf a p l         == whether the line l, of a form that grants, holds the port p at the address a
+--   frontV4 s            == the IPv4 address that the digits and dots at the front of s write; addressEnd s == the place after them
+--   rangeFrom f n t      == the range from n to what t writes
+--   formOf f t           == what f reads before the first comma of t, and the ports after it
+--   saidOf h l           == what the line l says, where h tells what it holds as one of a form that grants
 --   lookOf a p l         == what the line l says of the port p at the address a
 --   walk a p n g ls      == what the walk over the lines ls, the first of number n, finds, where g says whether a line before grants
 --   searchedFor m p a uid == the address that the lines of a file are held against
@@ -20,9 +23,11 @@ use mathlib.Core.Bool.{Bool, false, not, _&&_, _||_}
 use mathlib.Core.List.{List, [], _∷_}
 use mathlib.Core.Option.{Option, none, some}
 use lib.Dec.{eqb, leb}
+use lib.ListN.{take}
 use Rattle.text.specs.Basics.{if_then_else_, _>>=_, given}
-use Rattle.text.specs.Text.{bytes, splitOnce, inRange}
+use Rattle.text.specs.Text.{bytes, splitOnce, inRange, isDigit}
 use Rattle.text.specs.Number.{readDecimal}
+use Rattle.text.specs.Scan.{spanLen}
 use Rattle.text.specs.declared.NumberRead.{NumberRead}
 use Rattle.text.specs.declared.NumberRead.the-variants as N
 use Rattle.section.specs.declared.Fault.the-variants as F
@@ -33,11 +38,13 @@ use Rattle.address.specs.declared.Addr.the-variants as A
 use Rattle.address.specs.Address.{addrCase, readV4, readV6}
 use Rattle.address.specs.declared.read.V6Read.{V6Read}
 use Rattle.address.specs.declared.read.V6Read.the-variants as W
-use Rattle.byuid.specs.Byuid.{Range, readPort, readCommaForm, lineGrants, isRetired, isRuled, inSpan}
+use Rattle.byuid.specs.Byuid.{Range, readRange, readPort, lineGrants, isRetired, isRuled, inSpan}
 use Rattle.byuid.specs.declared.Checked.{Checked}
 use Rattle.byuid.specs.declared.Checked.the-variants as C
 use Rattle.byuid.specs.declared.Decision.{Decision}
 use Rattle.byuid.specs.declared.Decision.the-variants.{NotRuled, Granted, NoLine}
+use Rattle.byuid.specs.declared.line.Front.{Front}
+use Rattle.byuid.specs.declared.line.Front.the-variants as T
 use Rattle.byuid.specs.declared.line.Kind.{Kind}
 use Rattle.byuid.specs.declared.line.Kind.the-variants as K
 use Rattle.byuid.specs.declared.line.Looked.{Looked}
@@ -109,11 +116,36 @@ portsOf t = do
 unfoldable pub inOrder : Range → Bool
 inOrder g = leb (g .0) (g .1)
 
+-- ## The address at the front of a text
+
+unfoldable pub fieldByte : ℕ → Bool
+fieldByte b = isDigit b || eqb b 46
+
+unfoldable pub addressEnd : List ℕ → ℕ
+addressEnd s = spanLen fieldByte s
+
+abbrev pub asFront : ℕ → Option ℕ → Front
+asFront i none = T.Nothing
+asFront i (some n) = T.Address n i
+
+unfoldable pub frontV4 : List ℕ → Front
+frontV4 s = asFront (addressEnd s) (readV4 (take (addressEnd s) s))
+
 -- ## Lines
 
-unfoldable pub heldOf : Addr → ℕ → List ℕ → Membership
-heldOf a p l =
-    addrCase a H.Nothing (λ n. membership (insideBoth n p) (readCommaForm 32 readV4 l)) (λ n. membership (insideBoth n p) (readCommaForm 128 readV6 l))
+unfoldable pub rangeFrom : (List ℕ → Option ℕ) → ℕ → List ℕ → Option Range
+rangeFrom f n t = f t >>= λ m. some (n, m)
+
+unfoldable pub formOf : (List ℕ → Option Range) → List ℕ → Option (Range × Range)
+formOf f t = do
+  p ← splitOnce (bytes ",") t
+  a ← f (p .0)
+  b ← readRange readPort (p .1)
+  some (a, b)
+
+abbrev pub saidOf : Membership → List ℕ → Looked
+saidOf (H.Is b) l = L.Grants b
+saidOf H.Nothing l = if isRetired l then L.Retired else L.Grants false
 
 unfoldable pub lookOf : Addr → ℕ → List ℕ → Looked
 lookOf a p l = if isRetired l then L.Retired else L.Grants (lineGrants a p l)

@@ -2,6 +2,9 @@
 //   look(l, addr, port) == the line l is of the retired form, or else whether it grants the port at the address
 //   is_retired(l)       == the line l is one that the form addr4/len:pmin,pmax used to accept
 use address::Addr;
+use address::fields::Run;
+use address::fields::ended_address;
+use address::fields::run_over;
 use address::prefix::clear_beyond_v4;
 use address::prefix::clear_beyond_v6;
 use address::prefix::same_prefix_v4;
@@ -16,9 +19,10 @@ ghost use lib.Dec.{leb};
 ghost use Rattle.text.specs.Basics.{_orElse_, holds};
 ghost use Rattle.address.specs.Address.{readV4, readV6};
 ghost use Rattle.address.specs.Code.{asV6};
+ghost use Rattle.address.specs.declared.Addr.the-variants.{V6};
 ghost use Rattle.byuid.specs.Byuid.{readRange, readNet, readCommaForm, isRetired};
 ghost use Rattle.byuid.specs.Code.{readerOf, wideOf, inside, insideBoth, membership, bothOf, betweenOf, endsOf, netFrom, portsOf, inOrder};
-ghost use Rattle.byuid.specs.Code.{lookOf, heldOf};
+ghost use Rattle.byuid.specs.Code.{frontV4, formOf, rangeFrom, saidOf, lookOf};
 
 // What a number of a line stands for.
 enum Kind {
@@ -31,6 +35,12 @@ enum Kind {
 enum Membership {
     Nothing,
     Is(bool),
+}
+
+// The address at the front of a text and the place after it, or none.
+enum Front {
+    Nothing,
+    Address(u32, usize),
 }
 
 // What a line says of a request: it is of the retired form, or whether it grants.
@@ -156,9 +166,9 @@ fn net_holds_v4(s: &[u8], addr: u32) -> Membership
     }
 }
 
-// Whether the net addr/len in s holds an IPv6 address.
-fn net_holds_v6(s: &[u8], high: u64, low: u64) -> Membership
-    ensures { λ r. ⌜ r ≡ membership (inside (high * 2 ^ 64 + low)) (readNet 128 readV6 (now (s .entry))) ⌝ }
+// Whether the addresses before a comma hold an IPv6 address: a net where there is a slash, else a range.
+fn addresses_hold_v6(s: &[u8], high: u64, low: u64) -> Membership
+    ensures { λ r. ⌜ r ≡ membership (inside (high * 2 ^ 64 + low)) (readRange readV6 (now (s .entry)) orElse readNet 128 readV6 (now (s .entry))) ⌝ }
 {
     let i = text::index_of(s, b'/');
     if i < s.len() {
@@ -168,29 +178,7 @@ fn net_holds_v6(s: &[u8], high: u64, low: u64) -> Membership
             V6Read::Value(a, b) => len_holds_v6(&s[i + 1..], a, b, high, low),
         }
     } else {
-        Membership::Nothing
-    }
-}
-
-// Whether the addresses before a comma hold an IPv4 address.
-fn addresses_hold_v4(s: &[u8], addr: u32) -> Membership
-    ensures { λ r. ⌜ r ≡ membership (inside addr) (readRange readV4 (now (s .entry)) orElse readNet 32 readV4 (now (s .entry))) ⌝ }
-{
-    let h = range_holds(s, Kind::V4, 0, addr as u64);
-    match h {
-        Membership::Nothing => net_holds_v4(s, addr),
-        Membership::Is(_) => h,
-    }
-}
-
-// Whether the addresses before a comma hold an IPv6 address.
-fn addresses_hold_v6(s: &[u8], high: u64, low: u64) -> Membership
-    ensures { λ r. ⌜ r ≡ membership (inside (high * 2 ^ 64 + low)) (readRange readV6 (now (s .entry)) orElse readNet 128 readV6 (now (s .entry))) ⌝ }
-{
-    let h = range_holds(s, Kind::V6, high, low);
-    match h {
-        Membership::Nothing => net_holds_v6(s, high, low),
-        Membership::Is(_) => h,
+        range_holds(s, Kind::V6, high, low)
     }
 }
 
@@ -207,17 +195,84 @@ fn both(a: Membership, b: Membership) -> Membership
     }
 }
 
-// Whether a line min[-max],pmin[-pmax] or addr[/len],pmin[-pmax] holds the request, at an IPv4 address.
-fn comma_form_v4(l: &[u8], addr: u32, port: u16) -> Membership
-    ensures { λ r. ⌜ r ≡ membership (insideBoth addr port) (readCommaForm 32 readV4 (now (l .entry))) ⌝ }
+// The IPv4 address that the digits and dots at the front of s write, and the place after them.
+fn front_v4(s: &[u8]) -> Front
+    ensures { λ r. ⌜ r ≡ frontV4 (now (s .entry)) ⌝ }
 {
-    let i = text::index_of(l, b',');
-    if i < l.len() {
-        let a = addresses_hold_v4(&l[..i], addr);
-        let p = range_holds(&l[i + 1..], Kind::Port, 0, port as u64);
+    let run = run_over(s, 0);
+    match run {
+        Run::Failed => Front::Nothing,
+        Run::At(j, n, k, v, begun) => {
+            let a = ended_address(n, k, v, begun);
+            match a {
+                NumberRead::Nothing => Front::Nothing,
+                NumberRead::Value(m) => Front::Address(m, j),
+            }
+        }
+    }
+}
+
+// Whether the net of an IPv4 address, with len,pmin[-pmax] in t, holds the request.
+fn net_form_v4(t: &[u8], net: u32, addr: u32, port: u16) -> Membership
+    ensures { λ r. ⌜ r ≡ membership (insideBoth addr port) (formOf (netFrom 32 net) (now (t .entry))) ⌝ }
+{
+    let i = text::index_of(t, b',');
+    if i < t.len() {
+        let a = len_holds_v4(&t[..i], net, addr);
+        let p = range_holds(&t[i + 1..], Kind::Port, 0, port as u64);
         both(a, p)
     } else {
         Membership::Nothing
+    }
+}
+
+// Whether the range from an IPv4 address on, with max,pmin[-pmax] in t, holds the request.
+fn range_form_v4(t: &[u8], min: u32, addr: u32, port: u16) -> Membership
+    ensures { λ r. ⌜ r ≡ membership (insideBoth addr port) (formOf (rangeFrom readV4 min) (now (t .entry))) ⌝ }
+{
+    let front = front_v4(t);
+    match front {
+        Front::Nothing => Membership::Nothing,
+        Front::Address(max, i) => {
+            if t.len() <= i {
+                return Membership::Nothing;
+            }
+            if t[i] == b',' {
+                let p = range_holds(&t[i + 1..], Kind::Port, 0, port as u64);
+                both(Membership::Is((min <= addr) & (addr <= max)), p)
+            } else {
+                Membership::Nothing
+            }
+        }
+    }
+}
+
+// Whether a line min[-max],pmin[-pmax] or addr[/len],pmin[-pmax] holds the request, at an IPv4 address: the byte after the first address
+// tells which.
+fn comma_form_v4(l: &[u8], addr: u32, port: u16) -> Membership
+    ensures { λ r. ⌜ r ≡ membership (insideBoth addr port) (readCommaForm 32 readV4 (now (l .entry))) ⌝ }
+{
+    let front = front_v4(l);
+    match front {
+        Front::Nothing => Membership::Nothing,
+        Front::Address(a, i) => {
+            if l.len() <= i {
+                return Membership::Nothing;
+            }
+            let mark = l[i];
+            if mark == b'/' {
+                return net_form_v4(&l[i + 1..], a, addr, port);
+            }
+            if mark == b'-' {
+                return range_form_v4(&l[i + 1..], a, addr, port);
+            }
+            if mark == b',' {
+                let p = range_holds(&l[i + 1..], Kind::Port, 0, port as u64);
+                both(Membership::Is(a == addr), p)
+            } else {
+                Membership::Nothing
+            }
+        }
     }
 }
 
@@ -268,22 +323,11 @@ pub fn is_retired(l: &[u8]) -> bool
     }
 }
 
-// Whether a line of a form that grants holds the request.
-fn held(l: &[u8], addr: Addr, port: u16) -> Membership
-    ensures { λ r. ⌜ r ≡ heldOf addr port (now (l .entry)) ⌝ }
+// What the line l says where h tells what it holds as one of a form that grants. Such a line is not of the retired one.
+fn said(l: &[u8], h: Membership) -> Looked
+    ensures { λ r. ⌜ r ≡ saidOf h (now (l .entry)) ⌝ }
 {
-    match addr {
-        Addr::Unknown => Membership::Nothing,
-        Addr::V4(n) => comma_form_v4(l, n, port),
-        Addr::V6(a, b) => comma_form_v6(l, a, b, port),
-    }
-}
-
-// What the line l says of the port at the address. A line of a form that grants is not of the retired one.
-pub(crate) fn look(l: &[u8], addr: Addr, port: u16) -> Looked
-    ensures { λ r. ⌜ r ≡ lookOf addr port (now (l .entry)) ⌝ }
-{
-    match held(l, addr, port) {
+    match h {
         Membership::Is(b) => Looked::Grants(b),
         Membership::Nothing => {
             if is_retired(l) {
@@ -292,5 +336,31 @@ pub(crate) fn look(l: &[u8], addr: Addr, port: u16) -> Looked
                 Looked::Grants(false)
             }
         }
+    }
+}
+
+// What the line l says of the port at an IPv6 address. One without a colon is of no form that matters.
+fn look_v6(l: &[u8], high: u64, low: u64, port: u16) -> Looked
+    ensures { λ r. ⌜ r ≡ lookOf (V6 high low) port (now (l .entry)) ⌝ }
+{
+    if text::index_of(l, b':') < l.len() {
+        let h = comma_form_v6(l, high, low, port);
+        said(l, h)
+    } else {
+        Looked::Grants(false)
+    }
+}
+
+// What the line l says of the port at the address.
+pub(crate) fn look(l: &[u8], addr: Addr, port: u16) -> Looked
+    ensures { λ r. ⌜ r ≡ lookOf addr port (now (l .entry)) ⌝ }
+{
+    match addr {
+        Addr::Unknown => said(l, Membership::Nothing),
+        Addr::V4(n) => {
+            let h = comma_form_v4(l, n, port);
+            said(l, h)
+        }
+        Addr::V6(a, b) => look_v6(l, a, b, port),
     }
 }
