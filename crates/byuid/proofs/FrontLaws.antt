@@ -2,14 +2,14 @@
 --   Parted s i       == the text s around a byte at i that is the first of no address
 --   form-slash, form-hyphen, form-alone, form-other == a line by that byte; form-unread, form-all == one without an address, or without that byte
 -- Assumes nothing.
-use Prim.Native.Nat.{ℕ, suc, _+_, _-_, _*_, _^_, _<_, _≤_}
+use Prim.Native.Nat.{ℕ, suc, _+_, _-_, _*_, _<_, _≤_}
 use mathlib.Core.Bool.{Bool, true, false, not, _&&_, _||_, true≢false, or-true}
 use mathlib.Core.List.{List, [], _∷_, _++_, append-assoc}
 use mathlib.Core.Option.{Option, none, some}
 use mathlib.Core.Path.{_≡_, refl, sym, ap, ap₂, subst, _∙_}
 use native.Mathlib.Numerals.{add-one}
 use native.Mathlib.Omega.{arith}
-use borrow.Author.Tests.{eqb-true, eqb-false, eq-eqb, ne-eqb, leb-true, leb-false, ltb-true, ltb-false, not-true}
+use borrow.Author.Tests.{eqb-true, eqb-false, eq-eqb, ne-eqb, ltb-true, ltb-false, not-true}
 use lib.Dec.{eqb, leb, ltb}
 use lib.ListN.{length, take, drop, getD, take-append-drop}
 use lib.Seq.{drop-cons, take-all}
@@ -31,14 +31,14 @@ use Rattle.address.specs.declared.fields.Step.the-variants as S
 use Rattle.address.proofs.FieldLaws.{follows-address, address-start, address-end}
 use Rattle.address.proofs.ReadLaws.{asNumber-none, asNumber-some}
 use Rattle.byuid.specs.Byuid.{Range, readRange, readNet, readPort, readCommaForm}
-use Rattle.byuid.specs.Code.{inside, insideBoth, membership, readerOf, bothOf, netFrom, fieldByte, addressEnd, asFront, frontV4, rangeFrom, formOf}
+use Rattle.byuid.specs.Code.{inside, insideBoth, membership, bothOf, netFrom, fieldByte, addressEnd, asFront, frontV4, rangeFrom, formOf}
 use Rattle.byuid.specs.declared.line.Front.{Front}
 use Rattle.byuid.specs.declared.line.Front.the-variants as T
-use Rattle.byuid.specs.declared.line.Kind.the-variants as K
 use Rattle.byuid.specs.declared.line.Membership.{Membership}
 use Rattle.byuid.specs.declared.line.Membership.the-variants as H
 use Rattle.byuid.proofs.FormLaws.{no-mark, first-mark, free-append, v4-none}
-use Rattle.byuid.proofs.LineLaws.{rest, one-word, both-held, addressesOf, comma-form}
+use Rattle.byuid.proofs.NumberLaws.{inside-one}
+use Rattle.byuid.proofs.LineLaws.{rest, both-held, addressesOf, comma-form}
 
 abbrev ranges : Range → Range → Option (Range × Range)
 ranges x y = some (x, y)
@@ -353,26 +353,17 @@ module _ (x : List ℕ) (before : all fieldByte x ≡ true) where
 
 -- ## The code's answers
 
-eqb-range : (n a : ℕ) → eqb n a ≡ (leb n a && leb a n)
-eqb-range n a = by (leb n a) (leb a n) refl refl
-  where
-    by : (x y : Bool) → leb n a ≡ x → leb a n ≡ y → eqb n a ≡ (leb n a && leb a n)
-    by true true e f = rw (e, f) (eq-eqb n a (omega (arith, leb-true n a e, leb-true a n f)))
-    by true false e f = rw (e, f) (ne-eqb n a (λ q. omega (arith, leb-false a n f)))
-    by false y e f = rw e (ne-eqb n a (λ q. omega (arith, leb-false n a e)))
-
 -- what is asked where no range was read, and of ports after a range
 module _ (a p : ℕ) where
   unheld : (o : Option (Range × Range)) → o ≡ none → H.Nothing ≡ membership (insideBoth a p) o
   unfolding membership
   unheld o e = rw e
 
-  with-ports : (low high : ℕ) (l : List ℕ) (i : ℕ) (x y r : Membership) → x ≡ H.Is (inside a (low, high))
-      → y ≡ membership (inside (0 * 2 ^ 64 + p)) (readRange (readerOf K.Port) (rest l i)) → r ≡ bothOf x y
+  with-ports : (low high : ℕ) (l : List ℕ) (i : ℕ) (x y r : Membership) → x ≡ membership (inside a) (ends low high)
+      → y ≡ membership (inside p) (readRange readPort (rest l i)) → r ≡ bothOf x y
       → r ≡ membership (insideBoth a p) (ends low high >>= λ g. readRange readPort (drop (i + 1) l) >>= λ b. ranges g b)
-  unfolding membership readerOf
   with-ports low high l i x y r is-x is-y e =
-      e ∙ rw (is-x, is-y, one-word p, take-rest l (i + 1)) (both-held a p (ends low high) (readRange readPort (drop (i + 1) l)))
+      e ∙ rw (is-x, is-y, take-rest l (i + 1)) (both-held a p (ends low high) (readRange readPort (drop (i + 1) l)))
 
 -- a text of digits and dots alone has no comma
 whole-none : (f : List ℕ → Option Range) (l : List ℕ) → length l ≤ addressEnd l → formOf f l ≡ none
@@ -464,11 +455,10 @@ module _ (l : List ℕ) (front : Front) (is-front : front ≡ frontV4 l) (a p : 
           (as-form (formOf (rangeFrom readV4 n) (drop (i + 1) l))
           (ap (formOf (addressesOf 32 readV4)) (around-byte 45 e) ∙ form-hyphen (take i l) (around .before) n (front-read .1) (drop (i + 1) l))))
 
-      pub comma-alone : getD l i 0 ≡ 44 → (y r : Membership) → y ≡ membership (inside (0 * 2 ^ 64 + p)) (readRange (readerOf K.Port) (rest l i))
+      pub comma-alone : getD l i 0 ≡ 44 → (y r : Membership) → y ≡ membership (inside p) (readRange readPort (rest l i))
           → r ≡ bothOf (H.Is (eqb n a)) y → r ≡ membership (insideBoth a p) (readCommaForm 32 readV4 l)
-      unfolding inside
       comma-alone e y r is-y f =
-          with-ports a p n n l i (H.Is (eqb n a)) y r (ap H.Is (eqb-range n a)) is-y f
+          with-ports a p n n l i (H.Is (eqb n a)) y r (inside-one n a) is-y f
           ∙ ap (membership (insideBoth a p))
           (as-form (ends n n >>= λ g. readRange readPort (drop (i + 1) l) >>= λ b. ranges g b)
           (ap (formOf (addressesOf 32 readV4)) (around-byte 44 e) ∙ form-alone (take i l) (around .before) n (front-read .1) (drop (i + 1) l)))
@@ -482,9 +472,9 @@ module _ (l : List ℕ) (front : Front) (is-front : front ≡ frontV4 l) (a p : 
 
       -- the same of the max of a range
       module _ (min : ℕ) where
-        pub range-comma : getD l i 0 ≡ 44 → (y r : Membership) → y ≡ membership (inside (0 * 2 ^ 64 + p)) (readRange (readerOf K.Port) (rest l i))
+        pub range-comma : getD l i 0 ≡ 44 → (y r : Membership) → y ≡ membership (inside p) (readRange readPort (rest l i))
             → r ≡ bothOf (H.Is (leb min a && leb a n)) y → r ≡ membership (insideBoth a p) (formOf (rangeFrom readV4 min) l)
-        unfolding inside
+        unfolding membership inside
         range-comma e y r is-y f =
             with-ports a p min n l i (H.Is (leb min a && leb a n)) y r refl is-y f
             ∙ ap (membership (insideBoth a p))

@@ -6,7 +6,7 @@ use mathlib.Core.List.{List, [], _∷_}
 use mathlib.Core.Option.{Option, none, some}
 use mathlib.Core.Path.{_≡_, refl, sym, ap, _∙_}
 use native.Mathlib.Omega.{arith}
-use lib.Dec.{leb}
+use lib.Dec.{eqb, leb}
 use lib.ListN.{length, take, drop}
 use Rattle.text.specs.Basics.{if_then_else_, _>>=_, _orElse_, holds, isSome, any}
 use Rattle.text.specs.Text.{bytes, splitOnce}
@@ -23,22 +23,17 @@ use Rattle.address.specs.declared.Addr.the-variants as A
 use Rattle.address.specs.declared.read.V6Read.{V6Read}
 use Rattle.address.specs.declared.read.V6Read.the-variants as W
 use Rattle.byuid.specs.Byuid.{Range, readRange, readNet, readPort, readCommaForm, readColonForm, within, lineGrants, isRetired}
-use Rattle.byuid.specs.Code.{readerOf, inside, insideBoth, membership, bothOf, betweenOf, endsOf, netFrom, portsOf, inOrder, formOf, saidOf, lookOf}
-use Rattle.byuid.specs.declared.line.Kind.the-variants as K
+use Rattle.byuid.specs.Code.{inside, insideBoth, membership, bothOf, betweenOf, endsOf, netFrom, portsOf, inOrder, formOf, saidOf, lookOf}
 use Rattle.byuid.specs.declared.line.Looked.{Looked}
 use Rattle.byuid.specs.declared.line.Looked.the-variants as L
 use Rattle.byuid.specs.declared.line.Membership.{Membership}
 use Rattle.byuid.specs.declared.line.Membership.the-variants as H
 use Rattle.byuid.proofs.FormLaws.{v6-none, slash-range, index-free, colon-comma-form, retired-no-comma-v4, retired-no-comma-v6}
-use Rattle.byuid.proofs.NumberLaws.{asV6-none, asV6-some, range, alone-held}
+use Rattle.byuid.proofs.NumberLaws.{asV6-none, asV6-some, range, alone-held, inside-one}
 
 -- what the code lends of a text around a mark at i
 abbrev pub rest : List ℕ → ℕ → List ℕ
 rest s i = take (length s - (i + 1)) (drop (i + 1) s)
-
--- a number of one word
-pub one-word : (n : ℕ) → 0 * 2 ^ 64 + n ≡ n
-one-word n = omega arith
 
 -- ## Answers
 
@@ -67,6 +62,16 @@ module _ (f : List ℕ → Option ℕ) (s : List ℕ) (i : ℕ) (is-i : i ≡ in
   unfolding readRange
   range-alone h v is-v e = rw (splitOnce-no-mark 45 s i is-i h) (alone-held f s n v r is-v e)
 
+-- one number of one word
+module _ (f : List ℕ → Option ℕ) (s : List ℕ) (i : ℕ) (is-i : i ≡ indexOf 45 s) (n : ℕ) (h : length s ≤ i) (v : NumberRead) (is-v : v ≡ asNumber (f s)) where
+  pub one-nothing : v ≡ N.Nothing → H.Nothing ≡ membership (inside n) (readRange f s)
+  unfolding readRange membership
+  one-nothing e = rw (splitOnce-no-mark 45 s i is-i h, asNumber-none (f s) (sym is-v ∙ e))
+
+  pub one-value : (m : ℕ) → v ≡ N.Value m → H.Is (eqb m n) ≡ membership (inside n) (readRange f s)
+  unfolding readRange
+  one-value m e = rw (splitOnce-no-mark 45 s i is-i h, asNumber-some (f s) m (sym is-v ∙ e)) (inside-one m n)
+
 module _ (w : ℕ) (f : List ℕ → Option ℕ) (s : List ℕ) (i : ℕ) (is-i : i ≡ indexOf 47 s) (n : ℕ) where
   pub net-no-mark : length s ≤ i → H.Nothing ≡ membership (inside n) (readNet w f s)
   unfolding readNet membership
@@ -94,9 +99,9 @@ module _ (w : ℕ) (f : List ℕ → Option ℕ) (s : List ℕ) (i : ℕ) (is-i 
 
 -- of addresses with a slash only a net is read, and of others only a range
 module _ (s : List ℕ) (i : ℕ) (is-i : i ≡ indexOf 47 s) (n : ℕ) where
-  pub range-v6 : length s ≤ i → (r : Membership) → r ≡ membership (inside n) (readRange (readerOf K.V6) s)
+  pub range-v6 : length s ≤ i → (r : Membership) → r ≡ membership (inside n) (readRange readV6 s)
       → r ≡ membership (inside n) (readRange readV6 s orElse readNet 128 readV6 s)
-  unfolding readerOf readNet
+  unfolding readNet
   range-v6 h r e = e ∙ rw (splitOnce-no-mark 47 s i is-i h) (by (readRange readV6 s))
     where
       by : (o : Option Range) → membership (inside n) o ≡ membership (inside n) (o orElse none)
@@ -130,17 +135,17 @@ module _ (l : List ℕ) (i : ℕ) (is-i : i ≡ indexOf 44 l) (a p : ℕ) where
     form-no-mark h = rw (splitOnce-no-mark 44 l i is-i h)
 
     pub form-mark : i < length l → (x y r : Membership) → x ≡ membership (inside a) (f (take i l))
-        → y ≡ membership (inside (0 * 2 ^ 64 + p)) (readRange (readerOf K.Port) (rest l i)) → r ≡ bothOf x y → r ≡ membership (insideBoth a p) (formOf f l)
-    unfolding formOf readerOf
+        → y ≡ membership (inside p) (readRange readPort (rest l i)) → r ≡ bothOf x y → r ≡ membership (insideBoth a p) (formOf f l)
+    unfolding formOf
     form-mark h x y r is-x is-y e =
-        e ∙ rw (is-x, is-y, one-word p, take-rest l (i + 1), splitOnce-mark 44 l i is-i h) (both-held a p (f (take i l)) (readRange readPort (drop (i + 1) l)))
+        e ∙ rw (is-x, is-y, take-rest l (i + 1), splitOnce-mark 44 l i is-i h) (both-held a p (f (take i l)) (readRange readPort (drop (i + 1) l)))
 
   module _ (w : ℕ) (f : List ℕ → Option ℕ) where
     pub comma-no-mark : length l ≤ i → H.Nothing ≡ membership (insideBoth a p) (readCommaForm w f l)
     comma-no-mark h = form-no-mark (addressesOf w f) h ∙ ap (membership (insideBoth a p)) (comma-form w f l)
 
     pub comma-mark : i < length l → (x y r : Membership) → x ≡ membership (inside a) (readRange f (take i l) orElse readNet w f (take i l))
-        → y ≡ membership (inside (0 * 2 ^ 64 + p)) (readRange (readerOf K.Port) (rest l i)) → r ≡ bothOf x y → r
+        → y ≡ membership (inside p) (readRange readPort (rest l i)) → r ≡ bothOf x y → r
         ≡ membership (insideBoth a p) (readCommaForm w f l)
     comma-mark h x y r is-x is-y e = form-mark (addressesOf w f) h x y r is-x is-y e ∙ ap (membership (insideBoth a p)) (comma-form w f l)
 

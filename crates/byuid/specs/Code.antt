@@ -1,7 +1,5 @@
 -- What the contracts inside the crate cite. Nothing here needs to be believed for the meaning of document 01: the public promise is stated
 -- over Byuid alone.
---   readerOf k           == what reads a number of a kind
---   wideOf v             == a number of at most 32 bits, as the code answers one of two words
 --   inside a g           == the range g holds a; insideBoth a p g == the two ranges of a line hold a and p
 --   membership p o           == whether p holds of o, as the code answers it
 --   betweenOf l h n      == whether n is between two numbers that were read
@@ -18,7 +16,7 @@
 --   decisionBy, answerBy == the decision, and the answer, where it is known whether a line grants
 --   checkedOf o          == o as the code answers it
 -- Assumes nothing: these are definitions.
-use Prim.Native.Nat.{ℕ, _+_, _-_, _*_, _/_, _%_, _^_}
+use Prim.Native.Nat.{ℕ, _+_, _-_, _*_, _%_, _^_}
 use mathlib.Core.Bool.{Bool, false, not, _&&_, _||_}
 use mathlib.Core.List.{List, [], _∷_}
 use mathlib.Core.Option.{Option, none, some}
@@ -28,14 +26,12 @@ use Rattle.text.specs.Basics.{if_then_else_, _>>=_, given}
 use Rattle.text.specs.Text.{bytes, splitOnce, inRange, isDigit}
 use Rattle.text.specs.Number.{readDecimal}
 use Rattle.text.specs.Scan.{spanLen}
-use Rattle.text.specs.declared.NumberRead.{NumberRead}
-use Rattle.text.specs.declared.NumberRead.the-variants as N
 use Rattle.section.specs.declared.Fault.the-variants as F
 use Rattle.section.specs.declared.Refusal.{Refusal}
 use Rattle.section.specs.Refusal.{placeless}
 use Rattle.address.specs.declared.Addr.{Addr}
 use Rattle.address.specs.declared.Addr.the-variants as A
-use Rattle.address.specs.Address.{addrCase, readV4, readV6}
+use Rattle.address.specs.Address.{addrCase, readV4}
 use Rattle.address.specs.declared.read.V6Read.{V6Read}
 use Rattle.address.specs.declared.read.V6Read.the-variants as W
 use Rattle.byuid.specs.Byuid.{Range, readRange, readPort, lineGrants, isRetired, isRuled, inSpan}
@@ -45,8 +41,6 @@ use Rattle.byuid.specs.declared.Decision.{Decision}
 use Rattle.byuid.specs.declared.Decision.the-variants.{NotRuled, Granted, NoLine}
 use Rattle.byuid.specs.declared.line.Front.{Front}
 use Rattle.byuid.specs.declared.line.Front.the-variants as T
-use Rattle.byuid.specs.declared.line.Kind.{Kind}
-use Rattle.byuid.specs.declared.line.Kind.the-variants as K
 use Rattle.byuid.specs.declared.line.Looked.{Looked}
 use Rattle.byuid.specs.declared.line.Looked.the-variants as L
 use Rattle.byuid.specs.declared.line.Membership.{Membership}
@@ -62,17 +56,6 @@ abbrev pub decisionWord : Decision → List ℕ
 decisionWord NotRuled = bytes "not ruled"
 decisionWord Granted = bytes "granted"
 decisionWord NoLine = bytes "no line"
-
--- ## Numbers
-
-unfoldable pub readerOf : Kind → List ℕ → Option ℕ
-readerOf K.Port = readPort
-readerOf K.V4 = readV4
-readerOf K.V6 = readV6
-
-abbrev pub wideOf : NumberRead → V6Read
-wideOf N.Nothing = W.Nothing
-wideOf (N.Value n) = W.Value (n / 2 ^ 64) (n % 2 ^ 64)
 
 -- ## Ranges
 

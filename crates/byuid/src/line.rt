@@ -1,4 +1,4 @@
-// One line of a byuid file. An end of a range, of any kind, is held as its two words, the high one first; nets of IPv4 are words of 32 bits.
+// One line of a byuid file. An IPv6 address is held as its two words, the high one first.
 //   look(l, addr, port) == the line l is of the retired form, or else whether it grants the port at the address
 //   is_retired(l)       == the line l is one that the form addr4/len:pmin,pmax used to accept
 use address::Addr;
@@ -18,18 +18,10 @@ ghost use Prim.Native.Nat.{_+_, _*_, _^_};
 ghost use lib.Dec.{leb};
 ghost use Rattle.text.specs.Basics.{_orElse_, holds};
 ghost use Rattle.address.specs.Address.{readV4, readV6};
-ghost use Rattle.address.specs.Code.{asV6};
 ghost use Rattle.address.specs.declared.Addr.the-variants.{V6};
-ghost use Rattle.byuid.specs.Byuid.{readRange, readNet, readCommaForm, isRetired};
-ghost use Rattle.byuid.specs.Code.{readerOf, wideOf, inside, insideBoth, membership, bothOf, betweenOf, endsOf, netFrom, portsOf, inOrder};
+ghost use Rattle.byuid.specs.Byuid.{readRange, readNet, readPort, readCommaForm, isRetired};
+ghost use Rattle.byuid.specs.Code.{inside, insideBoth, membership, bothOf, betweenOf, endsOf, netFrom, portsOf, inOrder};
 ghost use Rattle.byuid.specs.Code.{frontV4, formOf, rangeFrom, saidOf, lookOf};
-
-// What a number of a line stands for.
-enum Kind {
-    Port,
-    V4,
-    V6,
-}
 
 // Whether what was read holds the request, or nothing was read.
 enum Membership {
@@ -47,27 +39,6 @@ enum Front {
 pub(crate) enum Looked {
     Retired,
     Grants(bool),
-}
-
-// A number of at most 32 bits as two words.
-fn widen(v: NumberRead) -> V6Read
-    ensures { λ r. ⌜ r ≡ wideOf v ⌝ }
-{
-    match v {
-        NumberRead::Nothing => V6Read::Nothing,
-        NumberRead::Value(n) => V6Read::Value(0, n as u64),
-    }
-}
-
-// The number that s writes.
-fn read_number(s: &[u8], kind: Kind) -> V6Read
-    ensures { λ r. ⌜ r ≡ asV6 (readerOf kind (now (s .entry))) ⌝ }
-{
-    match kind {
-        Kind::Port => widen(text::read_decimal(s, 65535)),
-        Kind::V4 => widen(read_v4(s)),
-        Kind::V6 => read_v6(s),
-    }
 }
 
 // Whether a is at most b.
@@ -95,25 +66,53 @@ fn between(min: V6Read, max: V6Read, high: u64, low: u64) -> Membership
     }
 }
 
-// Whether the range from x to y holds a number.
-fn ends_hold(x: &[u8], y: &[u8], kind: Kind, high: u64, low: u64) -> Membership
-    ensures { λ r. ⌜ r ≡ membership (inside (high * 2 ^ 64 + low)) (endsOf (readerOf kind) (now (x .entry)) (now (y .entry))) ⌝ }
+// Whether the range of IPv6 addresses from x to y holds one.
+fn ends_hold_v6(x: &[u8], y: &[u8], high: u64, low: u64) -> Membership
+    ensures { λ r. ⌜ r ≡ membership (inside (high * 2 ^ 64 + low)) (endsOf readV6 (now (x .entry)) (now (y .entry))) ⌝ }
 {
-    let min = read_number(x, kind);
-    let max = read_number(y, kind);
+    let min = read_v6(x);
+    let max = read_v6(y);
     between(min, max, high, low)
 }
 
-// Whether the range min[-max] in s holds a number.
-fn range_holds(s: &[u8], kind: Kind, high: u64, low: u64) -> Membership
-    ensures { λ r. ⌜ r ≡ membership (inside (high * 2 ^ 64 + low)) (readRange (readerOf kind) (now (s .entry))) ⌝ }
+// Whether the range min[-max] of IPv6 addresses in s holds one.
+fn range_holds_v6(s: &[u8], high: u64, low: u64) -> Membership
+    ensures { λ r. ⌜ r ≡ membership (inside (high * 2 ^ 64 + low)) (readRange readV6 (now (s .entry))) ⌝ }
 {
     let i = text::index_of(s, b'-');
     if i < s.len() {
-        return ends_hold(&s[..i], &s[i + 1..], kind, high, low);
+        return ends_hold_v6(&s[..i], &s[i + 1..], high, low);
     }
-    let n = read_number(s, kind);
+    let n = read_v6(s);
     between(n, n, high, low)
+}
+
+// Whether the range of ports from x to y holds one.
+fn port_ends_hold(x: &[u8], y: &[u8], port: u16) -> Membership
+    ensures { λ r. ⌜ r ≡ membership (inside port) (endsOf readPort (now (x .entry)) (now (y .entry))) ⌝ }
+{
+    let p = port as u32;
+    match text::read_decimal(x, 65535) {
+        NumberRead::Nothing => Membership::Nothing,
+        NumberRead::Value(min) => match text::read_decimal(y, 65535) {
+            NumberRead::Nothing => Membership::Nothing,
+            NumberRead::Value(max) => Membership::Is((min <= p) & (p <= max)),
+        },
+    }
+}
+
+// Whether the ports pmin[-pmax] in s hold one.
+fn ports_hold(s: &[u8], port: u16) -> Membership
+    ensures { λ r. ⌜ r ≡ membership (inside port) (readRange readPort (now (s .entry))) ⌝ }
+{
+    let hyphen = text::index_of(s, b'-');
+    if hyphen < s.len() {
+        return port_ends_hold(&s[..hyphen], &s[hyphen + 1..], port);
+    }
+    match text::read_decimal(s, 65535) {
+        NumberRead::Nothing => Membership::Nothing,
+        NumberRead::Value(n) => Membership::Is(n == port as u32),
+    }
 }
 
 // Whether the net of an IPv4 address, with its length in t, holds one.
@@ -178,7 +177,7 @@ fn addresses_hold_v6(s: &[u8], high: u64, low: u64) -> Membership
             V6Read::Value(a, b) => len_holds_v6(&s[i + 1..], a, b, high, low),
         }
     } else {
-        range_holds(s, Kind::V6, high, low)
+        range_holds_v6(s, high, low)
     }
 }
 
@@ -219,7 +218,7 @@ fn net_form_v4(t: &[u8], net: u32, addr: u32, port: u16) -> Membership
     let i = text::index_of(t, b',');
     if i < t.len() {
         let a = len_holds_v4(&t[..i], net, addr);
-        let p = range_holds(&t[i + 1..], Kind::Port, 0, port as u64);
+        let p = ports_hold(&t[i + 1..], port);
         both(a, p)
     } else {
         Membership::Nothing
@@ -238,7 +237,7 @@ fn range_form_v4(t: &[u8], min: u32, addr: u32, port: u16) -> Membership
                 return Membership::Nothing;
             }
             if t[i] == b',' {
-                let p = range_holds(&t[i + 1..], Kind::Port, 0, port as u64);
+                let p = ports_hold(&t[i + 1..], port);
                 both(Membership::Is((min <= addr) & (addr <= max)), p)
             } else {
                 Membership::Nothing
@@ -267,7 +266,7 @@ fn comma_form_v4(l: &[u8], addr: u32, port: u16) -> Membership
                 return range_form_v4(&l[i + 1..], a, addr, port);
             }
             if mark == b',' {
-                let p = range_holds(&l[i + 1..], Kind::Port, 0, port as u64);
+                let p = ports_hold(&l[i + 1..], port);
                 both(Membership::Is(a == addr), p)
             } else {
                 Membership::Nothing
@@ -283,7 +282,7 @@ fn comma_form_v6(l: &[u8], high: u64, low: u64, port: u16) -> Membership
     let i = text::index_of(l, b',');
     if i < l.len() {
         let a = addresses_hold_v6(&l[..i], high, low);
-        let p = range_holds(&l[i + 1..], Kind::Port, 0, port as u64);
+        let p = ports_hold(&l[i + 1..], port);
         both(a, p)
     } else {
         Membership::Nothing
