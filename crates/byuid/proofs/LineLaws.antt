@@ -6,7 +6,8 @@ use mathlib.Core.List.{List, [], _∷_}
 use mathlib.Core.Option.{Option, none, some}
 use mathlib.Core.Path.{_≡_, refl, sym, ap, _∙_}
 use native.Mathlib.Omega.{arith}
-use lib.Dec.{eqb, leb}
+use borrow.Author.Tests.{lt-ltb, le-ltb, ltb-false}
+use lib.Dec.{eqb, leb, ltb}
 use lib.ListN.{length, take, drop}
 use Rattle.text.specs.Basics.{if_then_else_, _>>=_, _orElse_, holds, isSome, any}
 use Rattle.text.specs.Text.{bytes, splitOnce}
@@ -23,7 +24,7 @@ use Rattle.address.specs.declared.Addr.the-variants as A
 use Rattle.address.specs.declared.read.V6Read.{V6Read}
 use Rattle.address.specs.declared.read.V6Read.the-variants as W
 use Rattle.byuid.specs.Byuid.{Range, readRange, readNet, readPort, readCommaForm, readColonForm, within, lineGrants, isRetired}
-use Rattle.byuid.specs.Code.{inside, insideBoth, membership, bothOf, betweenOf, endsOf, netFrom, portsOf, inOrder, formOf, saidOf, lookOf}
+use Rattle.byuid.specs.Code.{inside, insideBoth, membership, bothOf, betweenOf, endsOf, netFrom, portsOf, inOrder, formOf, heldV6, heldOf, lookOf}
 use Rattle.byuid.specs.declared.line.Looked.{Looked}
 use Rattle.byuid.specs.declared.line.Looked.the-variants as L
 use Rattle.byuid.specs.declared.line.Membership.{Membership}
@@ -234,6 +235,29 @@ module _ (l : List ℕ) (i : ℕ) (is-i : i ≡ indexOf 58 l) where
 
 -- ## Lines
 
+module _ (addr : Addr) (p : ℕ) (l : List ℕ) where
+  pub held-unknown : addr ≡ A.Unknown → H.Nothing ≡ heldOf addr p l
+  unfolding heldOf
+  held-unknown e = rw e
+
+  module _ (r : Membership) where
+    pub held-v4 : (n : ℕ) → addr ≡ A.V4 n → r ≡ membership (insideBoth n p) (readCommaForm 32 readV4 l) → r ≡ heldOf addr p l
+    unfolding heldOf
+    held-v4 n e f = f ∙ rw e
+
+    pub held-v6 : (a b : ℕ) → addr ≡ A.V6 a b → r ≡ heldV6 (a * 2 ^ 64 + b) p l → r ≡ heldOf addr p l
+    unfolding heldOf
+    held-v6 a b e f = f ∙ rw e
+
+module _ (n p : ℕ) (l : List ℕ) (i : ℕ) (is-i : i ≡ indexOf 58 l) where
+  pub held-colon : i < length l → (r : Membership) → r ≡ membership (insideBoth n p) (readCommaForm 128 readV6 l) → r ≡ heldV6 n p l
+  unfolding heldV6
+  held-colon h r e = e ∙ rw (lt-ltb (indexOf 58 l) (length l) (rw is-i at h))
+
+  pub held-no-colon : length l ≤ i → H.Is false ≡ heldV6 n p l
+  unfolding heldV6
+  held-no-colon h = rw (le-ltb (indexOf 58 l) (length l) (rw is-i at h))
+
 -- what a form that was read says of the request
 within-is : (p n : ℕ) (o : Option (Range × Range)) (b : Bool) → membership (insideBoth n p) o ≡ H.Is b → b ≡ within p o n
 unfolding membership insideBoth inside
@@ -247,46 +271,45 @@ not-retired l n = by (isRetired l) n
     by true n = absurd (n refl)
     by false n = refl
 
-module _ (l : List ℕ) (h : Membership) where
-  pub said-is : (b : Bool) → h ≡ H.Is b → L.Grants b ≡ saidOf h l
-  said-is b e = rw e
+-- what a line says, by what it holds as one of a form that grants
+abbrev said : Membership → List ℕ → Looked
+said (H.Is b) l = L.Grants b
+said H.Nothing l = if isRetired l then L.Retired else L.Grants false
 
-  module _ (e : h ≡ H.Nothing) (x : Bool) (is-x : x ≡ isRetired l) where
-    pub said-retired : x ≡ true → L.Retired ≡ saidOf h l
-    said-retired f = rw (e, ← is-x, f)
-
-    pub said-nothing : x ≡ false → L.Grants false ≡ saidOf h l
-    said-nothing f = rw (e, ← is-x, f)
-
--- a line of a form that grants is not of the retired one
-said-look : (p n : ℕ) (l : List ℕ) (o : Option (Range × Range)) → (isRetired l ≡ true → o ≡ none)
-    → saidOf (membership (insideBoth n p) o) l ≡ (if isRetired l then L.Retired else L.Grants (within p o n))
+-- a line of such a form is not of the retired one
+said-read : (p n : ℕ) (l : List ℕ) (o : Option (Range × Range)) → (isRetired l ≡ true → o ≡ none)
+    → said (membership (insideBoth n p) o) l ≡ (if isRetired l then L.Retired else L.Grants (within p o n))
 unfolding membership
-said-look p n l none f = refl
-said-look p n l (some g) f =
+said-read p n l none f = refl
+said-read p n l (some g) f =
     rw (not-retired l (λ t. let z : _≡_ {A = ℕ} 0 1 = cc (f t) in omega arith)) (ap L.Grants (within-is p n (some g) (insideBoth n p g) refl))
 
-module _ (p : ℕ) (l : List ℕ) (r : Looked) where
-  pub look-unknown : (addr : Addr) → addr ≡ A.Unknown → r ≡ saidOf H.Nothing l → r ≡ lookOf addr p l
-  unfolding lookOf lineGrants
-  look-unknown addr e q = q ∙ rw e
+said-held : (a : Addr) (p : ℕ) (l : List ℕ) → said (heldOf a p l) l ≡ lookOf a p l
+unfolding heldOf heldV6 lookOf lineGrants
+said-held A.Unknown p l = refl
+said-held (A.V4 n) p l = said-read p n l (readCommaForm 32 readV4 l) (retired-no-comma-v4 l)
+said-held (A.V6 x y) p l = by (ltb (indexOf 58 l) (length l)) refl
+  where
+    by : (b : Bool) → ltb (indexOf 58 l) (length l) ≡ b
+        → said (heldV6 (x * 2 ^ 64 + y) p l) l ≡ (if isRetired l then L.Retired else L.Grants (within p (readCommaForm 128 readV6 l) (x * 2 ^ 64 + y)))
+    by true e = simp e (said-read p (x * 2 ^ 64 + y) l (readCommaForm 128 readV6 l) (retired-no-comma-v6 l))
+    by false e =
+        let h : length l ≤ indexOf 58 l = ltb-false (indexOf 58 l) (length l) e in
+        simp e (rw (← (retired-no-mark l (indexOf 58 l) refl h), colon-comma-form l (index-free 58 l h)))
 
-  module _ (h : Membership) (is-r : r ≡ saidOf h l) where
-    pub look-v4 : (addr : Addr) (n : ℕ) → addr ≡ A.V4 n → h ≡ membership (insideBoth n p) (readCommaForm 32 readV4 l) → r ≡ lookOf addr p l
-    unfolding lookOf lineGrants
-    look-v4 addr n e is-h = is-r ∙ rw (is-h, e) (said-look p n l (readCommaForm 32 readV4 l) (retired-no-comma-v4 l))
+module _ (a : Addr) (p : ℕ) (l : List ℕ) (h : Membership) (is-h : h ≡ heldOf a p l) where
+  pub look-is : (b : Bool) → h ≡ H.Is b → L.Grants b ≡ lookOf a p l
+  look-is b e = ap (λ (m : Membership). said m l) (sym e ∙ is-h) ∙ said-held a p l
 
-    pub look-colon : (a b : ℕ) → h ≡ membership (insideBoth (a * 2 ^ 64 + b) p) (readCommaForm 128 readV6 l) → r ≡ lookOf (A.V6 a b) p l
-    unfolding lookOf lineGrants
-    look-colon a b is-h = is-r ∙ rw is-h (said-look p (a * 2 ^ 64 + b) l (readCommaForm 128 readV6 l) (retired-no-comma-v6 l))
+  module _ (e : h ≡ H.Nothing) (x : Bool) (is-x : x ≡ isRetired l) where
+    is-said : (if x then L.Retired else L.Grants false) ≡ lookOf a p l
+    is-said = rw is-x (ap (λ (m : Membership). said m l) (sym e ∙ is-h) ∙ said-held a p l)
 
-  pub look-v6 : (addr : Addr) (a b : ℕ) → addr ≡ A.V6 a b → r ≡ lookOf (A.V6 a b) p l → r ≡ lookOf addr p l
-  look-v6 addr a b e q = q ∙ rw e
+    pub look-retired : x ≡ true → L.Retired ≡ lookOf a p l
+    look-retired f = rw f at is-said
 
--- a line without a colon is neither of the retired form nor grants to an IPv6 address
-pub look-no-colon : (p a b : ℕ) (l : List ℕ) (i : ℕ) → i ≡ indexOf 58 l → length l ≤ i → L.Grants false ≡ lookOf (A.V6 a b) p l
-unfolding lookOf lineGrants
-look-no-colon p a b l i is-i h = rw (← (retired-no-mark l i is-i h), colon-comma-form l (index-free 58 l (rw is-i at h)))
+    pub look-nothing : x ≡ false → L.Grants false ≡ lookOf a p l
+    look-nothing f = rw f at is-said
 
 -- a line of no bytes
 pub grants-nil : (addr : Addr) (p : ℕ) → lineGrants addr p [] ≡ false

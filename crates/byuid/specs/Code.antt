@@ -9,7 +9,7 @@
 --   frontV4 s            == the IPv4 address that the digits and dots at the front of s write; addressEnd s == the place after them
 --   rangeFrom f n t      == the range from n to what t writes
 --   formOf f t           == what f reads before the first comma of t, and the ports after it
---   saidOf h l           == what the line l says, where h tells what it holds as one of a form that grants
+--   heldV6 n p l         == whether the line l, of a form that grants, holds the port p at the IPv6 address n; heldOf a p l == the same of any address
 --   lookOf a p l         == what the line l says of the port p at the address a
 --   walk a p n g ls      == what the walk over the lines ls, the first of number n, finds, where g says whether a line before grants
 --   searchedFor m p a uid == the address that the lines of a file are held against
@@ -20,21 +20,21 @@ use Prim.Native.Nat.{ℕ, _+_, _-_, _*_, _%_, _^_}
 use mathlib.Core.Bool.{Bool, false, not, _&&_, _||_}
 use mathlib.Core.List.{List, [], _∷_}
 use mathlib.Core.Option.{Option, none, some}
-use lib.Dec.{eqb, leb}
-use lib.ListN.{take}
+use lib.Dec.{eqb, leb, ltb}
+use lib.ListN.{length, take}
 use Rattle.text.specs.Basics.{if_then_else_, _>>=_, given}
 use Rattle.text.specs.Text.{bytes, splitOnce, inRange, isDigit}
 use Rattle.text.specs.Number.{readDecimal}
-use Rattle.text.specs.Scan.{spanLen}
+use Rattle.text.specs.Scan.{spanLen, indexOf}
 use Rattle.section.specs.declared.Fault.the-variants as F
 use Rattle.section.specs.declared.Refusal.{Refusal}
 use Rattle.section.specs.Refusal.{placeless}
 use Rattle.address.specs.declared.Addr.{Addr}
 use Rattle.address.specs.declared.Addr.the-variants as A
-use Rattle.address.specs.Address.{addrCase, readV4}
+use Rattle.address.specs.Address.{addrCase, readV4, readV6}
 use Rattle.address.specs.declared.read.V6Read.{V6Read}
 use Rattle.address.specs.declared.read.V6Read.the-variants as W
-use Rattle.byuid.specs.Byuid.{Range, readRange, readPort, lineGrants, isRetired, isRuled, inSpan}
+use Rattle.byuid.specs.Byuid.{Range, readRange, readPort, readCommaForm, lineGrants, isRetired, isRuled, inSpan}
 use Rattle.byuid.specs.declared.Checked.{Checked}
 use Rattle.byuid.specs.declared.Checked.the-variants as C
 use Rattle.byuid.specs.declared.Decision.{Decision}
@@ -126,9 +126,12 @@ formOf f t = do
   b ← readRange readPort (p .1)
   some (a, b)
 
-abbrev pub saidOf : Membership → List ℕ → Looked
-saidOf (H.Is b) l = L.Grants b
-saidOf H.Nothing l = if isRetired l then L.Retired else L.Grants false
+-- without a colon a line holds no request at an IPv6 address, and is not of the retired form either
+unfoldable pub heldV6 : ℕ → ℕ → List ℕ → Membership
+heldV6 n p l = if ltb (indexOf 58 l) (length l) then membership (insideBoth n p) (readCommaForm 128 readV6 l) else H.Is false
+
+unfoldable pub heldOf : Addr → ℕ → List ℕ → Membership
+heldOf a p l = addrCase a H.Nothing (λ n. membership (insideBoth n p) (readCommaForm 32 readV4 l)) (λ n. heldV6 n p l)
 
 unfoldable pub lookOf : Addr → ℕ → List ℕ → Looked
 lookOf a p l = if isRetired l then L.Retired else L.Grants (lineGrants a p l)

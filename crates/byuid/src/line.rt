@@ -18,10 +18,9 @@ ghost use Prim.Native.Nat.{_+_, _*_, _^_};
 ghost use lib.Dec.{leb};
 ghost use Rattle.text.specs.Basics.{_orElse_, holds};
 ghost use Rattle.address.specs.Address.{readV4, readV6};
-ghost use Rattle.address.specs.declared.Addr.the-variants.{V6};
 ghost use Rattle.byuid.specs.Byuid.{readRange, readNet, readPort, readCommaForm, isRetired};
 ghost use Rattle.byuid.specs.Code.{inside, insideBoth, membership, bothOf, betweenOf, endsOf, netFrom, portsOf, inOrder};
-ghost use Rattle.byuid.specs.Code.{frontV4, formOf, rangeFrom, saidOf, lookOf};
+ghost use Rattle.byuid.specs.Code.{frontV4, formOf, rangeFrom, heldV6, heldOf, lookOf};
 
 // Whether what was read holds the request, or nothing was read.
 enum Membership {
@@ -322,11 +321,33 @@ pub fn is_retired(l: &[u8]) -> bool
     }
 }
 
-// What the line l says where h tells what it holds as one of a form that grants. Such a line is not of the retired one.
-fn said(l: &[u8], h: Membership) -> Looked
-    ensures { λ r. ⌜ r ≡ saidOf h (now (l .entry)) ⌝ }
+// Whether a line of a form that grants holds the request, at an IPv6 address. One without a colon is of no form that matters.
+fn held_v6(l: &[u8], high: u64, low: u64, port: u16) -> Membership
+    ensures { λ r. ⌜ r ≡ heldV6 (high * 2 ^ 64 + low) port (now (l .entry)) ⌝ }
 {
-    match h {
+    if text::index_of(l, b':') < l.len() {
+        comma_form_v6(l, high, low, port)
+    } else {
+        Membership::Is(false)
+    }
+}
+
+// Whether a line of a form that grants holds the request.
+fn held(l: &[u8], addr: Addr, port: u16) -> Membership
+    ensures { λ r. ⌜ r ≡ heldOf addr port (now (l .entry)) ⌝ }
+{
+    match addr {
+        Addr::Unknown => Membership::Nothing,
+        Addr::V4(n) => comma_form_v4(l, n, port),
+        Addr::V6(a, b) => held_v6(l, a, b, port),
+    }
+}
+
+// What the line l says of the port at the address. A line of a form that grants is not of the retired one.
+pub(crate) fn look(l: &[u8], addr: Addr, port: u16) -> Looked
+    ensures { λ r. ⌜ r ≡ lookOf addr port (now (l .entry)) ⌝ }
+{
+    match held(l, addr, port) {
         Membership::Is(b) => Looked::Grants(b),
         Membership::Nothing => {
             if is_retired(l) {
@@ -335,31 +356,5 @@ fn said(l: &[u8], h: Membership) -> Looked
                 Looked::Grants(false)
             }
         }
-    }
-}
-
-// What the line l says of the port at an IPv6 address. One without a colon is of no form that matters.
-fn look_v6(l: &[u8], high: u64, low: u64, port: u16) -> Looked
-    ensures { λ r. ⌜ r ≡ lookOf (V6 high low) port (now (l .entry)) ⌝ }
-{
-    if text::index_of(l, b':') < l.len() {
-        let h = comma_form_v6(l, high, low, port);
-        said(l, h)
-    } else {
-        Looked::Grants(false)
-    }
-}
-
-// What the line l says of the port at the address.
-pub(crate) fn look(l: &[u8], addr: Addr, port: u16) -> Looked
-    ensures { λ r. ⌜ r ≡ lookOf addr port (now (l .entry)) ⌝ }
-{
-    match addr {
-        Addr::Unknown => said(l, Membership::Nothing),
-        Addr::V4(n) => {
-            let h = comma_form_v4(l, n, port);
-            said(l, h)
-        }
-        Addr::V6(a, b) => look_v6(l, a, b, port),
     }
 }
