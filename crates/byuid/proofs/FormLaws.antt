@@ -1,6 +1,7 @@
 -- Laws of the forms of a line: what bytes they are made of, and that a line of the retired form is of no other.
 --   free c w             == no byte of w is c
 --   Form l               == the parts of a line of the retired form, and what they read as; newForm f == its new form
+--   slash-range          == a text with a slash is no range; colon-comma-form == a line without a colon is none of IPv6
 --   retired-no-comma     == a line of the retired form is not read as one that grants
 --   newForm-v4, newForm-v6 == the new form is read as the retired one was, and as no line of IPv6
 -- Assumes nothing.
@@ -19,7 +20,7 @@ use Rattle.text.specs.Number.{fromDigits, toDigits, readDecimal}
 use Rattle.text.proofs.BasicLaws.{and-true, all-append}
 use Rattle.text.proofs.Digits.{length-toDigits}
 use Rattle.text.specs.Scan.{spanLen, indexOf}
-use Rattle.text.proofs.Intercalate.{any-append, any-between, all-append-left, all-false, each-none, any-split, among-one, free, free-all, split-free, splitOnce-some}
+use Rattle.text.proofs.Intercalate.{any-append, any-between, all-append-left, all-false, each-none, any-split, among-one, free, split-free, splitOnce-some}
 use Rattle.text.proofs.Numeral.{readDecimal-none}
 use Rattle.address.specs.Address.{readV4, readGroup, readLastGroup, readGroups, readCompressed, readV6}
 use Rattle.byuid.specs.Byuid.{Range, readRange, readNet, readPort, readCommaForm, readColonForm, isRetired}

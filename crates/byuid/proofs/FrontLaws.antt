@@ -1,27 +1,28 @@
 -- Laws of an IPv4 address at the front of a text: what a pass over the text tells of it, and which form the byte after it makes.
---   Parted s i       == the text s around a byte at i that is the first of no address
---   form-slash, form-hyphen, form-alone, form-other == a line by that byte; form-unread, form-all == one without an address, or without that byte
+--   front-failed, front-nothing, front-value == what a pass over the fields tells of the front
+--   Parted s x c t == s is x, of digits and dots alone, then the byte c, which is neither, then t
+--   comma-unread, comma-end, comma-slash, comma-hyphen, comma-alone, comma-other == a line by the front and the byte after it
+--   range-unread, range-end, range-comma, range-other == the same of a range whose min was read
 -- Assumes nothing.
 use Prim.Native.Nat.{ℕ, suc, _+_, _-_, _*_, _<_, _≤_}
-use mathlib.Core.Bool.{Bool, true, false, not, _&&_, _||_, true≢false, or-true}
+use mathlib.Core.Bool.{Bool, true, false, not, _&&_, _||_}
 use mathlib.Core.List.{List, [], _∷_, _++_, append-assoc}
 use mathlib.Core.Option.{Option, none, some}
-use mathlib.Core.Path.{_≡_, refl, sym, ap, ap₂, subst, _∙_}
+use mathlib.Core.Path.{_≡_, refl, sym, ap, subst, _∙_}
 use native.Mathlib.Numerals.{add-one}
 use native.Mathlib.Omega.{arith}
 use borrow.Author.Tests.{eqb-true, eqb-false, eq-eqb, ne-eqb, ltb-true, ltb-false, not-true}
 use lib.Dec.{eqb, leb, ltb}
 use lib.ListN.{length, take, drop, getD, take-append-drop}
 use lib.Seq.{drop-cons, take-all}
-use Rattle.text.specs.Basics.{if_then_else_, _>>=_, _orElse_, any, all}
-use Rattle.text.specs.Text.{bytes, equal, isDigit, startsWith, consFirst, splitOnce}
-use Rattle.text.specs.Number.{readDecimal}
+use Rattle.text.specs.Basics.{_>>=_, _orElse_, any, all}
+use Rattle.text.specs.Text.{bytes, equal, isDigit, consFirst, splitOnce}
 use Rattle.text.specs.Scan.{spanLen, asNumber}
 use Rattle.text.specs.declared.NumberRead.{NumberRead}
 use Rattle.text.specs.declared.NumberRead.the-variants as N
 use Rattle.text.proofs.ScanLaws.{take-rest}
 use Rattle.text.proofs.BasicLaws.{and-true, or-false}
-use Rattle.text.proofs.Intercalate.{any-append, any-between, free, free-all, appendFirst}
+use Rattle.text.proofs.Intercalate.{any-between, free, free-all, appendFirst}
 use Rattle.address.specs.Address.{readV4}
 use Rattle.address.specs.Fields.{fieldFits, fieldMore, addressFrom, endedAddress, stepOf, onStep, runFrom}
 use Rattle.address.specs.declared.fields.Run.{Run}
@@ -103,7 +104,8 @@ lands (b ∷ t) i n k v d = by (stepOf n k v d b) refl (λ m l u x. lands t (suc
         → ((m l u : ℕ) (x : Bool) → Lands (suc i) (spanLen fieldByte t) (addressFrom m l u x (front t)) (runFrom (suc i) m l u x t))
         → Lands i (spanLen fieldByte (b ∷ t)) (addressFrom n k v d (front (b ∷ t)))
         (onStep s (R.At i n k v d) (λ m l u x. runFrom (suc i) m l u x t))
-    by S.Nothing e ih = simp (goes-field n k v d b S.Nothing e (λ q. let z : _≡_ {A = ℕ} 0 1 = cc in omega arith)) (follows-address .fails n k v d b (front t) e)
+    by S.Nothing e ih =
+        simp (goes-field n k v d b S.Nothing e (λ q. let z : _≡_ {A = ℕ} 0 1 = cc in omega arith)) (follows-address .fails n k v d b (front t) e)
     by S.Stop e ih = simp (stops-field n k v d b e) (omega arith, address-end n k v d)
     by (S.Go m l u x) e ih =
         simp (goes-field n k v d b (S.Go m l u x) e (λ q. let z : _≡_ {A = ℕ} 0 1 = cc in omega arith))

@@ -274,7 +274,7 @@ fn comma_form_v4(l: &[u8], addr: u32, port: u16) -> Membership
     }
 }
 
-// The same at an IPv6 address.
+// Whether a line of such a form holds the request, at an IPv6 address.
 fn comma_form_v6(l: &[u8], high: u64, low: u64, port: u16) -> Membership
     ensures { λ r. ⌜ r ≡ membership (insideBoth (high * 2 ^ 64 + low) port) (readCommaForm 128 readV6 (now (l .entry))) ⌝ }
 {
