@@ -1,10 +1,11 @@
 -- Laws of the forms of a line: what bytes they are made of, and that a line of the retired form is of no other.
 --   free c w             == no byte of w is c
 --   Form l               == the parts of a line of the retired form, and what they read as; newForm f == its new form
+--   slash-range          == a text with a slash is no range; colon-comma-form == a line without a colon is none of IPv6
 --   retired-no-comma     == a line of the retired form is not read as one that grants
 --   newForm-v4, newForm-v6 == the new form is read as the retired one was, and as no line of IPv6
 -- Assumes nothing.
-use Prim.Native.Nat.{ℕ, _+_, _<_, _≤_, _-_, _%_, _^_}
+use Prim.Native.Nat.{ℕ, suc, _+_, _<_, _≤_, _-_, _%_, _^_}
 use mathlib.Core.Bool.{Bool, true, false, not, _&&_, _||_, true≢false, or-true}
 use mathlib.Core.List.{List, [], _∷_, _++_, append-assoc}
 use mathlib.Core.Option.{Option, none, some}
@@ -18,13 +19,14 @@ use Rattle.text.specs.Text.{bytes, equal, isDigit, charRange, inRange, startsWi
 use Rattle.text.specs.Number.{fromDigits, toDigits, readDecimal}
 use Rattle.text.proofs.BasicLaws.{and-true, all-append}
 use Rattle.text.proofs.Digits.{length-toDigits}
-use Rattle.text.proofs.Intercalate.{any-append, any-between, all-false, each-none, any-split, among-one, free, free-all, split-free, splitOnce-some}
+use Rattle.text.specs.Scan.{spanLen, indexOf}
+use Rattle.text.proofs.Intercalate.{any-append, any-between, all-append-left, all-false, each-none, any-split, among-one, free, split-free, splitOnce-some}
 use Rattle.text.proofs.Numeral.{readDecimal-none}
 use Rattle.address.specs.Address.{readV4, readGroup, readLastGroup, readGroups, readCompressed, readV6}
 use Rattle.byuid.specs.Byuid.{Range, readRange, readNet, readPort, readCommaForm, readColonForm, isRetired}
 
 -- what is read in two steps, of which the second answers none
-skip : {A B C : Type 0} (o : Option A) (q : Option B) (f : A → B → Option C) → q ≡ none → (o >>= λ l. q >>= λ r. f l r) ≡ none
+pub skip : {A B C : Type 0} (o : Option A) (q : Option B) (f : A → B → Option C) → q ≡ none → (o >>= λ l. q >>= λ r. f l r) ≡ none
 skip none q f n = refl
 skip (some g) q f n = rw n
 
@@ -61,7 +63,7 @@ first-mark c (x ∷ s) t e =
     let a = and-true (not (eqb x c)) (free c s) e in
     rw (ne-eqb c x (λ q. eqb-false x c (not-true (eqb x c) (a .0)) (sym q)), first-mark c s t (a .1))
 
-free-append : (c : ℕ) (s t : List ℕ) → free c s ≡ true → free c t ≡ true → free c (s ++ t) ≡ true
+pub free-append : (c : ℕ) (s t : List ℕ) → free c s ≡ true → free c t ≡ true → free c (s ++ t) ≡ true
 free-append c s t e f = all-append (λ b. not (eqb b c)) s t e f
 
 not-free : (c : ℕ) (t : List ℕ) → free c t ≡ false → any (λ b. eqb b c) t ≡ true
@@ -174,7 +176,7 @@ slashed-sides : (s t : List ℕ) → slashed (s ++ (bytes "::" ++ t)) ≡ (slash
 unfolding slashed slash any
 slashed-sides s t = any-append slash s (bytes "::" ++ t)
 
-v6-none : (t : List ℕ) → any (λ b. eqb b 47) t ≡ true → readV6 t ≡ none
+pub v6-none : (t : List ℕ) → any (λ b. eqb b 47) t ≡ true → readV6 t ≡ none
 unfolding readV6
 v6-none t e = rw (by (splitOnce (bytes "::") t) refl, groups-none readLastGroup last-none (split ":" t) (slashed-split t ∙ is-slashed t e))
   where
@@ -195,13 +197,83 @@ last-few t gs e = by (all hex t && inRange 1 4 (length t)) _ (readV4 t) e
     by false x none h = let z : _≡_ {A = ℕ} 0 1 = cc in absurd (omega arith)
     by false x (some n) h = let q : toDigits 65536 2 n ≡ gs = cc in omega (arith, ap length q, length-toDigits 65536 2 n)
 
-v6-colon : (t : List ℕ) → free 58 t ≡ true → readV6 t ≡ none
+pub v6-colon : (t : List ℕ) → free 58 t ≡ true → readV6 t ≡ none
 unfolding readV6 readGroups
 v6-colon t e = rw (no-mark 58 (bytes ":") t e, split-free ":" t e) (by (readLastGroup t) (λ gs h. last-few t gs h))
   where
     by : (o : Option (List ℕ)) → ((gs : List ℕ) → o ≡ some gs → length gs < 8) → (o >>= λ gs. given (eqb (length gs) 8) (fromDigits 65536 0 gs)) ≡ none
     by none h = refl
     by (some gs) h = rw (ne-eqb (length gs) 8 (λ q. let k = h gs refl in omega arith))
+
+-- ## Addresses by their marks
+
+abbrev ends-at : ℕ → ℕ → Option Range
+ends-at low high = some (low, high)
+
+-- a text with a slash is no range of addresses
+pub slash-range : (f : List ℕ → Option ℕ) → ((t : List ℕ) → any (λ b. eqb b 47) t ≡ true → f t ≡ none) → (s x y : List ℕ)
+    → splitOnce (bytes "/") s ≡ some (x, y) → readRange f s ≡ none
+unfolding readRange any
+slash-range f bad s x y e = by (splitOnce (bytes "-") s) refl
+  where
+    slashed-whole : any (λ b. eqb b 47) s ≡ true
+    slashed-whole = ap (any (λ b. eqb b 47)) (splitOnce-some (bytes "/") s (x, y) e) ∙ any-append (λ b. eqb b 47) x (bytes "/" ++ y)
+        ∙ or-true (any (λ b. eqb b 47) x)
+
+    ends : (p : List ℕ × List ℕ) (b : Bool) → any (λ b. eqb b 47) (p .0) ≡ b → (b || any (λ b. eqb b 47) (p .1)) ≡ true
+        → (f (p .0) >>= λ l. f (p .1) >>= λ h. ends-at l h) ≡ none
+    ends p true q h = rw (bad (p .0) q)
+    ends p false q h = skip (f (p .0)) (f (p .1)) ends-at (bad (p .1) h)
+
+    sides : (p : List ℕ × List ℕ) → s ≡ p .0 ++ (bytes "-" ++ p .1) → (any (λ b. eqb b 47) (p .0) || any (λ b. eqb b 47) (p .1)) ≡ true
+    sides p h = sym (ap (any (λ b. eqb b 47)) h ∙ any-append (λ b. eqb b 47) (p .0) (bytes "-" ++ p .1)) ∙ slashed-whole
+
+    by : (o : Option (List ℕ × List ℕ)) → splitOnce (bytes "-") s ≡ o → readRange f s ≡ none
+    by none q = rw (q, bad s slashed-whole)
+    by (some p) q = rw q (ends p (any (λ b. eqb b 47) (p .0)) refl (sides p (splitOnce-some (bytes "-") s p q)))
+
+-- a mark that was not found is nowhere
+pub index-free : (c : ℕ) (s : List ℕ) → length s ≤ indexOf c s → free c s ≡ true
+unfolding indexOf spanLen all
+index-free c [] h = refl
+index-free c (x ∷ s) h = by (eqb x c) refl (λ k. index-free c s k)
+  where
+    by : (b : Bool) → eqb x c ≡ b → (length s ≤ indexOf c s → free c s ≡ true) → free c (x ∷ s) ≡ true
+    by true e ih = let k : length (x ∷ s) ≤ 0 = simp e at h in absurd (omega arith)
+    by false e ih = let k : length (x ∷ s) ≤ suc (indexOf c s) = simp e at h in simp e (ih (omega arith))
+
+-- what stands before a mark is as free of a byte as the whole
+free-part-before : (c : ℕ) (m t : List ℕ) (p : List ℕ × List ℕ) → splitOnce m t ≡ some p → free c t ≡ true → free c (p .0) ≡ true
+free-part-before c m t p e h = all-append-left (λ b. not (eqb b c)) (p .0) (m ++ p .1) (ap (free c) (sym (splitOnce-some m t p e)) ∙ h)
+
+-- addresses that are nowhere without a byte
+module _ (c w : ℕ) (f : List ℕ → Option ℕ) (bad : (t : List ℕ) → free c t ≡ true → f t ≡ none) where
+  range-without : (t : List ℕ) → free c t ≡ true → readRange f t ≡ none
+  unfolding readRange
+  range-without t h = by (splitOnce (bytes "-") t) refl
+    where
+      by : (o : Option (List ℕ × List ℕ)) → splitOnce (bytes "-") t ≡ o → readRange f t ≡ none
+      by none q = rw (q, bad t h)
+      by (some p) q = rw (q, bad (p .0) (free-part-before c (bytes "-") t p q h))
+
+  net-without : (t : List ℕ) → free c t ≡ true → readNet w f t ≡ none
+  unfolding readNet
+  net-without t h = by (splitOnce (bytes "/") t) refl
+    where
+      by : (o : Option (List ℕ × List ℕ)) → splitOnce (bytes "/") t ≡ o → readNet w f t ≡ none
+      by none q = rw q
+      by (some p) q = rw (q, bad (p .0) (free-part-before c (bytes "/") t p q h))
+
+  comma-without : (l : List ℕ) → free c l ≡ true → readCommaForm w f l ≡ none
+  unfolding readCommaForm
+  comma-without l h = by (splitOnce (bytes ",") l) refl
+    where
+      by : (o : Option (List ℕ × List ℕ)) → splitOnce (bytes ",") l ≡ o → readCommaForm w f l ≡ none
+      by none q = rw q
+      by (some p) q = let k = free-part-before c (bytes ",") l p q h in rw (q, range-without (p .0) k, net-without (p .0) k)
+
+pub colon-comma-form : (l : List ℕ) → free 58 l ≡ true → readCommaForm 128 readV6 l ≡ none
+colon-comma-form l h = comma-without 58 128 readV6 v6-colon l h
 
 -- ## A line of the retired form
 

@@ -6,9 +6,10 @@ use mathlib.Core.List.{List, [], _∷_}
 use mathlib.Core.Option.{Option, none, some}
 use mathlib.Core.Path.{_≡_, refl, sym, ap, _∙_}
 use native.Mathlib.Omega.{arith}
-use lib.Dec.{leb}
+use borrow.Author.Tests.{lt-ltb, le-ltb, ltb-false}
+use lib.Dec.{eqb, leb, ltb}
 use lib.ListN.{length, take, drop}
-use Rattle.text.specs.Basics.{_>>=_, _orElse_, holds, isSome, any}
+use Rattle.text.specs.Basics.{if_then_else_, _>>=_, _orElse_, holds, isSome, any}
 use Rattle.text.specs.Text.{bytes, splitOnce}
 use Rattle.text.specs.Number.{readDecimal}
 use Rattle.text.specs.Scan.{indexOf, asNumber}
@@ -23,49 +24,28 @@ use Rattle.address.specs.declared.Addr.the-variants as A
 use Rattle.address.specs.declared.read.V6Read.{V6Read}
 use Rattle.address.specs.declared.read.V6Read.the-variants as W
 use Rattle.byuid.specs.Byuid.{Range, readRange, readNet, readPort, readCommaForm, readColonForm, within, lineGrants, isRetired}
-use Rattle.byuid.specs.Code.{readerOf, inside, insideBoth, membership, bothOf, betweenOf, endsOf, netFrom, portsOf, inOrder, heldOf, lookOf}
-use Rattle.byuid.specs.declared.line.Kind.the-variants as K
+use Rattle.byuid.specs.Code.{inside, insideBoth, membership, bothOf, betweenOf, endsOf, netFrom, portsOf, inOrder, formOf, heldV6, heldOf, lookOf}
+use Rattle.byuid.specs.declared.line.Looked.{Looked}
 use Rattle.byuid.specs.declared.line.Looked.the-variants as L
 use Rattle.byuid.specs.declared.line.Membership.{Membership}
 use Rattle.byuid.specs.declared.line.Membership.the-variants as H
-use Rattle.byuid.proofs.FormLaws.{retired-no-comma-v4, retired-no-comma-v6}
-use Rattle.byuid.proofs.NumberLaws.{asV6-none, asV6-some, range, alone-held}
+use Rattle.byuid.proofs.FormLaws.{v6-none, slash-range, index-free, colon-comma-form, retired-no-comma-v4, retired-no-comma-v6}
+use Rattle.byuid.proofs.NumberLaws.{asV6-none, asV6-some, range, alone-held, inside-one}
 
 -- what the code lends of a text around a mark at i
 abbrev pub rest : List ℕ → ℕ → List ℕ
 rest s i = take (length s - (i + 1)) (drop (i + 1) s)
-
--- a number of one word
-one-word : (n : ℕ) → 0 * 2 ^ 64 + n ≡ n
-one-word n = omega arith
 
 -- ## Answers
 
 pub both-is : (x y : Membership) (a b : Bool) → x ≡ H.Is a → y ≡ H.Is b → H.Is (a && b) ≡ bothOf x y
 both-is x y a b e f = rw (e, f)
 
-module _ {A : Type 0} (p : A → Bool) (o q : Option A) (h : Membership) (is-h : h ≡ membership p o) where
-  pub or-nothing : h ≡ H.Nothing → (r : Membership) → r ≡ membership p q → r ≡ membership p (o orElse q)
-  unfolding membership
-  or-nothing e r f = by o (sym is-h ∙ e)
-    where
-      by : (o : Option A) → membership p o ≡ H.Nothing → r ≡ membership p (o orElse q)
-      by none z = f
-      by (some x) z = let z : _≡_ {A = ℕ} 0 1 = cc in absurd (omega arith)
-
-  pub or-is : (b : Bool) → h ≡ H.Is b → h ≡ membership p (o orElse q)
-  unfolding membership
-  or-is b e = is-h ∙ by o (sym is-h ∙ e)
-    where
-      by : (o : Option A) → membership p o ≡ H.Is b → membership p o ≡ membership p (o orElse q)
-      by none z = let z : _≡_ {A = ℕ} 0 1 = cc in absurd (omega arith)
-      by (some x) z = refl
-
 abbrev ranges : Range → Range → Option (Range × Range)
 ranges x y = some (x, y)
 
 -- two ranges, both read
-both-held : (a p : ℕ) (o q : Option Range) → bothOf (membership (inside a) o) (membership (inside p) q)
+pub both-held : (a p : ℕ) (o q : Option Range) → bothOf (membership (inside a) o) (membership (inside p) q)
     ≡ membership (insideBoth a p) (o >>= λ x. q >>= λ y. ranges x y)
 unfolding membership insideBoth
 both-held a p none q = refl
@@ -82,6 +62,16 @@ module _ (f : List ℕ → Option ℕ) (s : List ℕ) (i : ℕ) (is-i : i ≡ in
   pub range-alone : length s ≤ i → (v : V6Read) → v ≡ asV6 (f s) → r ≡ betweenOf v v n → r ≡ membership (inside n) (readRange f s)
   unfolding readRange
   range-alone h v is-v e = rw (splitOnce-no-mark 45 s i is-i h) (alone-held f s n v r is-v e)
+
+-- one number of one word
+module _ (f : List ℕ → Option ℕ) (s : List ℕ) (i : ℕ) (is-i : i ≡ indexOf 45 s) (n : ℕ) (h : length s ≤ i) (v : NumberRead) (is-v : v ≡ asNumber (f s)) where
+  pub one-nothing : v ≡ N.Nothing → H.Nothing ≡ membership (inside n) (readRange f s)
+  unfolding readRange membership
+  one-nothing e = rw (splitOnce-no-mark 45 s i is-i h, asNumber-none (f s) (sym is-v ∙ e))
+
+  pub one-value : (m : ℕ) → v ≡ N.Value m → H.Is (eqb m n) ≡ membership (inside n) (readRange f s)
+  unfolding readRange
+  one-value m e = rw (splitOnce-no-mark 45 s i is-i h, asNumber-some (f s) m (sym is-v ∙ e)) (inside-one m n)
 
 module _ (w : ℕ) (f : List ℕ → Option ℕ) (s : List ℕ) (i : ℕ) (is-i : i ≡ indexOf 47 s) (n : ℕ) where
   pub net-no-mark : length s ≤ i → H.Nothing ≡ membership (inside n) (readNet w f s)
@@ -108,45 +98,57 @@ module _ (w : ℕ) (f : List ℕ → Option ℕ) (s : List ℕ) (i : ℕ) (is-i 
     unfolding readNet netFrom
     word-mark a e r q = q ∙ rw (take-rest s (i + 1), splitOnce-mark 47 s i is-i h, asNumber-some (f (take i s)) a (sym is-v ∙ e))
 
--- a net is read where no range was
-module _ (s : List ℕ) (a : ℕ) (h : Membership) (is-h : h ≡ membership (inside (0 * 2 ^ 64 + a)) (readRange (readerOf K.V4) s)) where
-  range-v4 : h ≡ membership (inside a) (readRange readV4 s)
-  unfolding readerOf
-  range-v4 = rw (one-word a) at is-h
+-- of addresses with a slash only a net is read, and of others only a range
+module _ (s : List ℕ) (i : ℕ) (is-i : i ≡ indexOf 47 s) (n : ℕ) where
+  pub range-v6 : length s ≤ i → (r : Membership) → r ≡ membership (inside n) (readRange readV6 s)
+      → r ≡ membership (inside n) (readRange readV6 s orElse readNet 128 readV6 s)
+  unfolding readNet
+  range-v6 h r e = e ∙ rw (splitOnce-no-mark 47 s i is-i h) (by (readRange readV6 s))
+    where
+      by : (o : Option Range) → membership (inside n) o ≡ membership (inside n) (o orElse none)
+      by none = refl
+      by (some g) = refl
 
-  pub net-v4 : h ≡ H.Nothing → (r : Membership) → r ≡ membership (inside a) (readNet 32 readV4 s) → r
-      ≡ membership (inside a) (readRange readV4 s orElse readNet 32 readV4 s)
-  net-v4 = or-nothing (inside a) (readRange readV4 s) (readNet 32 readV4 s) h range-v4
+  module _ (h : i < length s) (v : V6Read) (is-v : v ≡ asV6 (readV6 (take i s))) where
+    only-net : readRange readV6 s ≡ none
+    only-net = slash-range readV6 v6-none s (take i s) (drop (i + 1) s) (splitOnce-mark 47 s i is-i h)
 
-  pub range-v4-is : (b : Bool) → h ≡ H.Is b → h ≡ membership (inside a) (readRange readV4 s orElse readNet 32 readV4 s)
-  range-v4-is = or-is (inside a) (readRange readV4 s) (readNet 32 readV4 s) h range-v4
+    pub net-v6-nothing : v ≡ W.Nothing → H.Nothing ≡ membership (inside n) (readRange readV6 s orElse readNet 128 readV6 s)
+    net-v6-nothing e = rw only-net (net-nothing 128 readV6 s i is-i n h v is-v e)
 
-module _ (s : List ℕ) (a : ℕ) (h : Membership) (is-h : h ≡ membership (inside a) (readRange (readerOf K.V6) s)) where
-  range-v6 : h ≡ membership (inside a) (readRange readV6 s)
-  unfolding readerOf
-  range-v6 = is-h
-
-  pub net-v6 : h ≡ H.Nothing → (r : Membership) → r ≡ membership (inside a) (readNet 128 readV6 s)
-      → r ≡ membership (inside a) (readRange readV6 s orElse readNet 128 readV6 s)
-  net-v6 = or-nothing (inside a) (readRange readV6 s) (readNet 128 readV6 s) h range-v6
-
-  pub range-v6-is : (b : Bool) → h ≡ H.Is b → h ≡ membership (inside a) (readRange readV6 s orElse readNet 128 readV6 s)
-  range-v6-is = or-is (inside a) (readRange readV6 s) (readNet 128 readV6 s) h range-v6
+    pub net-v6 : (a b : ℕ) → v ≡ W.Value a b → (r : Membership) → r ≡ membership (inside n) (netFrom 128 (a * 2 ^ 64 + b) (rest s i))
+        → r ≡ membership (inside n) (readRange readV6 s orElse readNet 128 readV6 s)
+    net-v6 a b e r q = rw only-net (net-mark 128 readV6 s i is-i n h v is-v a b e r q)
 
 -- ## Forms
 
-module _ (w : ℕ) (f : List ℕ → Option ℕ) (l : List ℕ) (i : ℕ) (is-i : i ≡ indexOf 44 l) (a p : ℕ) where
-  pub comma-no-mark : length l ≤ i → H.Nothing ≡ membership (insideBoth a p) (readCommaForm w f l)
-  unfolding readCommaForm membership
-  comma-no-mark h = rw (splitOnce-no-mark 44 l i is-i h)
+abbrev pub addressesOf : ℕ → (List ℕ → Option ℕ) → List ℕ → Option Range
+addressesOf w f t = readRange f t orElse readNet w f t
 
-  pub comma-mark : i < length l → (x y r : Membership) → x ≡ membership (inside a) (readRange f (take i l) orElse readNet w f (take i l))
-      → y ≡ membership (inside (0 * 2 ^ 64 + p)) (readRange (readerOf K.Port) (rest l i)) → r ≡ bothOf x y → r
-      ≡ membership (insideBoth a p) (readCommaForm w f l)
-  unfolding readCommaForm readerOf
-  comma-mark h x y r is-x is-y e =
-      e ∙ rw (is-x, is-y, one-word p, take-rest l (i + 1), splitOnce-mark 44 l i is-i h)
-      (both-held a p (readRange f (take i l) orElse readNet w f (take i l)) (readRange readPort (drop (i + 1) l)))
+pub comma-form : (w : ℕ) (f : List ℕ → Option ℕ) (l : List ℕ) → formOf (addressesOf w f) l ≡ readCommaForm w f l
+unfolding formOf readCommaForm
+comma-form w f l = refl
+
+module _ (l : List ℕ) (i : ℕ) (is-i : i ≡ indexOf 44 l) (a p : ℕ) where
+  module _ (f : List ℕ → Option Range) where
+    pub form-no-mark : length l ≤ i → H.Nothing ≡ membership (insideBoth a p) (formOf f l)
+    unfolding formOf membership
+    form-no-mark h = rw (splitOnce-no-mark 44 l i is-i h)
+
+    pub form-mark : i < length l → (x y r : Membership) → x ≡ membership (inside a) (f (take i l))
+        → y ≡ membership (inside p) (readRange readPort (rest l i)) → r ≡ bothOf x y → r ≡ membership (insideBoth a p) (formOf f l)
+    unfolding formOf
+    form-mark h x y r is-x is-y e =
+        e ∙ rw (is-x, is-y, take-rest l (i + 1), splitOnce-mark 44 l i is-i h) (both-held a p (f (take i l)) (readRange readPort (drop (i + 1) l)))
+
+  module _ (w : ℕ) (f : List ℕ → Option ℕ) where
+    pub comma-no-mark : length l ≤ i → H.Nothing ≡ membership (insideBoth a p) (readCommaForm w f l)
+    comma-no-mark h = form-no-mark (addressesOf w f) h ∙ ap (membership (insideBoth a p)) (comma-form w f l)
+
+    pub comma-mark : i < length l → (x y r : Membership) → x ≡ membership (inside a) (readRange f (take i l) orElse readNet w f (take i l))
+        → y ≡ membership (inside p) (readRange readPort (rest l i)) → r ≡ bothOf x y → r
+        ≡ membership (insideBoth a p) (readCommaForm w f l)
+    comma-mark h x y r is-x is-y e = form-mark (addressesOf w f) h x y r is-x is-y e ∙ ap (membership (insideBoth a p)) (comma-form w f l)
 
 -- ## The retired form
 
@@ -243,25 +245,24 @@ module _ (addr : Addr) (p : ℕ) (l : List ℕ) where
     unfolding heldOf
     held-v4 n e f = f ∙ rw e
 
-    pub held-v6 : (a b : ℕ) → addr ≡ A.V6 a b → r ≡ membership (insideBoth (a * 2 ^ 64 + b) p) (readCommaForm 128 readV6 l) → r ≡ heldOf addr p l
+    pub held-v6 : (a b : ℕ) → addr ≡ A.V6 a b → r ≡ heldV6 (a * 2 ^ 64 + b) p l → r ≡ heldOf addr p l
     unfolding heldOf
     held-v6 a b e f = f ∙ rw e
+
+module _ (n p : ℕ) (l : List ℕ) (i : ℕ) (is-i : i ≡ indexOf 58 l) where
+  pub held-colon : i < length l → (r : Membership) → r ≡ membership (insideBoth n p) (readCommaForm 128 readV6 l) → r ≡ heldV6 n p l
+  unfolding heldV6
+  held-colon h r e = e ∙ rw (lt-ltb (indexOf 58 l) (length l) (rw is-i at h))
+
+  pub held-no-colon : length l ≤ i → H.Is false ≡ heldV6 n p l
+  unfolding heldV6
+  held-no-colon h = rw (le-ltb (indexOf 58 l) (length l) (rw is-i at h))
 
 -- what a form that was read says of the request
 within-is : (p n : ℕ) (o : Option (Range × Range)) (b : Bool) → membership (insideBoth n p) o ≡ H.Is b → b ≡ within p o n
 unfolding membership insideBoth inside
 within-is p n none b e = let z : _≡_ {A = ℕ} 0 1 = cc in absurd (omega arith)
 within-is p n (some g) b e = cc
-
-within-nothing : (p n : ℕ) (o : Option (Range × Range)) → membership (insideBoth n p) o ≡ H.Nothing → false ≡ within p o n
-unfolding membership
-within-nothing p n none e = refl
-within-nothing p n (some g) e = let z : _≡_ {A = ℕ} 0 1 = cc in absurd (omega arith)
-
-is-not-none : (p n : ℕ) (o : Option (Range × Range)) (b : Bool) → membership (insideBoth n p) o ≡ H.Is b → o ≡ none → ⊥
-unfolding membership
-is-not-none p n none b e q = let z : _≡_ {A = ℕ} 0 1 = cc in omega arith
-is-not-none p n (some g) b e q = let z : _≡_ {A = ℕ} 0 1 = cc in omega arith
 
 not-retired : (l : List ℕ) → (isRetired l ≡ true → ⊥) → isRetired l ≡ false
 not-retired l n = by (isRetired l) n
@@ -270,34 +271,45 @@ not-retired l n = by (isRetired l) n
     by true n = absurd (n refl)
     by false n = refl
 
+-- what a line says, by what it holds as one of a form that grants
+abbrev said : Membership → List ℕ → Looked
+said (H.Is b) l = L.Grants b
+said H.Nothing l = if isRetired l then L.Retired else L.Grants false
+
+-- a line of such a form is not of the retired one
+said-read : (p n : ℕ) (l : List ℕ) (o : Option (Range × Range)) → (isRetired l ≡ true → o ≡ none)
+    → said (membership (insideBoth n p) o) l ≡ (if isRetired l then L.Retired else L.Grants (within p o n))
+unfolding membership
+said-read p n l none f = refl
+said-read p n l (some g) f =
+    rw (not-retired l (λ t. let z : _≡_ {A = ℕ} 0 1 = cc (f t) in omega arith)) (ap L.Grants (within-is p n (some g) (insideBoth n p g) refl))
+
+said-held : (a : Addr) (p : ℕ) (l : List ℕ) → said (heldOf a p l) l ≡ lookOf a p l
+unfolding heldOf heldV6 lookOf lineGrants
+said-held A.Unknown p l = refl
+said-held (A.V4 n) p l = said-read p n l (readCommaForm 32 readV4 l) (retired-no-comma-v4 l)
+said-held (A.V6 x y) p l = by (ltb (indexOf 58 l) (length l)) refl
+  where
+    by : (b : Bool) → ltb (indexOf 58 l) (length l) ≡ b
+        → said (heldV6 (x * 2 ^ 64 + y) p l) l ≡ (if isRetired l then L.Retired else L.Grants (within p (readCommaForm 128 readV6 l) (x * 2 ^ 64 + y)))
+    by true e = simp e (said-read p (x * 2 ^ 64 + y) l (readCommaForm 128 readV6 l) (retired-no-comma-v6 l))
+    by false e =
+        let h : length l ≤ indexOf 58 l = ltb-false (indexOf 58 l) (length l) e in
+        simp e (rw (← (retired-no-mark l (indexOf 58 l) refl h), colon-comma-form l (index-free 58 l h)))
+
 module _ (a : Addr) (p : ℕ) (l : List ℕ) (h : Membership) (is-h : h ≡ heldOf a p l) where
-  -- a line of a form that grants is not of the retired one
   pub look-is : (b : Bool) → h ≡ H.Is b → L.Grants b ≡ lookOf a p l
-  unfolding heldOf lookOf lineGrants
-  look-is b e = by a (sym is-h ∙ e)
-    where
-      by : (a : Addr) → heldOf a p l ≡ H.Is b → L.Grants b ≡ lookOf a p l
-      by A.Unknown k = let z : _≡_ {A = ℕ} 0 1 = cc in absurd (omega arith)
-      by (A.V4 n) k =
-          rw (not-retired l (λ t. is-not-none p n (readCommaForm 32 readV4 l) b k (retired-no-comma-v4 l t)))
-          (ap L.Grants (within-is p n (readCommaForm 32 readV4 l) b k))
-      by (A.V6 x y) k =
-          rw (not-retired l (λ t. is-not-none p (x * 2 ^ 64 + y) (readCommaForm 128 readV6 l) b k (retired-no-comma-v6 l t)))
-          (ap L.Grants (within-is p (x * 2 ^ 64 + y) (readCommaForm 128 readV6 l) b k))
+  look-is b e = ap (λ (m : Membership). said m l) (sym e ∙ is-h) ∙ said-held a p l
 
   module _ (e : h ≡ H.Nothing) (x : Bool) (is-x : x ≡ isRetired l) where
+    is-said : (if x then L.Retired else L.Grants false) ≡ lookOf a p l
+    is-said = rw is-x (ap (λ (m : Membership). said m l) (sym e ∙ is-h) ∙ said-held a p l)
+
     pub look-retired : x ≡ true → L.Retired ≡ lookOf a p l
-    unfolding lookOf
-    look-retired f = rw (← is-x, f)
+    look-retired f = rw f at is-said
 
     pub look-nothing : x ≡ false → L.Grants false ≡ lookOf a p l
-    unfolding lookOf heldOf lineGrants
-    look-nothing f = rw (← is-x, f) (ap L.Grants (by a (sym is-h ∙ e)))
-      where
-        by : (a : Addr) → heldOf a p l ≡ H.Nothing → false ≡ lineGrants a p l
-        by A.Unknown k = refl
-        by (A.V4 n) k = within-nothing p n (readCommaForm 32 readV4 l) k
-        by (A.V6 x y) k = within-nothing p (x * 2 ^ 64 + y) (readCommaForm 128 readV6 l) k
+    look-nothing f = rw f at is-said
 
 -- a line of no bytes
 pub grants-nil : (addr : Addr) (p : ℕ) → lineGrants addr p [] ≡ false

@@ -5,7 +5,7 @@ use mathlib.Core.Bool.{Bool, true, false, _&&_, and-false}
 use mathlib.Core.List.{List}
 use mathlib.Core.Option.{Option, none, some}
 use mathlib.Core.Path.{_≡_, refl, sym, ap, _∙_}
-use native.Mathlib.Nat.{div-add-mod', div-eq-of-lt, mod-eq-of-lt, mod-lt, mul-le-mul-right, add-mul}
+use native.Mathlib.Nat.{div-add-mod', mod-lt, mul-le-mul-right, add-mul}
 use native.Mathlib.Omega.{arith}
 use borrow.Author.Tests.{leb-true, leb-false, le-leb, lt-leb, eqb-true, eq-eqb, ne-eqb}
 use lib.Dec.{leb, ltb, eqb}
@@ -16,15 +16,13 @@ use Rattle.text.specs.Number.{readDecimal}
 use Rattle.text.specs.Scan.{asNumber}
 use Rattle.text.specs.declared.NumberRead.{NumberRead}
 use Rattle.text.specs.declared.NumberRead.the-variants as N
-use Rattle.address.specs.Address.{samePrefix, readV4, readV6}
+use Rattle.address.specs.Address.{samePrefix}
 use Rattle.address.specs.Code.{asV6}
 use Rattle.address.specs.declared.read.V6Read.{V6Read}
 use Rattle.address.specs.declared.read.V6Read.the-variants as W
 use Rattle.address.proofs.ReadLaws.{readDecimal-le, asNumber-none, asNumber-some}
 use Rattle.byuid.specs.Byuid.{Range}
-use Rattle.byuid.specs.Code.{readerOf, wideOf, inside, membership, betweenOf, endsOf, netFrom}
-use Rattle.byuid.specs.declared.line.Kind.{Kind}
-use Rattle.byuid.specs.declared.line.Kind.the-variants as K
+use Rattle.byuid.specs.Code.{inside, membership, betweenOf, endsOf, netFrom}
 use Rattle.byuid.specs.declared.line.Membership.{Membership}
 use Rattle.byuid.specs.declared.line.Membership.the-variants as H
 
@@ -58,27 +56,6 @@ asV6-some (some n) a b e =
     let q : n % 2 ^ 64 ≡ b = cc in
     ap some (sym (div-add-mod' n (2 ^ 64)) ∙ rw (p, q))
 
-pub wide-value : (v : NumberRead) (n : ℕ) → v ≡ N.Value n → n < 2 ^ 64 → W.Value 0 n ≡ wideOf v
-wide-value v n e h = rw (e, div-eq-of-lt h, mod-eq-of-lt h)
-
-wide-read : (o : Option ℕ) → wideOf (asNumber o) ≡ asV6 o
-wide-read none = refl
-wide-read (some n) = refl
-
--- a number of each kind
-module _ (k : Kind) (t : List ℕ) (v : NumberRead) (r : V6Read) (is-r : r ≡ wideOf v) where
-  pub read-port : k ≡ K.Port → v ≡ asNumber (readDecimal 65535 t) → r ≡ asV6 (readerOf k t)
-  unfolding readerOf
-  read-port e h = rw e (is-r ∙ ap wideOf h ∙ wide-read (readDecimal 65535 t))
-
-  pub read-addr4 : k ≡ K.V4 → v ≡ asNumber (readV4 t) → r ≡ asV6 (readerOf k t)
-  unfolding readerOf
-  read-addr4 e h = rw e (is-r ∙ ap wideOf h ∙ wide-read (readV4 t))
-
-pub read-addr6 : (k : Kind) (t : List ℕ) (r : V6Read) → k ≡ K.V6 → r ≡ asV6 (readV6 t) → r ≡ asV6 (readerOf k t)
-unfolding readerOf
-read-addr6 k t r e h = rw e h
-
 -- ## Ranges
 
 pub between-value : (min max : V6Read) (a b c d n : ℕ) (x y : Bool) → min ≡ W.Value a b → max ≡ W.Value c d
@@ -109,6 +86,34 @@ alone-held f t n v r p e = ends-held f t t n v v r p p e ∙ ap (membership (ins
     twice : (o : Option ℕ) → (o >>= λ l. o >>= λ h. range l h) ≡ (o >>= λ m. range m m)
     twice none = refl
     twice (some m) = refl
+
+eqb-range : (m n : ℕ) → eqb m n ≡ (leb m n && leb n m)
+eqb-range m n = by (leb m n) (leb n m) refl refl
+  where
+    by : (x y : Bool) → leb m n ≡ x → leb n m ≡ y → eqb m n ≡ (leb m n && leb n m)
+    by true true e f = rw (e, f) (eq-eqb m n (omega (arith, leb-true m n e, leb-true n m f)))
+    by true false e f = rw (e, f) (ne-eqb m n (λ q. omega (arith, leb-false n m f)))
+    by false y e f = rw e (ne-eqb m n (λ q. omega (arith, leb-false m n e)))
+
+-- a range of one number
+pub inside-one : (m n : ℕ) → H.Is (eqb m n) ≡ membership (inside n) (range m m)
+unfolding membership inside
+inside-one m n = ap H.Is (eqb-range m n)
+
+-- the same of numbers of one word
+module _ (f : List ℕ → Option ℕ) (x y : List ℕ) (n : ℕ) (v : NumberRead) (is-v : v ≡ asNumber (f x)) where
+  pub ends-no-min : v ≡ N.Nothing → H.Nothing ≡ membership (inside n) (endsOf f x y)
+  unfolding membership endsOf
+  ends-no-min e = rw (asNumber-none (f x) (sym is-v ∙ e))
+
+  module _ (min : ℕ) (e : v ≡ N.Value min) (w : NumberRead) (is-w : w ≡ asNumber (f y)) where
+    pub ends-no-max : w ≡ N.Nothing → H.Nothing ≡ membership (inside n) (endsOf f x y)
+    unfolding membership endsOf
+    ends-no-max q = rw (asNumber-some (f x) min (sym is-v ∙ e), asNumber-none (f y) (sym is-w ∙ q))
+
+    pub ends-two : (max : ℕ) → w ≡ N.Value max → H.Is (leb min n && leb n max) ≡ membership (inside n) (endsOf f x y)
+    unfolding membership endsOf inside
+    ends-two max q = rw (asNumber-some (f x) min (sym is-v ∙ e), asNumber-some (f y) max (sym is-w ∙ q))
 
 -- ## Nets
 

@@ -1,7 +1,10 @@
-// One line of a byuid file. An end of a range, of any kind, is held as its two words, the high one first; nets of IPv4 are words of 32 bits.
+// One line of a byuid file. An IPv6 address is held as its two words, the high one first.
 //   look(l, addr, port) == the line l is of the retired form, or else whether it grants the port at the address
 //   is_retired(l)       == the line l is one that the form addr4/len:pmin,pmax used to accept
 use address::Addr;
+use address::fields::Run;
+use address::fields::ended_address;
+use address::fields::run_over;
 use address::prefix::clear_beyond_v4;
 use address::prefix::clear_beyond_v6;
 use address::prefix::same_prefix_v4;
@@ -15,17 +18,9 @@ ghost use Prim.Native.Nat.{_+_, _*_, _^_};
 ghost use lib.Dec.{leb};
 ghost use Rattle.text.specs.Basics.{_orElse_, holds};
 ghost use Rattle.address.specs.Address.{readV4, readV6};
-ghost use Rattle.address.specs.Code.{asV6};
-ghost use Rattle.byuid.specs.Byuid.{readRange, readNet, readCommaForm, isRetired};
-ghost use Rattle.byuid.specs.Code.{readerOf, wideOf, inside, insideBoth, membership, bothOf, betweenOf, endsOf, netFrom, portsOf, inOrder};
-ghost use Rattle.byuid.specs.Code.{lookOf, heldOf};
-
-// What a number of a line stands for.
-enum Kind {
-    Port,
-    V4,
-    V6,
-}
+ghost use Rattle.byuid.specs.Byuid.{readRange, readNet, readPort, readCommaForm, isRetired};
+ghost use Rattle.byuid.specs.Code.{inside, insideBoth, membership, bothOf, betweenOf, endsOf, netFrom, portsOf, inOrder};
+ghost use Rattle.byuid.specs.Code.{frontV4, formOf, rangeFrom, heldV6, heldOf, lookOf};
 
 // Whether what was read holds the request, or nothing was read.
 enum Membership {
@@ -33,31 +28,16 @@ enum Membership {
     Is(bool),
 }
 
+// The address at the front of a text and the place after it, or none.
+enum Front {
+    Nothing,
+    Address(u32, usize),
+}
+
 // What a line says of a request: it is of the retired form, or whether it grants.
 pub(crate) enum Looked {
     Retired,
     Grants(bool),
-}
-
-// A number of at most 32 bits as two words.
-fn widen(v: NumberRead) -> V6Read
-    ensures { λ r. ⌜ r ≡ wideOf v ⌝ }
-{
-    match v {
-        NumberRead::Nothing => V6Read::Nothing,
-        NumberRead::Value(n) => V6Read::Value(0, n as u64),
-    }
-}
-
-// The number that s writes.
-fn read_number(s: &[u8], kind: Kind) -> V6Read
-    ensures { λ r. ⌜ r ≡ asV6 (readerOf kind (now (s .entry))) ⌝ }
-{
-    match kind {
-        Kind::Port => widen(text::read_decimal(s, 65535)),
-        Kind::V4 => widen(read_v4(s)),
-        Kind::V6 => read_v6(s),
-    }
 }
 
 // Whether a is at most b.
@@ -85,25 +65,53 @@ fn between(min: V6Read, max: V6Read, high: u64, low: u64) -> Membership
     }
 }
 
-// Whether the range from x to y holds a number.
-fn ends_hold(x: &[u8], y: &[u8], kind: Kind, high: u64, low: u64) -> Membership
-    ensures { λ r. ⌜ r ≡ membership (inside (high * 2 ^ 64 + low)) (endsOf (readerOf kind) (now (x .entry)) (now (y .entry))) ⌝ }
+// Whether the range of IPv6 addresses from x to y holds one.
+fn ends_hold_v6(x: &[u8], y: &[u8], high: u64, low: u64) -> Membership
+    ensures { λ r. ⌜ r ≡ membership (inside (high * 2 ^ 64 + low)) (endsOf readV6 (now (x .entry)) (now (y .entry))) ⌝ }
 {
-    let min = read_number(x, kind);
-    let max = read_number(y, kind);
+    let min = read_v6(x);
+    let max = read_v6(y);
     between(min, max, high, low)
 }
 
-// Whether the range min[-max] in s holds a number.
-fn range_holds(s: &[u8], kind: Kind, high: u64, low: u64) -> Membership
-    ensures { λ r. ⌜ r ≡ membership (inside (high * 2 ^ 64 + low)) (readRange (readerOf kind) (now (s .entry))) ⌝ }
+// Whether the range min[-max] of IPv6 addresses in s holds one.
+fn range_holds_v6(s: &[u8], high: u64, low: u64) -> Membership
+    ensures { λ r. ⌜ r ≡ membership (inside (high * 2 ^ 64 + low)) (readRange readV6 (now (s .entry))) ⌝ }
 {
     let i = text::index_of(s, b'-');
     if i < s.len() {
-        return ends_hold(&s[..i], &s[i + 1..], kind, high, low);
+        return ends_hold_v6(&s[..i], &s[i + 1..], high, low);
     }
-    let n = read_number(s, kind);
+    let n = read_v6(s);
     between(n, n, high, low)
+}
+
+// Whether the range of ports from x to y holds one.
+fn port_ends_hold(x: &[u8], y: &[u8], port: u16) -> Membership
+    ensures { λ r. ⌜ r ≡ membership (inside port) (endsOf readPort (now (x .entry)) (now (y .entry))) ⌝ }
+{
+    let p = port as u32;
+    match text::read_decimal(x, 65535) {
+        NumberRead::Nothing => Membership::Nothing,
+        NumberRead::Value(min) => match text::read_decimal(y, 65535) {
+            NumberRead::Nothing => Membership::Nothing,
+            NumberRead::Value(max) => Membership::Is((min <= p) & (p <= max)),
+        },
+    }
+}
+
+// Whether the ports pmin[-pmax] in s hold one.
+fn ports_hold(s: &[u8], port: u16) -> Membership
+    ensures { λ r. ⌜ r ≡ membership (inside port) (readRange readPort (now (s .entry))) ⌝ }
+{
+    let hyphen = text::index_of(s, b'-');
+    if hyphen < s.len() {
+        return port_ends_hold(&s[..hyphen], &s[hyphen + 1..], port);
+    }
+    match text::read_decimal(s, 65535) {
+        NumberRead::Nothing => Membership::Nothing,
+        NumberRead::Value(n) => Membership::Is(n == port as u32),
+    }
 }
 
 // Whether the net of an IPv4 address, with its length in t, holds one.
@@ -156,9 +164,9 @@ fn net_holds_v4(s: &[u8], addr: u32) -> Membership
     }
 }
 
-// Whether the net addr/len in s holds an IPv6 address.
-fn net_holds_v6(s: &[u8], high: u64, low: u64) -> Membership
-    ensures { λ r. ⌜ r ≡ membership (inside (high * 2 ^ 64 + low)) (readNet 128 readV6 (now (s .entry))) ⌝ }
+// Whether the addresses before a comma hold an IPv6 address: a net where there is a slash, else a range.
+fn addresses_hold_v6(s: &[u8], high: u64, low: u64) -> Membership
+    ensures { λ r. ⌜ r ≡ membership (inside (high * 2 ^ 64 + low)) (readRange readV6 (now (s .entry)) orElse readNet 128 readV6 (now (s .entry))) ⌝ }
 {
     let i = text::index_of(s, b'/');
     if i < s.len() {
@@ -168,29 +176,7 @@ fn net_holds_v6(s: &[u8], high: u64, low: u64) -> Membership
             V6Read::Value(a, b) => len_holds_v6(&s[i + 1..], a, b, high, low),
         }
     } else {
-        Membership::Nothing
-    }
-}
-
-// Whether the addresses before a comma hold an IPv4 address.
-fn addresses_hold_v4(s: &[u8], addr: u32) -> Membership
-    ensures { λ r. ⌜ r ≡ membership (inside addr) (readRange readV4 (now (s .entry)) orElse readNet 32 readV4 (now (s .entry))) ⌝ }
-{
-    let h = range_holds(s, Kind::V4, 0, addr as u64);
-    match h {
-        Membership::Nothing => net_holds_v4(s, addr),
-        Membership::Is(_) => h,
-    }
-}
-
-// Whether the addresses before a comma hold an IPv6 address.
-fn addresses_hold_v6(s: &[u8], high: u64, low: u64) -> Membership
-    ensures { λ r. ⌜ r ≡ membership (inside (high * 2 ^ 64 + low)) (readRange readV6 (now (s .entry)) orElse readNet 128 readV6 (now (s .entry))) ⌝ }
-{
-    let h = range_holds(s, Kind::V6, high, low);
-    match h {
-        Membership::Nothing => net_holds_v6(s, high, low),
-        Membership::Is(_) => h,
+        range_holds_v6(s, high, low)
     }
 }
 
@@ -207,28 +193,95 @@ fn both(a: Membership, b: Membership) -> Membership
     }
 }
 
-// Whether a line min[-max],pmin[-pmax] or addr[/len],pmin[-pmax] holds the request, at an IPv4 address.
-fn comma_form_v4(l: &[u8], addr: u32, port: u16) -> Membership
-    ensures { λ r. ⌜ r ≡ membership (insideBoth addr port) (readCommaForm 32 readV4 (now (l .entry))) ⌝ }
+// The IPv4 address that the digits and dots at the front of s write, and the place after them.
+fn front_v4(s: &[u8]) -> Front
+    ensures { λ r. ⌜ r ≡ frontV4 (now (s .entry)) ⌝ }
 {
-    let i = text::index_of(l, b',');
-    if i < l.len() {
-        let a = addresses_hold_v4(&l[..i], addr);
-        let p = range_holds(&l[i + 1..], Kind::Port, 0, port as u64);
+    let run = run_over(s, 0);
+    match run {
+        Run::Failed => Front::Nothing,
+        Run::At(j, n, k, v, begun) => {
+            let a = ended_address(n, k, v, begun);
+            match a {
+                NumberRead::Nothing => Front::Nothing,
+                NumberRead::Value(m) => Front::Address(m, j),
+            }
+        }
+    }
+}
+
+// Whether the net of an IPv4 address, with len,pmin[-pmax] in t, holds the request.
+fn net_form_v4(t: &[u8], net: u32, addr: u32, port: u16) -> Membership
+    ensures { λ r. ⌜ r ≡ membership (insideBoth addr port) (formOf (netFrom 32 net) (now (t .entry))) ⌝ }
+{
+    let i = text::index_of(t, b',');
+    if i < t.len() {
+        let a = len_holds_v4(&t[..i], net, addr);
+        let p = ports_hold(&t[i + 1..], port);
         both(a, p)
     } else {
         Membership::Nothing
     }
 }
 
-// The same at an IPv6 address.
+// Whether the range from an IPv4 address on, with max,pmin[-pmax] in t, holds the request.
+fn range_form_v4(t: &[u8], min: u32, addr: u32, port: u16) -> Membership
+    ensures { λ r. ⌜ r ≡ membership (insideBoth addr port) (formOf (rangeFrom readV4 min) (now (t .entry))) ⌝ }
+{
+    let front = front_v4(t);
+    match front {
+        Front::Nothing => Membership::Nothing,
+        Front::Address(max, i) => {
+            if t.len() <= i {
+                return Membership::Nothing;
+            }
+            if t[i] == b',' {
+                let p = ports_hold(&t[i + 1..], port);
+                both(Membership::Is((min <= addr) & (addr <= max)), p)
+            } else {
+                Membership::Nothing
+            }
+        }
+    }
+}
+
+// Whether a line min[-max],pmin[-pmax] or addr[/len],pmin[-pmax] holds the request, at an IPv4 address: the byte after the first address
+// tells which.
+fn comma_form_v4(l: &[u8], addr: u32, port: u16) -> Membership
+    ensures { λ r. ⌜ r ≡ membership (insideBoth addr port) (readCommaForm 32 readV4 (now (l .entry))) ⌝ }
+{
+    let front = front_v4(l);
+    match front {
+        Front::Nothing => Membership::Nothing,
+        Front::Address(a, i) => {
+            if l.len() <= i {
+                return Membership::Nothing;
+            }
+            let mark = l[i];
+            if mark == b'/' {
+                return net_form_v4(&l[i + 1..], a, addr, port);
+            }
+            if mark == b'-' {
+                return range_form_v4(&l[i + 1..], a, addr, port);
+            }
+            if mark == b',' {
+                let p = ports_hold(&l[i + 1..], port);
+                both(Membership::Is(a == addr), p)
+            } else {
+                Membership::Nothing
+            }
+        }
+    }
+}
+
+// Whether a line of such a form holds the request, at an IPv6 address.
 fn comma_form_v6(l: &[u8], high: u64, low: u64, port: u16) -> Membership
     ensures { λ r. ⌜ r ≡ membership (insideBoth (high * 2 ^ 64 + low) port) (readCommaForm 128 readV6 (now (l .entry))) ⌝ }
 {
     let i = text::index_of(l, b',');
     if i < l.len() {
         let a = addresses_hold_v6(&l[..i], high, low);
-        let p = range_holds(&l[i + 1..], Kind::Port, 0, port as u64);
+        let p = ports_hold(&l[i + 1..], port);
         both(a, p)
     } else {
         Membership::Nothing
@@ -268,6 +321,17 @@ pub fn is_retired(l: &[u8]) -> bool
     }
 }
 
+// Whether a line of a form that grants holds the request, at an IPv6 address. One without a colon is of no form that matters.
+fn held_v6(l: &[u8], high: u64, low: u64, port: u16) -> Membership
+    ensures { λ r. ⌜ r ≡ heldV6 (high * 2 ^ 64 + low) port (now (l .entry)) ⌝ }
+{
+    if text::index_of(l, b':') < l.len() {
+        comma_form_v6(l, high, low, port)
+    } else {
+        Membership::Is(false)
+    }
+}
+
 // Whether a line of a form that grants holds the request.
 fn held(l: &[u8], addr: Addr, port: u16) -> Membership
     ensures { λ r. ⌜ r ≡ heldOf addr port (now (l .entry)) ⌝ }
@@ -275,7 +339,7 @@ fn held(l: &[u8], addr: Addr, port: u16) -> Membership
     match addr {
         Addr::Unknown => Membership::Nothing,
         Addr::V4(n) => comma_form_v4(l, n, port),
-        Addr::V6(a, b) => comma_form_v6(l, a, b, port),
+        Addr::V6(a, b) => held_v6(l, a, b, port),
     }
 }
 

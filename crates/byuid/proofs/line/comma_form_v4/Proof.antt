@@ -1,26 +1,36 @@
--- `byuid::line::comma_form_v4` meets its contract: the addresses stand before the first comma, and the ports after it. Assumes nothing.
+-- `byuid::line::comma_form_v4` meets its contract, by the byte after the first address. Assumes nothing.
 use borrow.Author.Needs.{needs}
-use mathlib.Core.Path.{sym}
-use lib.Seq.{length-take-le}
-use Rattle.byuid.proofs.LineLaws.{comma-mark, comma-no-mark}
+use Rattle.byuid.proofs.FrontLaws.{comma-end, comma-slash, comma-hyphen, comma-unread, comma-alone, comma-other}
 use Rattle.byuid.proofs.line.comma_form_v4.Statement.{statement}
 use Rattle.byuid.proofs.line.comma_form_v4.Tie as tie
-
-slice-aggregate-addresses-hold-v4 : tie.Need-slice-aggregate-addresses-hold-v4
-slice-aggregate-addresses-hold-v4 c = sym (length-take-le _ _ (search needs))
 
 pub comma-form-v4-spec : {M : Type 1} → statement M
 comma-form-v4-spec =
     let facts = tie.spec
     (λ c κs. search needs)
-    slice-aggregate-addresses-hold-v4
+    (λ c. search needs)
+    (λ c. search needs)
+    (λ c. search (comma-end, needs))
+    (λ c. search needs)
+    (λ c. search needs)
+    (λ c. search needs)
+    (λ c. search needs)
+    (λ c. search needs)
     (λ c κs. search needs)
+    (λ c. search (comma-slash, needs))
+    (λ c. search needs)
+    (λ c. search needs)
+    (λ c. search needs)
+    (λ c. search needs)
+    (λ c κs. search needs)
+    (λ c. search (comma-hyphen, needs))
     (λ c. search needs)
     (λ c. search needs)
     (λ c. search needs)
     (λ c. search needs)
     (λ c κs. search needs)
     (λ c κs. search needs)
-    (λ c. search (comma-mark, needs))
-    (λ c. search (comma-no-mark, needs)) in
+    (λ c. search (comma-unread, needs))
+    (λ c. search (comma-alone, needs))
+    (λ c. search (comma-other, needs)) in
     tie.close facts
