@@ -26,13 +26,14 @@ use Rattle.tables.specs.Tried.{capped}
 use Rattle.views.specs.declared.Naming.{Naming}
 use Rattle.views.specs.declared.Naming.the-variants as N
 use Rattle.views.specs.declared.Reference.{Reference}
-use Rattle.patterns.specs.Code.{Named, wordSize, wildcardOf, matchesPattern, hostSeen, patternSeen}
+use Rattle.patterns.specs.Code.{wordSize, wildcardOf, matchesPattern, hostSeen, patternSeen}
 use Rattle.patterns.proofs.PatternLaws.{wildcardOf-sized}
 use Rattle.classes.specs.Class.{Describes}
 use Rattle.elements.specs.declared.User.{User}
 use Rattle.elements.specs.declared.Found.{Found}
 use Rattle.elements.specs.declared.Found.the-variants.{No}
 use Rattle.elements.specs.declared.element.ElementFault.{ElementFault}
+use Rattle.elements.specs.declared.element.ElementSeen.{ElementSeen}
 use Rattle.elements.specs.declared.element.KindSeen.{KindSeen}
 use Rattle.elements.specs.Request.{Request}
 use Rattle.elements.specs.Element.{Element, clientReserved, daemonReserved, daemonName, userHalf, foundIf, daemonElement, clientElement, lookAt, elementLooked}
@@ -232,18 +233,7 @@ module _ (tables notes e : List ℕ) (look : Bool) (r : Reference) (c : ℕ) (is
       unfolding kindSeen
       client-found-is l = ap₂ lookedFor (ap (λ (x : KindSeen). x .found) client-kind ∙ rw l) (client-count ∙ rw l)
 
--- ## A client element that is told to be a domain or a name
-
-pub named-described : (m : ℕ) (e : List ℕ) → Describes m e → (x : Bool) → x ≡ wordSize (length e) → (not x && (ltb m 8 && not (eqb (bitAnd m 241) 0))) ≡ true
-    → Named e
-named-described m e h x is-x t =
-    let outer : (not x ≡ true) × ((ltb m 8 && not (eqb (bitAnd m 241) 0)) ≡ true) = and-true (not x) (ltb m 8 && not (eqb (bitAnd m 241) 0)) t in
-    let inner : (ltb m 8 ≡ true) × (not (eqb (bitAnd m 241) 0) ≡ true) = and-true (ltb m 8) (not (eqb (bitAnd m 241) 0)) (outer .1) in
-    record {
-      size = sym is-x ∙ not-true x (outer .0);
-      names = sym (h .names) ∙ inner .0;
-      not-dotted = sym (h .dotted) ∙ not-true (eqb (bitAnd m 241) 0) (inner .1);
-    }
+-- ## Elements of name bytes
 
 -- a name byte is none that no name has
 name-other : (b k : ℕ) → isNameByte k ≡ false → isNameByte b ≡ true → eqb b k ≡ false
@@ -287,15 +277,26 @@ module _ (e : List ℕ) (h : all isNameByte e ≡ true) where
   unfolding patternWith
   plain-pattern m = rw slashless
 
-pub named-client : (v : View) (e : List ℕ) → Named e → (look : Bool) (c : Endpoint) (u : User) (name : List ℕ) (g : HostSeen)
+pub named-client : (v : View) (e : List ℕ) → true ≡ all isNameByte e → (look : Bool) (c : Endpoint) (u : User) (name : List ℕ) (g : HostSeen)
     → g ≡ patternSeen look (hostPattern e) c → (f : ElementFault) → f ≡ faultOf false (g .sound) N.Sound → (x : Found) → x ≡ foundIf (g .matches)
     → (n : ℕ) → n ≡ counted look (capped (1 + 0)) → record { fault = f; found = x; looked = n } ≡ elementSeen look (clientRequest c u name) (clientKind v) e
 named-client v e h look c u name g is-g f is-f x is-x n is-n =
-    let is-with : g ≡ patternSeen look (patternWith (v .client) e) c = is-g ∙ ap (λ (p : Pattern). patternSeen look p c) (sym (plain-pattern e (h .names) (v .client))) in
+    let names : all isNameByte e ≡ true = sym h in
+    let is-with : g ≡ patternSeen look (patternWith (v .client) e) c = is-g ∙ ap (λ (p : Pattern). patternSeen look p c) (sym (plain-pattern e names (v .client))) in
     elementSeen-is look (clientRequest c u name) (clientKind v) e (kind (g .sound) x)
-    (clientKind-whole (v .client) e (length e) (whole e (h .names)) look c u name g refl is-with x is-x) false (client-unreserved e (h .names))
-    N.Sound (naming-none e (whole e (h .names)) (slashless e (h .names)) (v .naming)) f is-f
-    n (is-n ∙ ap (λ (k : ℕ). counted look (capped k)) (looked-none e (whole e (h .names)) (slashless e (h .names)) (v .clientTried)))
+    (clientKind-whole (v .client) e (length e) (whole e names) look c u name g refl is-with x is-x) false (client-unreserved e names)
+    N.Sound (naming-none e (whole e names) (slashless e names) (v .naming)) f is-f
+    n (is-n ∙ ap (λ (k : ℕ). counted look (capped k)) (looked-none e (whole e names) (slashless e names) (v .clientTried)))
+
+-- what such an element finds and counts where it is looked at
+pub named-found : (tables notes e : List ℕ) → true ≡ all isNameByte e → (c : Endpoint) (u : User) (name : List ℕ) (g : HostSeen)
+    → g ≡ patternSeen true (hostPattern e) c → (x : Found) → x ≡ foundIf (g .matches) → (n : ℕ) → n ≡ counted true (capped (1 + 0))
+    → lookedFor x n
+    ≡ lookedFor (lookAt (clientRequest c u name) (clientElement (noted 0 tables notes) e)) (capped (elementLooked (viewOf tables notes .clientTried) e))
+unfolding elementSeen
+named-found tables notes e h c u name g is-g x is-x n is-n =
+    ap (λ (s : ElementSeen). lookedFor (s .found) (s .looked))
+    (named-client (viewOf tables notes) e h true c u name g is-g (faultOf false (g .sound) N.Sound) refl x is-x n is-n)
 
 -- a daemon element that is told to be a name: x says whether it is as long as a wildcard
 module _ (k : ℕ) (e : List ℕ) (h : Describes k e) (x : Bool) (is-x : x ≡ wordSize (length e)) (t : (not x && ltb k 8) ≡ true) where

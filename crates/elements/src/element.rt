@@ -8,6 +8,7 @@ use super::count;
 use patterns::Host;
 use patterns::HostSeen;
 use patterns::Name;
+use patterns::net::dotted_seen;
 use patterns::pattern::Wildcard;
 use patterns::pattern::host_read;
 use patterns::pattern::host_seen;
@@ -29,7 +30,7 @@ ghost use lib.ListN.{length};
 ghost use Rattle.text.specs.Basics.{isSome, all, given};
 ghost use Rattle.text.specs.Text.{firstAmong, inRange};
 ghost use Rattle.patterns.specs.Host.{endpoint, nameCase};
-ghost use Rattle.patterns.specs.Pattern.{isNameByte};
+ghost use Rattle.patterns.specs.Pattern.{isNameByte, hostPattern};
 ghost use Rattle.patterns.specs.Code.{isDottedByte, hostSeen, patternSeen};
 ghost use Rattle.tables.specs.Table.{isTableName, tableName, patternWith};
 ghost use Rattle.tables.specs.Tried.{capped};
@@ -507,7 +508,7 @@ pub fn daemon_found(
     }
 }
 
-// What the client element e finds of a request, and what it counts; mask: the classes of its bytes.
+// What the client element e finds of a request, and what it counts; mask: the classes of its bytes. One of name bytes names no table.
 pub fn client_found(
     e: &[u8],
     mask: u8,
@@ -525,6 +526,13 @@ pub fn client_found(
         (clientElement (viewOf (now (tables .entry)) (now (notes .entry)) .client) (now (e .entry))))
         (capped (elementLooked (viewOf (now (tables .entry)) (now (notes .entry)) .clientTried) (now (e .entry)))) ⌝ }
 {
+    if mask < 8 {
+        let host = host_seen(e, true, mask & 241 == 0, true, client, client_name);
+        return Looked {
+            found: found_if(host.matches),
+            looked: count::if_looked(true, 0),
+        };
+    }
     let at = sign_place(e, mask);
     let named = reference_of(tables, notes, 0, e, at);
     let kind = client_kind(
@@ -635,6 +643,28 @@ pub fn daemon_seen(
     daemon_any(e, mask, look, tables, notes, daemon, server, server_name)
 }
 
+// Whether e, a text of name bytes, is a host pattern and, if it is looked at, matches; mask: the classes of its bytes. Most are domains, names
+// or dotted, which their bytes, their length and their first byte tell.
+fn told_seen(e: &[u8], mask: u8, look: bool, host: Host, name: &[u8]) -> HostSeen
+    requires { ⌜ Describes mask (now e) ⌝ }
+    requires { ⌜ mask < 8 ⌝ }
+    ensures { λ r. ⌜ r ≡ patternSeen look (hostPattern (now (e .entry))) (endpoint host (now (name .entry))) ⌝ }
+{
+    if mask & 241 != 0 {
+        if is_word_size(e.len()) {
+            return host_seen(e, true, false, look, host, name);
+        }
+        return named_seen(e, look, host, name);
+    }
+    if e.len() == 0 {
+        return host_seen(e, true, true, look, host, name);
+    }
+    if e[0] == b'.' {
+        return host_seen(e, true, true, look, host, name);
+    }
+    dotted_seen(e, look, host)
+}
+
 // What is wrong with any client element e and, if it is looked at, what it finds.
 fn client_any(
     e: &[u8],
@@ -692,8 +722,8 @@ pub fn client_seen(
         ⌜ r ≡ elementSeen look (clientRequest (endpoint client (now («client_name» .entry))) user (now («user_name» .entry)))
         (clientKind (viewOf (now (tables .entry)) (now (notes .entry)))) (now (e .entry)) ⌝ }
 {
-    if !is_word_size(e.len()) & ((mask < 8) & (mask & 241 != 0)) {
-        let host = named_seen(e, look, client, client_name);
+    if mask < 8 {
+        let host = told_seen(e, mask, look, client, client_name);
         return ElementSeen {
             fault: fault_of(false, host.sound, Naming::Sound),
             found: found_if(host.matches),

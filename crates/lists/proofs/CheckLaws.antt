@@ -1,7 +1,7 @@
 -- Laws of checking one list and one rule, shaped as the calls and tests of the code hand their facts over.
 -- Assumes nothing.
 use Prim.Native.Nat.{ℕ, _≤_, _<_}
-use mathlib.Core.Bool.{Bool, true, false, not, _&&_, _||_, true≢false, or-false, and-true, and-assoc, or-assoc}
+use mathlib.Core.Bool.{Bool, true, false, not, _&&_, _||_, true≢false, or-false, and-true, and-false, and-assoc, or-assoc}
 use mathlib.Core.List.{List, [], _∷_}
 use mathlib.Core.Option.{Option, none, some}
 use mathlib.Core.Path.{_≡_, refl, sym, ap, ap₂, fun-ext, _∙_}
@@ -15,6 +15,7 @@ use Rattle.lines.specs.Rule.{isExcept, parseRule}
 use Rattle.lines.specs.Parts.{separatorIndex, afterSeparator, words, trimBlanks, anyBadPercent}
 use Rattle.lines.proofs.RuleLaws.{rule, parseRule-none}
 use Rattle.elements.specs.declared.element.ElementFault.{ElementFault}
+use Rattle.elements.specs.declared.element.ElementFault.the-variants as E
 use Rattle.views.specs.declared.Naming.{Naming}
 use Rattle.views.specs.declared.Naming.the-variants as N
 use Rattle.elements.specs.Code.{View, Kind, daemonKind, clientKind, namingWith, elementNaming, faultOf, elementFault}
@@ -78,6 +79,19 @@ pub listMore-is : (c : ListCheck) (after x : Bool) (f : ElementFault) (r : Bool)
     → checks (c .empty && x) (c .misplaced || x && not after) (c .reserved || r) (c .unsound || u) (c .missing || n) (c .deep || d) ≡ listMore c after x f
 unfolding listMore
 listMore-is c after x f r is-r u is-u n is-n d is-d = rw (is-r, is-u, is-n, is-d)
+
+-- a sound element
+module _ (c : ListCheck) (after x : Bool) (f : ElementFault) (is-f : f ≡ E.Sound) where
+  kept : (e m : Bool) → e ≡ (c .empty && x) → m ≡ (c .misplaced || x && not after)
+      → checks e m (c .reserved) (c .unsound) (c .missing) (c .deep) ≡ listMore c after x f
+  unfolding listMore
+  kept e m is-e is-m = rw (is-e, is-m, is-f, or-false (c .reserved), or-false (c .unsound), or-false (c .missing), or-false (c .deep))
+
+  pub sound-except : x ≡ true → checks (c .empty) (c .misplaced || not after) (c .reserved) (c .unsound) (c .missing) (c .deep) ≡ listMore c after x f
+  sound-except q = kept (c .empty) (c .misplaced || not after) (rw q (sym (and-true (c .empty)))) (rw q)
+
+  pub sound-element : x ≡ false → checks false (c .misplaced) (c .reserved) (c .unsound) (c .missing) (c .deep) ≡ listMore c after x f
+  sound-element q = kept false (c .misplaced) (rw q (sym (and-false (c .empty)))) (rw q (sym (or-false (c .misplaced))))
 
 pub listFrom-start : (kind : Kind) (ws : List (List ℕ)) → listCheck kind ws ≡ listFrom kind false listStart ws
 unfolding listCheck listFrom

@@ -86,8 +86,8 @@ pub fn list_start() -> ListCheck
     }
 }
 
-// c, one element further; after: whether an element stands directly before it, x: whether it is EXCEPT.
-pub fn list_more(c: ListCheck, after: bool, x: bool, f: ElementFault) -> ListCheck
+// c, one faulty element further; after: whether an element stands directly before it, x: whether it is EXCEPT.
+fn list_fault(c: ListCheck, after: bool, x: bool, f: ElementFault) -> ListCheck
     ensures { λ r. ⌜ r ≡ listMore c after x f ⌝ }
 {
     ListCheck {
@@ -97,6 +97,40 @@ pub fn list_more(c: ListCheck, after: bool, x: bool, f: ElementFault) -> ListChe
         unsound: c.unsound | is_fault(f),
         missing: c.missing | is_missing(f),
         deep: c.deep | is_deep(f),
+    }
+}
+
+// What was found so far, one element further; after: whether an element stands directly before it, x: whether it is EXCEPT. Most are
+// sound, and tell no more than that there is an element.
+pub fn list_more(so_far: ListCheck, after: bool, x: bool, f: ElementFault) -> ListCheck
+    ensures { λ r. ⌜ r ≡ listMore «so_far» after x f ⌝ }
+{
+    match f {
+        ElementFault::Sound => {
+            if x {
+                ListCheck {
+                    empty: so_far.empty,
+                    misplaced: so_far.misplaced | !after,
+                    reserved: so_far.reserved,
+                    unsound: so_far.unsound,
+                    missing: so_far.missing,
+                    deep: so_far.deep,
+                }
+            } else {
+                ListCheck {
+                    empty: false,
+                    misplaced: so_far.misplaced,
+                    reserved: so_far.reserved,
+                    unsound: so_far.unsound,
+                    missing: so_far.missing,
+                    deep: so_far.deep,
+                }
+            }
+        }
+        ElementFault::Reserved => list_fault(so_far, after, x, f),
+        ElementFault::Unknown => list_fault(so_far, after, x, f),
+        ElementFault::Missing => list_fault(so_far, after, x, f),
+        ElementFault::Deep => list_fault(so_far, after, x, f),
     }
 }
 

@@ -55,7 +55,7 @@ use Rattle.rules.specs.declared.hosts_file.Examined.the-variants as T
 use Rattle.rules.specs.declared.hosts_file.Step.{Step}
 use Rattle.rules.specs.Check.{lineFaultBy}
 use Rattle.rules.specs.Search.{answer, ruleAnswer, lineAnswer}
-use Rattle.rules.specs.FileCode.{Query, queryFound, judgedLine, faultAt, hostsFaultAt, passOf, passLine, passText, layoutFault, kindAs, lineKind, examinedAs, ruleExamined, lineExamined}
+use Rattle.rules.specs.FileCode.{Query, queryFound, judgedLine, faultAt, hostsFaultAt, passOf, passLine, passText, layoutFault, kindAs, lineKind, examinedAs, isRefused, ruleExamined, lineExamined}
 use Rattle.rules.specs.FileCode.{commandPart, ScannedLine, stepOf, combined, tallied, queryLooked, lineLooks, linesLooked, soughtIn}
 use Rattle.rules.specs.Looked.{ofRule, lineCount}
 use Rattle.rules.proofs.JoinLaws.{ruleExamined-join, isEmpty-trimmed}
@@ -155,26 +155,40 @@ module _ (b : Bool) (r : Query) (s : List ℕ) (l : LineSpan) (x : LineKind) (is
   pub line-ruled : x ≡ Kind.HasRule → (y : Examined) → y ≡ ruleExamined b r s → y ≡ lineExamined b r (line 0 0 s (l .ended))
   line-ruled e y is-y = is-y ∙ (rw e at examined-kind)
 
--- whether the line is faulty, from what it tells
-module _ (v : View) (l : Line) (b : Bool) (q : Request) (x : Examined) (is-x : x ≡ lineExamined b (record { view = v; request = q }) l) where
-  told : Looked
-  told = if isComment l || isBlank l then lookedFor No 0 else soughtIn b (record { view = v; request = q }) (l .raw)
+-- whether the line is faulty as its kind has it, t saying whether its rule is
+abbrev judgedBy : LineKind → Bool → Bool
+judgedBy (Kind.Faulty f) t = true
+judgedBy Kind.Skipped t = false
+judgedBy Kind.HasRule t = t
 
-  pub judged-faulty : (f : Fault) → x ≡ T.Faulty f → true ≡ isSome (judgedLine v l)
-  unfolding lineExamined told
-  judged-faulty f e = by (judgedLine v l) (sym is-x ∙ e)
-    where
-      by : (o : Option Fault) → examinedAs o told ≡ T.Faulty f → true ≡ isSome o
-      by none k = let z : _≡_ {A = ℕ} 0 1 = cc in absurd (omega arith)
-      by (some g) k = refl
+judgedBy-kind : (o q : Option Fault) (p : Bool) → judgedBy (kindAs o p) (isSome q) ≡ isSome (o orElse (if p then none else q))
+judgedBy-kind (some f) q p = refl
+judgedBy-kind none q true = refl
+judgedBy-kind none q false = refl
 
-  pub judged-sound : (y : Looked) → x ≡ T.Finds y → false ≡ isSome (judgedLine v l)
-  unfolding lineExamined told
-  judged-sound y e = by (judgedLine v l) (sym is-x ∙ e)
-    where
-      by : (o : Option Fault) → examinedAs o told ≡ T.Finds y → false ≡ isSome o
-      by none k = refl
-      by (some g) k = let z : _≡_ {A = ℕ} 0 1 = cc in absurd (omega arith)
+told-refused : (o : Option Fault) (y : Looked) → isRefused (examinedAs o y) ≡ isSome o
+told-refused none y = refl
+told-refused (some f) y = refl
+
+module _ (v : View) (s : List ℕ) (l : LineSpan) (x : LineKind) (is-x : x ≡ lineKind (line 0 0 s (l .ended))) where
+  judged-kind : judgedBy x (isSome (judgedFault v (parseRule s))) ≡ isSome (judgedLine v (line 0 0 s (l .ended)))
+  unfolding lineKind lineFaultBy
+  judged-kind =
+      let n : Line = line 0 0 s (l .ended) in
+      rw (is-x, kind-lowest n) (judgedBy-kind (layoutFault n) (judgedFault v (parseRule s)) (isComment n || isBlank n))
+
+  pub judged-faulty : (f : Fault) → x ≡ Kind.Faulty f → true ≡ isSome (judgedLine v (line 0 0 s (l .ended)))
+  judged-faulty f e = rw e at judged-kind
+
+  pub judged-skipped : x ≡ Kind.Skipped → false ≡ isSome (judgedLine v (line 0 0 s (l .ended)))
+  judged-skipped e = rw e at judged-kind
+
+  pub judged-ruled : x ≡ Kind.HasRule → (b : Bool) (q : Request) (y : Examined) → y ≡ ruleExamined b (record { view = v; request = q }) s
+      → (r : Bool) → r ≡ isRefused y → r ≡ isSome (judgedLine v (line 0 0 s (l .ended)))
+  unfolding ruleExamined
+  judged-ruled e b q y is-y r is-r =
+      is-r ∙ ap isRefused is-y ∙ told-refused (judgedFault v (parseRule s)) (soughtIn b (record { view = v; request = q }) s)
+      ∙ (rw e at judged-kind)
 
 -- ## The line with dropped pairs
 
@@ -222,6 +236,9 @@ module _ (s : List ℕ) (l : LineSpan) (x : LineKind) (is-x : x ≡ lineKind (li
 
 pub plain-line : (s : List ℕ) (l : LineSpan) → ScannedLine s l → l .joins ≡ 0 → NoNewline s
 plain-line s l h e = h .plain e
+
+pub unjoined-line : (s : List ℕ) (l : LineSpan) → ScannedLine s l → l .joins ≤ 0 → NoNewline s
+unjoined-line s l h e = h .plain (omega arith)
 
 -- the part of a buffer o into which the line s was joined
 module _ (s o d : List ℕ) (n : ℕ) (is-n : n ≡ length (join s)) (is-o : o ≡ join s ++ drop (length (join s)) d) where

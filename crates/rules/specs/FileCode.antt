@@ -171,6 +171,11 @@ abbrev pub soughtIn : Bool → Query → List ℕ → Looked
 soughtIn search r t =
     lookedFor (if search then lineFound (r .view) (r .request) t else No) (counted search (capped (lineLooked (r .view) (r .request) t)))
 
+-- whether what a rule tells is a fault
+abbrev pub isRefused : Examined → Bool
+isRefused (T.Faulty f) = true
+isRefused (T.Finds y) = false
+
 unfoldable pub ruleExamined : Bool → Query → List ℕ → Examined
 ruleExamined search r t = examinedAs (judgedFault (r .view) (parseRule t)) (soughtIn search r t)
 

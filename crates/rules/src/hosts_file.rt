@@ -15,7 +15,7 @@ ghost use Rattle.lists.specs.Code.{NoNewline};
 ghost use Rattle.lines.specs.Line.{lines};
 ghost use Rattle.tables.specs.Tried.{capped};
 ghost use Rattle.rules.specs.FileCode.{queryAt, ScannedLine, lineKind, ruleExamined, lineExamined, commandPart, passLine, stepOf, passText, passOf, hostsFaultAt};
-ghost use Rattle.rules.specs.FileCode.{judgedLine, tallied, lineLooks, linesLooked};
+ghost use Rattle.rules.specs.FileCode.{judgedLine, isRefused, tallied, lineLooks, linesLooked};
 ghost use mathlib.Core.Option.{none};
 ghost use Rattle.text.specs.Basics.{isSome};
 use super::Answer;
@@ -459,7 +459,18 @@ pub fn nobody() -> Request {
     }
 }
 
-// Whether a line that was scanned is faulty, by itself or by the tables that its rule names; the notes say which tables may be named.
+// Whether what a rule tells is a fault.
+fn is_refused(x: Examined) -> bool
+    ensures { λ r. ⌜ r ≡ isRefused x ⌝ }
+{
+    match x {
+        Examined::Faulty(_) => true,
+        Examined::Finds(_) => false,
+    }
+}
+
+// Whether a line that was scanned is faulty, by itself or by the tables that its rule names; the notes say which tables may be named. It does
+// not call examine_line, which by having one caller becomes a part of the loop over lines.
 pub fn is_faulty(
     class: &[u8; 256],
     tables: &[u8],
@@ -472,9 +483,16 @@ pub fn is_faulty(
     ensures { λ r.
         ⌜ r ≡ isSome (judgedLine (viewOf (now (tables .entry)) (now (notes .entry))) (line 0 0 (now (raw .entry)) (span .ended))) ⌝ }
 {
-    match examine_line(class, tables, notes, raw, span, false, &raw[..0], nobody()) {
-        Examined::Faulty(_) => true,
-        Examined::Finds(_) => false,
+    match kind_of_line(raw, span) {
+        LineKind::Faulty(_) => true,
+        LineKind::Skipped => false,
+        LineKind::HasRule => {
+            if 0 < span.joins {
+                is_refused(examine_joined(class, tables, notes, raw, false, &raw[..0], nobody()))
+            } else {
+                is_refused(examine_rule(class, tables, notes, raw, false, &raw[..0], nobody()))
+            }
+        }
     }
 }
 

@@ -1,12 +1,17 @@
 -- `element::client_found` meets its contract. Assumes nothing.
 use borrow.Author.Needs.{needs}
-use Rattle.elements.proofs.SeenLaws.{client-found-is}
+use Rattle.elements.proofs.SeenLaws.{client-found-is, named-found}
+use Rattle.elements.proofs.ToldLaws.{names-told}
 use Rattle.elements.proofs.element.client_found.Statement.{statement}
 use Rattle.elements.proofs.element.client_found.Tie as tie
 
 pub client-found-spec : {M : Type 1} → statement M
 client-found-spec =
     let facts = tie.spec
+    (λ c κs. search (names-told, needs))
+    (λ c κs. search needs)
+    (λ c κs. search needs)
+    (λ c. search (named-found, names-told, needs))
     (λ c κs. search needs)
     (λ c κs. search needs)
     (λ c κs. search needs)
