@@ -3,7 +3,8 @@
 //   check_names(tables, clean) == the same, where the texts may be known to be sound
 ghost use mathlib.Core.Path.{_≡_};
 ghost use Rattle.tables.specs.Table.{isMissing, isBadPattern};
-ghost use Rattle.tables.specs.Code.{tablesIn, wordMissing, words, plainBad, wordsChecked, textChecked, namedBefore, firstNumber, tablesChecked, Starts, CleanWords, CleanTexts};
+ghost use Rattle.tables.specs.Code.{tablesIn, wordMissing, words, plainBad, wordsChecked, textChecked, namedBefore, firstNumber, tablesChecked, Starts};
+ghost use Rattle.tables.specs.Code.{CleanWords, CleanTexts};
 use super::entry::Place;
 use super::entry::after_count;
 use super::entry::after_entry;
