@@ -25,14 +25,15 @@ use Rattle.patterns.specs.Code.{matchesPattern}
 use Rattle.lines.specs.Line.{lines}
 use Rattle.lines.specs.Rule.{Rule}
 use Rattle.tables.specs.declared.check.TablesCheck.{TablesCheck}
-use Rattle.tables.specs.Table.{Table, Matcher, afterCount, tableName, tableNamed, isMissing, patternWith, inTable, leadsPast, matchOf, readTable, tablesOf, tableNameFault, badTableFault}
+use Rattle.tables.specs.Table.{Table, Matcher, afterCount, tableName, tableNamed, isMissing, patternWith, inTable, leadsPast, matchOf, readTable, tablesOf, tableNameFault, badTableFault, firstTable}
 use Rattle.tables.specs.Tried.{triedIn, triedOf, capped}
 use Rattle.tables.specs.Code.{entries, tableCount, tablesIn, tablesChecked, placeNamed}
 use Rattle.tables.proofs.TableLaws.{missing-place, refusedBy, names-told, bad-told}
 use Rattle.views.specs.declared.Naming.{Naming}
 use Rattle.views.specs.declared.Naming.the-variants as Naming
 use Rattle.views.specs.View.{namingOf, notedMatch, notedTried, placedNaming, isDeep}
-use Rattle.views.specs.Level.{Viewed}
+use Rattle.views.specs.Level.{Viewed, ViewedBy}
+use Rattle.views.specs.declared.Viewing.{Viewing}
 use Rattle.views.proofs.ViewLaws.{match-client, match-server, tried-client, tried-server, view-notes, closed, naming-right}
 use Rattle.elements.specs.declared.Found.{Found}
 use Rattle.elements.specs.declared.Found.the-variants.{No, Ask}
@@ -58,7 +59,7 @@ use Rattle.rules.specs.Check.{hostsFault, namingFault, missingFault, dep
 use Rattle.rules.specs.Search.{answer, lineAnswer, search}
 use Rattle.rules.specs.Looked.{fileLooked, looked}
 use Rattle.rules.specs.FileCode.{Query, queryFound, queryLooked, hostsFaultAt, passOf, passBoth, tallied, linesLooked, bothLooked}
-use Rattle.rules.specs.Code.{Noted, NamingNoted, linesFault, contentsFault, tablesDoubtful, searched, findingOf, findingBy}
+use Rattle.rules.specs.Code.{Noted, NotedBy, NamingNoted, linesFault, contentsFault, tablesOver, tablesDoubtful, searched, findingOf, findingBy}
 use Rattle.rules.proofs.NearLaws.{Near, rule-near, total, total-near}
 use Rattle.rules.proofs.NamingLaws.{isSome-orElse, naming-same, judged-some}
 
@@ -217,13 +218,21 @@ module _ (t : List ℕ) (r : Request) where
   pub notes-none : length t ≤ 2 → Noted (tablesIn t) r (0 ∷ 0 ∷ 0 ∷ [])
   notes-none h = noted-none (tablesIn t) r (short-none t h)
 
-pub notes-view : (t names : List ℕ) (q : Places) (a b notes : List ℕ) → length (tablesIn t) ≤ 64 → length notes ≡ 131 → a ≡ bytesAt names (q .«client_name»)
+notes-view : (t names : List ℕ) (q : Places) (a b notes : List ℕ) → length (tablesIn t) ≤ 64 → length notes ≡ 131 → a ≡ bytesAt names (q .«client_name»)
     → b ≡ bytesAt names (q .«server_name») → Viewed (tablesIn t) (endpoint (q .client) a) (endpoint (q .server) b) notes
     → Noted (tablesIn t) (requestAt names q) notes
 notes-view t names q a b notes few long is-a is-b is-v =
     noted-view (tablesIn t) (requestAt names q) notes
     (subst (λ (x : List ℕ). Viewed (tablesIn t) (endpoint (q .client) x) (endpoint (q .server) (bytesAt names (q .«server_name»))) notes) is-a
     (subst (λ (y : List ℕ). Viewed (tablesIn t) (endpoint (q .client) a) (endpoint (q .server) y) notes) is-b is-v)) few (λ e. omega arith)
+
+pub view-noted : (t names : List ℕ) (q : Places) (a b : List ℕ) (v : Viewing) → length (tablesIn t) ≤ 64 → length (v .notes) ≡ 131
+    → a ≡ bytesAt names (q .«client_name») → b ≡ bytesAt names (q .«server_name»)
+    → ViewedBy (tablesIn t) (endpoint (q .client) a) (endpoint (q .server) b) v → NotedBy (tablesIn t) (requestAt names q) v
+view-noted t names q a b v few long is-a is-b is-v = record {
+  by-notes = notes-view t names q a b (v .notes) few long is-a is-b (is-v .viewed-notes);
+  by-clean = is-v .viewed-clean;
+}
 
 pub naming-noted : (ts : List Table) (r : Request) (notes : List ℕ) → Noted ts r notes → NamingNoted ts notes
 naming-noted ts r notes h = record { naming-missing = h .noted-missing; naming-deep = h .noted-deep }
@@ -270,6 +279,15 @@ or-nones false false c h = (refl, (refl, h))
 none-of : (o : Option Refusal) → isSome o ≡ false → o ≡ none
 none-of none e = refl
 none-of (some f) e = absurd (true≢false e)
+
+first-or : (a b : Bool) → (a || b) ≡ false → a ≡ false
+first-or true b h = h
+first-or false b h = refl
+
+-- where there are no tables there is no doubt
+short-clear : (t : List ℕ) → length t ≤ 2 → false ≡ tablesDoubtful t
+unfolding tablesDoubtful tablesChecked firstTable
+short-clear t h = rw (short-none t h, le-ltb 12288 (length t) (omega arith))
 
 module _ (allow deny t : List ℕ) (whole : tablesIn t ≡ tablesOf t) (r : Request) where
   abbrev found-answered : Searched
@@ -347,13 +365,6 @@ module _ (allow deny t : List ℕ) (whole : tablesIn t ≡ tablesOf t) (r : Requ
     unfolding tablesDoubtful
     clear = or-nones limits misnamed unsound (sym is-x ∙ e)
 
-    pub found-few : length (tablesIn t) ≤ 64
-    found-few = ltb-false 64 (length (tablesIn t)) (first-or (ltb 64 (length (tablesIn t))) (ltb 12288 (length t)) (clear .0))
-      where
-        first-or : (a b : Bool) → (a || b) ≡ false → a ≡ false
-        first-or true b h = h
-        first-or false b h = refl
-
     module _ (notes : List ℕ) (is-noted : Noted (tablesIn t) r notes) where
       abbrev v : View
       v = viewOf t notes
@@ -427,6 +438,16 @@ module _ (allow deny t : List ℕ) (whole : tablesIn t ≡ tablesOf t) (r : Requ
           ∙ ap₂ (λ (g : Rule → Found) (n : ℕ). findingOf o (searched (Option·getD (answers g) end) n)) same-found both-looked
           ∙ finding-some o (contentsFault allow deny t) (searched (Option·getD (answers (ruleFound (matchOf ts) r)) end) (capped (looked ts allow deny r))) both-some
 
+  pub found-over : (x : Bool) → x ≡ tablesOver t → x ≡ true → Finding.Doubtful ≡ found
+  unfolding tablesDoubtful
+  found-over x is-x e = found-doubtful (tablesDoubtful t) refl (rw (← is-x, e))
+
+  pub found-short : length t ≤ 2 → (p : Tally)
+      → p ≡ tallied (passBoth (record { view = viewOf t (0 ∷ 0 ∷ 0 ∷ []); request = r }) allow deny)
+      (capped (bothLooked (record { view = viewOf t (0 ∷ 0 ∷ 0 ∷ []); request = r }) allow deny))
+      → (f : Finding) → f ≡ findingBy p → f ≡ found
+  found-short h p is-p f is-f = found-answer false (short-clear t h) refl (0 ∷ 0 ∷ 0 ∷ []) (notes-none t r h) p is-p f is-f
+
 -- ## What a pass, and the tables by themselves, tell
 
 module _ (p : Tally) where
@@ -439,15 +460,18 @@ module _ (p : Tally) where
   pub by-matched : (a : Answer) → p .pass ≡ P.Matched a → Finding.Answer (searched a (p .looked)) ≡ findingBy p
   by-matched a e = rw e
 
-module _ (t : List ℕ) (n : ℕ) (is-n : n ≡ length (tablesIn t)) (y : Bool) (is-y : y ≡ ltb 12288 (length t)) where
-  pub doubt-limits : (ltb 64 n || y) ≡ true → true ≡ tablesDoubtful t
+module _ (t : List ℕ) (x : Bool) (is-x : x ≡ tablesOver t) where
+  pub doubt-limits : x ≡ true → true ≡ tablesDoubtful t
   unfolding tablesDoubtful
-  doubt-limits e = rw (← is-n, ← is-y, e)
+  doubt-limits e = rw (← is-x, e)
 
-  pub doubt-checked : (ltb 64 n || y) ≡ false → (c : TablesCheck) → c ≡ tablesChecked (tablesIn t)
+  pub few-of : x ≡ false → length (tablesIn t) ≤ 64
+  few-of e = ltb-false 64 (length (tablesIn t)) (first-or (ltb 64 (length (tablesIn t))) (ltb 12288 (length t)) (sym is-x ∙ e))
+
+  pub doubt-checked : x ≡ false → (c : TablesCheck) → c ≡ tablesChecked (tablesIn t)
       → (not (eqb (c .misnamed) 0) || not (eqb (c .unsound) 0)) ≡ tablesDoubtful t
   unfolding tablesDoubtful
-  doubt-checked e c is-c = rw (← is-n, ← is-y, e, is-c)
+  doubt-checked e c is-c = rw (← is-x, e, is-c)
 
 -- ## What a finding tells of the texts
 

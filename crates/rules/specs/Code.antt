@@ -21,7 +21,8 @@ use Rattle.section.specs.Section as S
 use Rattle.section.specs.Section.{part}
 use Rattle.tables.specs.Table.{Table, tablesOf, isMissing, leadsPast, depth, matchOf, tableNameFault, badTableFault}
 use Rattle.tables.specs.Tried.{capped, triedOf}
-use Rattle.tables.specs.Code.{tablesIn, tablesChecked}
+use Rattle.tables.specs.Code.{tablesIn, tablesChecked, CleanTexts}
+use Rattle.views.specs.declared.Viewing.{Viewing}
 use Rattle.views.specs.View.{namingOf, notedMatch, notedTried}
 use Rattle.elements.specs.Request.{Request}
 use Rattle.elements.specs.Code.{View}
@@ -89,13 +90,21 @@ pub record Noted (ts : List Table) (r : Request) (notes : List ℕ) : Type 0 whe
   pub noted-deep : tableNameFault ts ≡ none → (n : List ℕ) → isDeepName (namingOf ts notes n) ≡ leadsPast ts depth n
 
 -- the same of names alone
+-- the same of what is found of the tables, which tells too whether their texts are known to be sound
+pub record NotedBy (ts : List Table) (r : Request) (v : Viewing) : Type 0 where
+  pub by-notes : Noted ts r (v .notes)
+  pub by-clean : CleanTexts (v .clean) ts
+
 pub record NamingNoted (ts : List Table) (notes : List ℕ) : Type 0 where
   pub naming-missing : (n : List ℕ) → isMissingName (namingOf ts notes n) ≡ isMissing ts n
   pub naming-deep : tableNameFault ts ≡ none → (n : List ℕ) → isDeepName (namingOf ts notes n) ≡ leadsPast ts depth n
 
+abbrev pub tablesOver : List ℕ → Bool
+tablesOver t = ltb 64 (length (tablesIn t)) || ltb (S.tables .limit) (length t)
+
 unfoldable pub tablesDoubtful : List ℕ → Bool
 tablesDoubtful t =
-    (ltb 64 (length (tablesIn t)) || ltb (S.tables .limit) (length t))
+    tablesOver t
     || (not (eqb (tablesChecked (tablesIn t) .misnamed) 0) || not (eqb (tablesChecked (tablesIn t) .unsound) 0))
 
 abbrev pub searched : Answer → ℕ → Searched

@@ -7,13 +7,13 @@ ghost use Prim.Native.Nat.{_≤_};
 ghost use lib.ListN.{length};
 ghost use Rattle.text.specs.Basics.{isSome};
 ghost use Rattle.tables.specs.Table.{tablesOf, matchOf};
-ghost use Rattle.tables.specs.Code.{tablesIn};
+ghost use Rattle.tables.specs.Code.{tablesIn, CleanTexts};
 ghost use Rattle.elements.specs.Places.{requestAt};
 ghost use Rattle.rules.specs.Search.{search as searchBy};
 ghost use Rattle.rules.specs.FileCode.{passBoth, queryAt};
 ghost use Rattle.tables.specs.Tried.{capped};
 ghost use Rattle.rules.specs.Looked.{looked as lookedBy};
-ghost use Rattle.rules.specs.Code.{contentsFault, Noted, NamingNoted, searched, findingOf, findingBy, tablesDoubtful};
+ghost use Rattle.rules.specs.Code.{contentsFault, Noted, NotedBy, NamingNoted, searched, findingOf, findingBy, tablesOver, tablesDoubtful};
 use super::Answer;
 use super::File;
 use super::Verdict;
@@ -24,8 +24,9 @@ use super::pass_both;
 use elements::request::Request;
 use section::Part;
 use section::part_of;
-use tables::check::check_tables;
+use tables::check::check_names;
 use tables::entry::count;
+use views::Viewing;
 
 // An answer, and how many elements were looked at for it.
 pub struct Searched {
@@ -39,10 +40,10 @@ pub enum Finding {
     Doubtful,
 }
 
-// Notes on at most 64 tables for a request.
-pub fn notes_on(tables: &[u8], names: &[u8], request: Request) -> [u64; 131]
+// Notes on at most 64 tables for a request, and whether all their patterns are known to be sound.
+fn view_on(tables: &[u8], names: &[u8], request: Request) -> Viewing
     requires { ⌜ length (tablesIn (now tables)) ≤ 64 ⌝ }
-    ensures { λ r. ⌜ Noted (tablesIn (now (tables .entry))) (requestAt (now (names .entry)) request) r ⌝ }
+    ensures { λ r. ⌜ NotedBy (tablesIn (now (tables .entry))) (requestAt (now (names .entry)) request) r ⌝ }
 {
     let client = request.client;
     let server = request.server;
@@ -53,6 +54,15 @@ pub fn notes_on(tables: &[u8], names: &[u8], request: Request) -> [u64; 131]
         server,
         part_of(names, request.server_name),
     )
+}
+
+// Notes on at most 64 tables for a request.
+pub fn notes_on(tables: &[u8], names: &[u8], request: Request) -> [u64; 131]
+    requires { ⌜ length (tablesIn (now tables)) ≤ 64 ⌝ }
+    ensures { λ r. ⌜ Noted (tablesIn (now (tables .entry))) (requestAt (now (names .entry)) request) r ⌝ }
+{
+    let viewing = view_on(tables, names, request);
+    viewing.notes
 }
 
 // Notes that tell which of at most 64 tables may be named.
@@ -86,15 +96,42 @@ fn found_by(tally: Tally) -> Finding
     }
 }
 
-// Whether the tables are faulty by themselves, or too many or too long.
-fn are_doubtful(tables: &[u8]) -> bool
+// Whether the tables are too many or too long.
+fn are_over(tables: &[u8]) -> bool
+    ensures { λ r. ⌜ r ≡ tablesOver (now (tables .entry)) ⌝ }
+{
+    (64 < count(tables)) | section::Tables::over(tables.len())
+}
+
+// Whether the tables are faulty by themselves, or too many or too long; clean: whether all their patterns are known to be sound.
+fn are_doubtful(tables: &[u8], clean: bool) -> bool
+    requires { ⌜ CleanTexts clean (tablesIn (now tables)) ⌝ }
     ensures { λ r. ⌜ r ≡ tablesDoubtful (now (tables .entry)) ⌝ }
 {
-    if (64 < count(tables)) | section::Tables::over(tables.len()) {
+    if are_over(tables) {
         return true;
     }
-    let found = check_tables(tables);
+    let found = check_names(tables, clean);
     (found.misnamed != 0) | (found.unsound != 0)
+}
+
+// The answer by two texts and at most 64 tables. What the tables are to the request is found first: that tells most often that they are sound.
+fn find_among(allow: &[u8], deny: &[u8], tables: &[u8], names: &[u8], request: Request) -> Finding
+    requires { ⌜ tablesIn (now tables) ≡ tablesOf (now tables) ⌝ }
+    requires { ⌜ length (tablesIn (now tables)) ≤ 64 ⌝ }
+    ensures { λ r.
+        ⌜ r
+        ≡ findingOf (contentsFault (now (allow .entry)) (now (deny .entry)) (now (tables .entry)))
+        (searched
+        (searchBy (matchOf (tablesOf (now (tables .entry)))) (now (allow .entry)) (now (deny .entry)) (requestAt (now (names .entry)) request))
+        (capped (lookedBy (tablesOf (now (tables .entry))) (now (allow .entry)) (now (deny .entry)) (requestAt (now (names .entry)) request)))) ⌝ }
+{
+    let seen = view_on(tables, names, request);
+    if are_doubtful(tables, seen.clean) {
+        return Finding::Doubtful;
+    }
+    let notes = seen.notes;
+    found_by(pass_both(tables, &notes, allow, deny, names, request))
 }
 
 // The answer by two texts and the tables of a section five whose frame is sound, or of none.
@@ -107,14 +144,13 @@ pub fn find(allow: &[u8], deny: &[u8], tables: &[u8], names: &[u8], request: Req
         (searchBy (matchOf (tablesOf (now (tables .entry)))) (now (allow .entry)) (now (deny .entry)) (requestAt (now (names .entry)) request))
         (capped (lookedBy (tablesOf (now (tables .entry))) (now (allow .entry)) (now (deny .entry)) (requestAt (now (names .entry)) request)))) ⌝ }
 {
-    if are_doubtful(tables) {
-        return Finding::Doubtful;
-    }
     if tables.len() <= 2 {
         return found_by(pass_both(tables, &[0u64; 3], allow, deny, names, request));
     }
-    let notes = notes_on(tables, names, request);
-    found_by(pass_both(tables, &notes, allow, deny, names, request))
+    if are_over(tables) {
+        return Finding::Doubtful;
+    }
+    find_among(allow, deny, tables, names, request)
 }
 
 // Whether two texts and a section five whose frame is sound are sound, by the same pass. Nobody's request is searched for.

@@ -1,16 +1,16 @@
 -- Laws of the faults of the tables themselves, shaped as the calls and tests of the code hand their facts over.
 -- Assumes nothing.
 use Prim.Native.Nat.{ℕ, zero, suc, _+_, _-_, _≤_, _<_}
-use mathlib.Core.Bool.{Bool, true, false, not, _||_, true≢false}
+use mathlib.Core.Bool.{Bool, true, false, not, _||_, true≢false, or-false}
 use mathlib.Core.List.{List, [], _∷_}
 use mathlib.Core.Option.{Option, none, some}
-use mathlib.Core.Path.{_≡_, refl, sym, ap, ap₂, _∙_}
+use mathlib.Core.Path.{_≡_, refl, sym, ap, ap₂, _∙_, subst}
 use native.Mathlib.Numerals.{add-one}
 use native.Mathlib.Omega.{arith}
 use borrow.Author.Tests.{ne-eqb, eqb-true, lt-ltb, le-ltb}
 use lib.Dec.{eqb, ltb, leb·suc-suc}
-use lib.ListN.{length, take, drop}
-use lib.Seq.{drop-nil}
+use lib.ListN.{length, take, drop, getD, length-drop}
+use lib.Seq.{drop-nil, getD-drop}
 use Rattle.text.specs.Basics.{if_then_else_, _>>=_, _orElse_, given, holds, isSome, any, first}
 use Rattle.text.specs.Text.{firstAmong, equal, equalFold, lower}
 use Rattle.text.proofs.ScanLaws.{take-rest}
@@ -24,10 +24,10 @@ use Rattle.tables.specs.declared.entry.Place.{Place}
 use Rattle.tables.specs.declared.entry.Place.the-variants as Place
 use Rattle.tables.specs.declared.check.TextCheck.{TextCheck}
 use Rattle.tables.specs.declared.check.TablesCheck.{TablesCheck}
-use Rattle.tables.specs.Table.{Table, tableNamed, isMissing, isTableName, tableName}
+use Rattle.tables.specs.Table.{Table, table, tableNamed, isMissing, isTableName, tableName}
 use Rattle.tables.specs.Table.{patterns, patternWith, isBadPattern, isMisnamed, isUnsound, firstTable}
 use Rattle.tables.specs.Code.{entries, tableCount, tablesIn, entrySpan, entryTable, afterEntry, placeNamed, placeOf, words, firstWord, afterWord}
-use Rattle.tables.specs.Code.{textChecked, wordMissing, wordsChecked, plainBad, namedBefore, firstNumber, numberOr, tablesChecked}
+use Rattle.tables.specs.Code.{textChecked, wordMissing, wordsChecked, plainBad, namedBefore, firstNumber, numberOr, tablesChecked, CleanWords, CleanTexts}
 use Rattle.tables.proofs.EntryLaws.{Reached, reached-start, reached-cut, reached-here, reached-more, reached-end}
 use Rattle.tables.proofs.WordLaws.{words-none, words-more}
 
@@ -233,6 +233,16 @@ pub record Checked (t : List ℕ) (n : ℕ) (rest : List ℕ) (i misnamed unsoun
   pub misnamed-is : tablesChecked (tablesIn t) .misnamed ≡ numberFrom misnamed (firstTable (isMisnamed (tablesIn t)) (i + 1) before (drop i (tablesIn t)))
   pub unsound-is : tablesChecked (tablesIn t) .unsound ≡ numberFrom unsound (firstTable unsoundIs (i + 1) before (drop i (tablesIn t)))
 
+-- a text that is known to be clean
+pub clean-found : (b : Bool) (ts : List Table) (ws : List (List ℕ)) → CleanWords b ts ws → b ≡ true → textChecked false false ≡ wordsChecked ts ws
+unfolding CleanWords
+clean-found b ts ws h e = sym (h e)
+
+-- where nothing is known of the texts
+pub clean-unknown : (ts : List Table) → CleanTexts false ts
+unfolding CleanTexts CleanWords
+clean-unknown ts i l e = absurd (true≢false (sym e))
+
 -- no table is counted
 pub checked-none : (t : List ℕ) (n : ℕ) → n ≡ tableCount t → n ≡ 0
     → _≡_ {A = TablesCheck} (record { misnamed = 0; unsound = 0 }) (tablesChecked (tablesIn t))
@@ -269,6 +279,18 @@ module _ (t : List ℕ) (n : ℕ) (rest : List ℕ) (i misnamed unsound : ℕ) (
   module _ (more : i < n) (span : EntrySpan) (is-span : span ≡ entrySpan rest) where
     pub checked-cut : span .cut ≡ true → found ≡ tablesChecked ts
     checked-cut e = done (reached-cut t n rest i (so-far .reached) more span is-span e)
+
+    pub clean-here : span .cut ≡ false → (text : List ℕ) → text ≡ entryTable rest .text → (b : Bool) → CleanTexts b ts → CleanWords b ts (words text)
+    unfolding CleanTexts
+    clean-here whole text is-text b known =
+        let here = reached-here t n rest i (so-far .reached) more span is-span whole in
+        let z : i + 0 ≡ i = omega arith in
+        let at : getD ts i (table [] []) ≡ entryTable rest
+        = ap (λ (j : ℕ). getD ts j (table [] [])) (sym z) ∙ sym (getD-drop i ts 0 (table [] []))
+        ∙ ap (λ (l : List Table). getD l 0 (table [] [])) here in
+        let l : length (drop i ts) ≡ suc (length (entries (n - (i + 1)) (afterEntry rest))) = ap length here in
+        subst (λ (u : List ℕ). CleanWords b ts (words u)) (ap (λ (x : Table). x .text) at ∙ sym is-text)
+        (known i (omega (arith, l, length-drop i ts)))
 
     module _ (whole : span .cut ≡ false) (name : List ℕ) (is-name : name ≡ entryTable rest .name)
         (text : List ℕ) (is-text : text ≡ entryTable rest .text) (seen : TextCheck) (is-seen : seen ≡ wordsChecked ts (words text)) where
@@ -325,3 +347,43 @@ module _ (t : List ℕ) (n : ℕ) (rest : List ℕ) (i misnamed unsound : ℕ) (
             unsound-is = so-far .unsound-is
                 ∙ rw (is-b, r .left, is-next) (number-step unsoundIs unsound (not sound || seen .bad) (is-unsound sound is-sound));
           }
+
+-- ## Texts that are clean
+
+pub clean-none : (ts : List Table) → wordsChecked ts [] ≡ textChecked false false
+unfolding wordsChecked any
+clean-none ts = refl
+
+pub clean-more : (ts : List Table) (w : List ℕ) (ws : List (List ℕ)) → wordsChecked ts (w ∷ []) ≡ textChecked false false
+    → wordsChecked ts ws ≡ textChecked false false → wordsChecked ts (w ∷ ws) ≡ textChecked false false
+unfolding wordsChecked any
+clean-more ts w ws a b =
+    ap₂ (λ (x y : Bool). textChecked x y)
+    (ap₂ (λ (x y : Bool). x || y) (sym (or-false (wordMissing ts w)) ∙ ap (λ (c : TextCheck). c .missing) a) (ap (λ (c : TextCheck). c .missing) b))
+    (ap₂ (λ (x y : Bool). x || y) (sym (or-false (isBadPattern w)) ∙ ap (λ (c : TextCheck). c .bad) a) (ap (λ (c : TextCheck). c .bad) b))
+
+-- a pattern of another kind
+pub clean-plain : (ts : List Table) (w : List ℕ) → firstAmong "/" w ≡ false → isExcept w ≡ false → isSome (hostPattern w) ≡ true
+    → wordsChecked ts (w ∷ []) ≡ textChecked false false
+unfolding wordsChecked any
+clean-plain ts w e plain sound =
+    let p : false ≡ plainBad w = rw (plain, sound) in
+    ap (λ (c : TextCheck). textChecked (c .missing || false) (c .bad || false)) (sym (word-plain ts w (firstAmong "/" w) refl e false p))
+
+named-slash : (w n : List ℕ) → tableName w ≡ some n → firstAmong "/" w ≡ true
+unfolding tableName
+named-slash w n = by (firstAmong "/" w)
+  where
+    by : (x : Bool) → (if x then given (isTableName (drop 1 w)) (drop 1 w) else none) ≡ some n → x ≡ true
+    by true e = refl
+    by false e = ap isSome e
+
+-- the name of a table that is there
+pub clean-named : (ts : List Table) (w n : List ℕ) (i : ℕ) → tableName w ≡ some n → placeNamed ts n ≡ some i
+    → wordsChecked ts (w ∷ []) ≡ textChecked false false
+unfolding wordsChecked any isBadPattern patternWith
+clean-named ts w n i is-n at =
+    let s : firstAmong "/" w ≡ true = named-slash w n is-n in
+    let m : wordMissing ts w ≡ false = rw (is-n, ← place-some ts n, at) in
+    let b : isBadPattern w ≡ false = rw (slash-except w s, s, is-n) in
+    ap₂ (λ (x y : Bool). textChecked (x || false) (y || false)) m b

@@ -142,6 +142,13 @@ wordMissing ts w = holds (isMissing ts) (tableName w)
 unfoldable pub wordsChecked : List Table → List (List ℕ) → TextCheck
 wordsChecked ts ws = textChecked (any (wordMissing ts) ws) (any isBadPattern ws)
 
+-- where b holds, nothing is found of these words; of the words of any text
+unfoldable pub CleanWords : Bool → List Table → List (List ℕ) → Type 0
+CleanWords b ts ws = b ≡ true → wordsChecked ts ws ≡ textChecked false false
+
+unfoldable pub CleanTexts : Bool → List Table → Type 0
+CleanTexts b ts = (i : ℕ) → i < length ts → CleanWords b ts (words (getD ts i (table [] []) .text))
+
 -- of a word that does not begin with a slash
 abbrev pub plainBad : List ℕ → Bool
 plainBad w = isExcept w || not (isSome (hostPattern w))

@@ -1,8 +1,10 @@
 // The faults of the tables themselves: 15, a name given twice or missing, and 17, an unsound name or pattern.
 //   check_tables(tables) == the number of the first table of each, 0 where there is none
+//   check_names(tables, clean) == the same, where the texts may be known to be sound
 ghost use mathlib.Core.Path.{_≡_};
 ghost use Rattle.tables.specs.Table.{isMissing, isBadPattern};
 ghost use Rattle.tables.specs.Code.{tablesIn, wordMissing, words, plainBad, wordsChecked, textChecked, namedBefore, firstNumber, tablesChecked, Starts};
+ghost use Rattle.tables.specs.Code.{CleanWords, CleanTexts};
 use super::entry::Place;
 use super::entry::after_count;
 use super::entry::after_entry;
@@ -107,6 +109,21 @@ fn check_text(tables: &[u8], starts: &[usize; 512], text: &[u8]) -> TextCheck
     }
 }
 
+// The same of a text that may be known to be clean.
+fn check_unless(tables: &[u8], starts: &[usize; 512], text: &[u8], clean: bool) -> TextCheck
+    requires { ⌜ Starts (now tables) (now starts) ⌝ }
+    requires { ⌜ CleanWords clean (tablesIn (now tables)) (words (now text)) ⌝ }
+    ensures { λ r. ⌜ r ≡ wordsChecked (tablesIn (now (tables .entry))) (words (now (text .entry))) ⌝ }
+{
+    if clean {
+        return TextCheck {
+            missing: false,
+            bad: false,
+        };
+    }
+    check_text(tables, starts, text)
+}
+
 // Whether the first table of that name stands before the place i.
 fn is_named_before(tables: &[u8], starts: &[usize; 512], name: &[u8], i: usize) -> bool
     requires { ⌜ Starts (now tables) (now starts) ⌝ }
@@ -130,9 +147,10 @@ fn first_number(before: usize, holds: bool, number: usize) -> usize
     before
 }
 
-// The first faulty tables, where it is known where to begin to look for a name.
-fn check_each(tables: &[u8], starts: &[usize; 512]) -> TablesCheck
+// The first faulty tables, where it is known where to begin to look for a name; clean: whether every text is known to be.
+fn check_each(tables: &[u8], starts: &[usize; 512], clean: bool) -> TablesCheck
     requires { ⌜ Starts (now tables) (now starts) ⌝ }
+    requires { ⌜ CleanTexts clean (tablesIn (now tables)) ⌝ }
     ensures { λ r. ⌜ r ≡ tablesChecked (tablesIn (now (tables .entry))) ⌝ }
 {
     let n = table_count(tables);
@@ -146,7 +164,7 @@ fn check_each(tables: &[u8], starts: &[usize; 512]) -> TablesCheck
             return TablesCheck { misnamed, unsound };
         }
         let name = entry_name(rest, span);
-        let text = check_text(tables, starts, entry_text(rest, span));
+        let text = check_unless(tables, starts, entry_text(rest, span), clean);
         let twice = is_named_before(tables, starts, name, i);
         misnamed = first_number(misnamed, twice | text.missing, i + 1);
         unsound = first_number(unsound, !is_table_name(name) | text.bad, i + 1);
@@ -157,8 +175,9 @@ fn check_each(tables: &[u8], starts: &[usize; 512]) -> TablesCheck
     TablesCheck { misnamed, unsound }
 }
 
-// The first faulty tables.
-pub fn check_tables(tables: &[u8]) -> TablesCheck
+// The first faulty tables; clean: whether every text is known to be, so that only names are left to judge.
+pub fn check_names(tables: &[u8], clean: bool) -> TablesCheck
+    requires { ⌜ CleanTexts clean (tablesIn (now tables)) ⌝ }
     ensures { λ r. ⌜ r ≡ tablesChecked (tablesIn (now (tables .entry))) ⌝ }
 {
     if table_count(tables) == 0 {
@@ -169,5 +188,12 @@ pub fn check_tables(tables: &[u8]) -> TablesCheck
     }
     let mut begin = [0usize; 512];
     note_starts(tables, &mut begin);
-    check_each(tables, &begin)
+    check_each(tables, &begin, clean)
+}
+
+// The first faulty tables.
+pub fn check_tables(tables: &[u8]) -> TablesCheck
+    ensures { λ r. ⌜ r ≡ tablesChecked (tablesIn (now (tables .entry))) ⌝ }
+{
+    check_names(tables, false)
 }

@@ -131,7 +131,7 @@ top-clear n m h e =
     omega (arith, mod-lt m (pow-pos n))
 
 -- a word without bits is 0
-zero-bits : (n m : ℕ) → m < 2 ^ n → eqb m 0 ≡ not (anyBelow (λ i. bitAt i m) n)
+pub zero-bits : (n m : ℕ) → m < 2 ^ n → eqb m 0 ≡ not (anyBelow (λ i. bitAt i m) n)
 unfolding anyBelow
 zero-bits zero m h = eq-eqb m 0 (omega arith)
 zero-bits (suc n) m h = by (bitAt n m) refl (zero-bits n m)

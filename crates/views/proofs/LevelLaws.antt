@@ -28,7 +28,7 @@ use Rattle.views.specs.declared.Rows.{Rows}
 use Rattle.views.specs.View.{bitAt, Marks, anyBelow, noTable, tableAt, isNamed, wordNames, wordsName, textNames, isOwn, ownMatch}
 use Rattle.views.specs.View.{WordCount, OwnOf, NamesOf, RowsOf}
 use Rattle.views.specs.View.{nameLeads, wordLeads, textLeads, pastAt, markedAt, countedAt, placedCount, notedMatch, notedTried}
-use Rattle.views.specs.Level.{wordMatches, wordCount, matchesAt, triedAt, HostLevel, Level, FirstOf, Risen, Lifted}
+use Rattle.views.specs.Level.{wordMatches, wordCount, matchesAt, triedAt, HostLevel, Level, ViewedBy, FirstOf, Risen, Lifted}
 use Rattle.views.specs.Level.{wordPlace, sumWithin, textTried, triedAbove, AllAbove}
 use Rattle.views.proofs.BitLaws.{bit-none, bit-ones, any-below-same}
 use Rattle.views.proofs.CountLaws.{capped-small, capped-add, sum-same, sum-same-where, within-same, sum-within}
@@ -488,14 +488,17 @@ module _ (ts : List Table) (first : List ℕ) (depth : ℕ) where
 -- the notes that the texts by themselves tell, with those that lead on
 pub view-right : (ts : List Table) (client server : Endpoint) → length ts ≤ 64 → (x : Rows) → RowsOf ts client server x → length (x .notes) ≡ 131 → (d : ℕ)
     → Marks d 64 (λ i. bitAt i 0 || anyBelow (λ j. bitAt j (getD (x .names) i 0) && bitAt j 18446744073709551615) 64)
-    → (r : List ℕ) → Risen ts (set (x .notes) 2 d) 3 r → Level ts client server 3 r
+    → (r : List ℕ) → Risen ts (set (x .notes) 2 d) 3 r → ViewedBy ts client server (record { notes = r; clean = x .clean })
 unfolding Risen Marks pastAt
-view-right ts client server few x is-x long d is-d r is-r = is-r client server (record {
-  first-client = own-kept client 0 (λ e. omega arith) (is-x .rows-client);
-  first-server = own-kept server 1 (λ e. omega arith) (is-x .rows-server);
-  first-deep = subst (λ (m : ℕ). Marks m (length ts) (pastAt ts 1)) (sym (getD-set-same (x .notes) 2 d 0 (omega arith)))
-      (deep-above ts few (x .names) (is-x .rows-names) 0 18446744073709551615 (λ i. true) (λ j l. bit-ones j (omega arith)) d is-d 0 (λ i. refl) refl);
-})
+view-right ts client server few x is-x long d is-d r is-r = record {
+  viewed-notes = is-r client server (record {
+    first-client = own-kept client 0 (λ e. omega arith) (is-x .rows-client);
+    first-server = own-kept server 1 (λ e. omega arith) (is-x .rows-server);
+    first-deep = subst (λ (m : ℕ). Marks m (length ts) (pastAt ts 1)) (sym (getD-set-same (x .notes) 2 d 0 (omega arith)))
+        (deep-above ts few (x .names) (is-x .rows-names) 0 18446744073709551615 (λ i. true) (λ j l. bit-ones j (omega arith)) d is-d 0 (λ i. refl) refl);
+  });
+  viewed-clean = is-x .rows-clean;
+}
   where
     own-kept : (h : Endpoint) (k : ℕ) → (k ≡ 2 → ⊥) → OwnOf ts h k (x .notes) → OwnOf ts h k (set (x .notes) 2 d)
     own-kept h k n own = record {

@@ -1,8 +1,8 @@
 -- Laws of the rows of tables: what a pattern, a text and all texts name, and what they match.
 -- Assumes nothing.
-use Prim.Native.Nat.{ℕ, _+_, _-_, _*_, _^_, _≤_, _<_}
+use Prim.Native.Nat.{ℕ, zero, suc, _+_, _-_, _*_, _^_, _≤_, _<_}
 use native.Mathlib.Omega.{arith}
-use mathlib.Core.Bool.{Bool, true, false, _&&_, _||_, or-false, or-assoc}
+use mathlib.Core.Bool.{Bool, true, false, not, _&&_, _||_, or-false, or-assoc, true≢false}
 use mathlib.Core.List.{List, [], _∷_}
 use mathlib.Core.Option.{Option, none, some}
 use mathlib.Core.Path.{_≡_, refl, sym, ap, subst, _∙_}
@@ -12,23 +12,25 @@ use lib.ListN.{length, take, drop, getD, set, replicate, length-set}
 use lib.Seq.{getD-set-same, getD-set-other}
 use borrow.Author.Tests.{eqb-true, eqb-false, lt-ltb, le-ltb, ne-eqb}
 use Rattle.text.specs.Basics.{if_then_else_, isSome, holds, any, sumUntil}
-use Rattle.text.specs.Text.{firstAmong}
+use Rattle.text.specs.Text.{firstAmong, isWord}
 use Rattle.patterns.specs.Host.{Endpoint}
 use Rattle.patterns.specs.Pattern.{hostPattern}
 use Rattle.patterns.specs.Code.{matchesPattern, patternSeen, hostMatches}
 use Rattle.patterns.specs.declared.HostSeen.{HostSeen}
 use Rattle.tables.specs.Table.{Table, tableName}
 use Rattle.tables.specs.Code.{tableCount, tablesIn, entrySpan, entryTable, afterEntry, placeNamed, placeOf, words, firstWord, afterWord}
+use Rattle.tables.specs.Code.{textChecked, wordsChecked, CleanWords, CleanTexts}
 use Rattle.tables.specs.declared.entry.EntrySpan.{EntrySpan}
 use Rattle.tables.specs.declared.entry.Place.{Place}
 use Rattle.tables.specs.declared.entry.Place.the-variants as Place
 use Rattle.tables.proofs.EntryLaws.{Reached, reached-start, reached-cut, reached-end, reached-more, count-all}
 use Rattle.tables.proofs.WordLaws.{words-none, words-more, rest-shorter}
+use Rattle.tables.proofs.CheckLaws.{clean-none, clean-more, clean-plain, clean-named}
 use Rattle.views.specs.declared.Row.{Row}
 use Rattle.views.specs.declared.Rows.{Rows}
-use Rattle.views.specs.View.{bitAt, Marks, tableAt, isNamed, wordNames, wordsName, textNames, isOwn, ownMatch}
-use Rattle.views.specs.View.{WordCount, RowOf, OwnOf, NamesOf, RowsOf}
-use Rattle.views.proofs.BitLaws.{bit-none, bit-or, next-bit}
+use Rattle.views.specs.View.{bitAt, Marks, anyBelow, tableAt, isNamed, wordNames, wordsName, textNames, isOwn, ownMatch}
+use Rattle.views.specs.View.{WordCount, RowOf, OwnOf, NamesOf, RowsOf, joinedRow}
+use Rattle.views.proofs.BitLaws.{bit-none, bit-or, next-bit, zero-bits, any-below-same}
 use Rattle.views.proofs.NoteLaws.{place-none, place-some, named-word, unnamed-word}
 use Rattle.views.proofs.DeepLaws.{table-here, place-here, place-below}
 
@@ -52,8 +54,24 @@ module _ (ts : List Table) (w : List ℕ) (x : Bool) (is-x : x ≡ isSome (table
   unfolding Marks wordNames
   bit-named e b is-b j h = is-b j h ∙ rw (named-word w x is-x e)
 
-abbrev row : ℕ → Bool → Bool → ℕ → ℕ → Row
-row n c s ct st = record { names = n; client = c; server = s; «client_tried» = ct; «server_tried» = st }
+abbrev row : ℕ → Bool → Bool → ℕ → ℕ → Bool → Row
+row n c s ct st x = record { names = n; client = c; server = s; «client_tried» = ct; «server_tried» = st; clean = x }
+
+and-left : (a b : Bool) → (a && b) ≡ true → a ≡ true
+and-left true b e = refl
+and-left false b e = e
+
+and-right : (a b : Bool) → (a && b) ≡ true → b ≡ true
+and-right true b e = e
+and-right false b e = absurd (true≢false (sym e))
+
+not-true : (a : Bool) → not a ≡ true → a ≡ false
+not-true true e = sym e
+not-true false e = refl
+
+not-back : (a : Bool) → not (not a) ≡ true → a ≡ true
+not-back true e = refl
+not-back false e = e
 
 one-word : (p : List ℕ → Bool) (w : List ℕ) → WordCount p (w ∷ []) 1
 unfolding sumUntil
@@ -63,15 +81,40 @@ one-word p w = record { count = by (p w); fits = omega arith }
     by true = refl
     by false = refl
 
+none-below : (n : ℕ) → anyBelow (λ j. false) n ≡ false
+unfolding anyBelow
+none-below zero = refl
+none-below (suc n) = none-below n
+
+-- a word with a bit for the table that w names
+clean-bit : (ts : List Table) (w : List ℕ) (b : ℕ) → b < 2 ^ 64 → Marks b 64 (wordNames ts w) → CleanWords (not (eqb b 0)) ts (w ∷ [])
+unfolding CleanWords Marks wordNames isNamed
+clean-bit ts w b small is-b e = by (tableName w) refl
+  where
+    some-named : (p : ℕ → Bool) → ((j : ℕ) → j < 64 → wordNames ts w j ≡ p j) → anyBelow p 64 ≡ true
+    some-named p same =
+        sym (any-below-same (λ j. bitAt j b) p 64 (λ j l. is-b j l ∙ same j l))
+        ∙ not-back (anyBelow (λ j. bitAt j b) 64) (ap not (sym (zero-bits 64 b small)) ∙ e)
+
+    at : (n : List ℕ) → tableName w ≡ some n → (o : Option ℕ) → placeNamed ts n ≡ o → wordsChecked ts (w ∷ []) ≡ textChecked false false
+    at n f none g = absurd (true≢false (sym (some-named (λ j. false) (λ j l. rw (f, g))) ∙ none-below 64))
+    at n f (some i) g = clean-named ts w n i f g
+
+    by : (o : Option (List ℕ)) → tableName w ≡ o → wordsChecked ts (w ∷ []) ≡ textChecked false false
+    by none f = absurd (true≢false (sym (some-named (λ j. false) (λ j l. rw f)) ∙ none-below 64))
+    by (some n) f = at n f (placeNamed ts n) refl
+
 module _ (ts : List Table) (client server : Endpoint) (w : List ℕ) (x : Bool) (is-x : x ≡ firstAmong "/" w) where
-  pub row-slash : x ≡ true → (b : ℕ) → Marks b 64 (wordNames ts w) → RowOf ts client server (w ∷ []) (row b false false 1 1)
+  pub row-slash : x ≡ true → (b : ℕ) → b < 2 ^ 64 → Marks b 64 (wordNames ts w)
+      → RowOf ts client server (w ∷ []) (row b false false 1 1 (not (eqb b 0)))
   unfolding Marks wordsName any
-  row-slash e b is-b = record {
+  row-slash e b small is-b = record {
     row-names = λ j h. is-b j h ∙ sym (or-false (wordNames ts w j));
     row-client = rw (← is-x, e);
     row-server = rw (← is-x, e);
     row-client-tried = one-word (isOwn client) w;
     row-server-tried = one-word (isOwn server) w;
+    row-clean = clean-bit ts w b small is-b;
   }
 
   module _ (e : x ≡ false) where
@@ -83,15 +126,23 @@ module _ (ts : List Table) (client server : Endpoint) (w : List ℕ) (x : Bool) 
     unfolding patternSeen hostMatches any
     own-seen h c is-c = ap (λ (z : HostSeen). z .matches) is-c ∙ rw (← is-x, e) (sym (or-false (matchesPattern (hostPattern w) h)))
 
+    clean-seen : (h : Endpoint) (c : HostSeen) → c ≡ patternSeen true (hostPattern w) h → (y : Bool) → y ≡ isWord "EXCEPT" w
+        → CleanWords (c .sound && not y) ts (w ∷ [])
+    unfolding CleanWords patternSeen
+    clean-seen h c is-c y is-y f =
+        clean-plain ts w (sym is-x ∙ e) (sym is-y ∙ not-true y (and-right (c .sound) (not y) f))
+        (ap (λ (z : HostSeen). z .sound) (sym is-c) ∙ and-left (c .sound) (not y) f)
+
     pub row-plain : (c : HostSeen) → c ≡ patternSeen true (hostPattern w) client → (s : HostSeen) → s ≡ patternSeen true (hostPattern w) server
-        → RowOf ts client server (w ∷ []) (row 0 (c .matches) (s .matches) 1 1)
+        → (y : Bool) → y ≡ isWord "EXCEPT" w → RowOf ts client server (w ∷ []) (row 0 (c .matches) (s .matches) 1 1 (c .sound && not y))
     unfolding Marks wordsName wordNames any
-    row-plain c is-c s is-s = record {
+    row-plain c is-c s is-s y is-y = record {
       row-names = λ j h. bit-none j ∙ rw plain-name;
       row-client = own-seen client c is-c;
       row-server = own-seen server s is-s;
       row-client-tried = one-word (isOwn client) w;
       row-server-tried = one-word (isOwn server) w;
+      row-clean = clean-seen client c is-c y is-y;
     }
 
 -- ## A text
@@ -102,6 +153,10 @@ module _ (n : ℕ) (ended : Bool) where
 
   pub count-more : ended ≡ false → n + 1 ≡ n + (if ended then 0 else 1)
   count-more e = sym (ap (λ (b : Bool). n + (if b then 0 else 1)) e)
+
+pub rows-joined : (r s : Row) (c : ℕ) → c ≡ r .«client_tried» + (if r .client then 0 else 1) → (d : ℕ) → d ≡ r .«server_tried» + (if r .server then 0 else 1)
+    → row (bitOr (r .names) (s .names)) (r .client || s .client) (r .server || s .server) c d (r .clean && s .clean) ≡ joinedRow r s
+rows-joined r s c is-c d is-d = rw (is-c, is-d)
 
 -- the words counted so far, and those of the rest unless the count has ended
 abbrev running : (List ℕ → Bool) → List (List ℕ) → Bool → ℕ → ℕ
@@ -117,11 +172,12 @@ pub record Rowed (ts : List Table) (client server : Endpoint) (t rest : List ℕ
   pub rowed-server-tried : sumUntil (isOwn server) (λ w. 1) (words t) ≡ running (isOwn server) (words rest) (r .server) (r .«server_tried»)
   pub rowed-client-room : r .«client_tried» + length rest ≤ length t
   pub rowed-server-room : r .«server_tried» + length rest ≤ length t
+  pub rowed-clean : r .clean ≡ true → wordsChecked ts (words rest) ≡ textChecked false false → wordsChecked ts (words t) ≡ textChecked false false
 
 none-yet : (n : ℕ) → n ≡ 0 + n
 none-yet n = omega arith
 
-pub rowed-start : (ts : List Table) (client server : Endpoint) (t : List ℕ) → length t < 2 ^ 64 → Rowed ts client server t t (row 0 false false 0 0)
+pub rowed-start : (ts : List Table) (client server : Endpoint) (t : List ℕ) → length t < 2 ^ 64 → Rowed ts client server t t (row 0 false false 0 0 true)
 rowed-start ts client server t h = record {
   rowed-short = h;
   rowed-names = λ j h. sym (ap (λ (b : Bool). b || wordsName ts (words t) j) (bit-none j));
@@ -131,6 +187,7 @@ rowed-start ts client server t h = record {
   rowed-server-tried = none-yet (sumUntil (isOwn server) (λ w. 1) (words t));
   rowed-client-room = omega arith;
   rowed-server-room = omega arith;
+  rowed-clean = λ e h. h;
 }
 
 any-more : (p : List ℕ → Bool) (w : List ℕ) (ws : List (List ℕ)) (a b : Bool) → b ≡ any p (w ∷ []) → (a || any p (w ∷ ws)) ≡ ((a || b) || any p ws)
@@ -159,7 +216,7 @@ room-more false n c rest next t e h l = omega arith
 module _ (ts : List Table) (client server : Endpoint) (t rest : List ℕ) (r : Row) (so-far : Rowed ts client server t rest r)
     (w : List ℕ) (is-w : w ≡ firstWord rest) where
   pub rowed-end : length w ≡ 0 → RowOf ts client server (words t) r
-  unfolding Marks wordsName any
+  unfolding Marks wordsName any CleanWords
   rowed-end z =
       let e : words rest ≡ [] = words-none rest w is-w z in
       record {
@@ -174,6 +231,7 @@ module _ (ts : List Table) (client server : Endpoint) (t rest : List ℕ) (r : R
           count = sym (so-far .rowed-server-tried ∙ rw e (running-end (isOwn server) (r .server) (r .«server_tried»)));
           fits = omega (arith, so-far .rowed-server-room, so-far .rowed-short);
         };
+        row-clean = λ c. so-far .rowed-clean c (ap (wordsChecked ts) e ∙ clean-none ts);
       }
 
   module _ (full : length w ≡ 0 → ⊥) where
@@ -183,11 +241,11 @@ module _ (ts : List Table) (client server : Endpoint) (t rest : List ℕ) (r : R
     pub rowed-server-fits : r .«server_tried» < 18446744073709551615
     rowed-server-fits = omega (arith, so-far .rowed-server-room, so-far .rowed-short, rest-shorter rest w (afterWord rest) is-w full refl (length rest) refl)
 
-    pub rowed-more : (s : Row) → RowOf ts client server (w ∷ []) s → (c : ℕ) → c ≡ r .«client_tried» + (if r .client then 0 else 1)
+    rowed-by : (s : Row) → RowOf ts client server (w ∷ []) s → (c : ℕ) → c ≡ r .«client_tried» + (if r .client then 0 else 1)
         → (d : ℕ) → d ≡ r .«server_tried» + (if r .server then 0 else 1) → (next : List ℕ) → next ≡ afterWord rest
-        → Rowed ts client server t next (row (bitOr (r .names) (s .names)) (r .client || s .client) (r .server || s .server) c d)
-    unfolding Marks wordsName
-    rowed-more s is-s c is-c d is-d next is-next =
+        → Rowed ts client server t next (row (bitOr (r .names) (s .names)) (r .client || s .client) (r .server || s .server) c d (r .clean && s .clean))
+    unfolding Marks wordsName CleanWords
+    rowed-by s is-s c is-c d is-d next is-next =
         let e : words rest ≡ w ∷ words next = words-more rest w next is-w full is-next in
         let l : length next < length rest = rest-shorter rest w next is-w full is-next (length rest) refl in
         record {
@@ -203,7 +261,15 @@ module _ (ts : List Table) (client server : Endpoint) (t rest : List ℕ) (r : R
               ∙ rw e (running-more (isOwn server) w (words next) (r .server) (s .server) (r .«server_tried») d (is-s .row-server) is-d);
           rowed-client-room = room-more (r .client) (r .«client_tried») c (length rest) (length next) (length t) is-c (so-far .rowed-client-room) l;
           rowed-server-room = room-more (r .server) (r .«server_tried») d (length rest) (length next) (length t) is-d (so-far .rowed-server-room) l;
+          rowed-clean = λ f h. so-far .rowed-clean (and-left (r .clean) (s .clean) f)
+              (ap (wordsChecked ts) e ∙ clean-more ts w (words next) (is-s .row-clean (and-right (r .clean) (s .clean) f)) h);
         }
+
+    pub rowed-more : (s : Row) → RowOf ts client server (w ∷ []) s → (j : Row) → j ≡ joinedRow r s → (next : List ℕ) → next ≡ afterWord rest
+        → Rowed ts client server t next j
+    rowed-more s is-s j is-j next is-next =
+        subst (λ (x : Row). Rowed ts client server t next x) (sym is-j)
+        (rowed-by s is-s (r .«client_tried» + (if r .client then 0 else 1)) refl (r .«server_tried» + (if r .server then 0 else 1)) refl next is-next)
 
 -- ## All texts
 
@@ -260,9 +326,10 @@ pub record Gathered (t : List ℕ) (client server : Endpoint) (n : ℕ) (rest : 
   pub gathered-names : (k : ℕ) → k < i → Marks (getD (r .names) k 0) 64 (textNames (tablesIn t) (tableAt (tablesIn t) k .text))
   pub gathered-client : OwnBefore (tablesIn t) client 0 (r .notes) i
   pub gathered-server : OwnBefore (tablesIn t) server 1 (r .notes) i
+  pub gathered-clean : (k : ℕ) → k < i → CleanWords (r .clean) (tablesIn t) (words (tableAt (tablesIn t) k .text))
 
-abbrev rows : List ℕ → List ℕ → Rows
-rows names notes = record { names = names; notes = notes }
+abbrev rows : List ℕ → List ℕ → Bool → Rows
+rows names notes x = record { names = names; notes = notes; clean = x }
 
 -- notes without a bit
 abbrev blank : List ℕ
@@ -300,7 +367,7 @@ own-more ts h k notes made i b on text here is-on is-b bits tried kept o = recor
 
 module _ (t : List ℕ) (client server : Endpoint) (n : ℕ) (rest : List ℕ) where
   pub gathered-start : length (tablesIn t) ≤ 64 → n ≡ tableCount t → rest ≡ drop 2 t
-      → Gathered t client server n rest (rows (replicate 64 0) (replicate 131 0)) 0
+      → Gathered t client server n rest (rows (replicate 64 0) (replicate 131 0) true) 0
   gathered-start h is-n is-rest = record {
     so-far = reached-start t n is-n rest is-rest;
     long = refl;
@@ -309,6 +376,7 @@ module _ (t : List ℕ) (client server : Endpoint) (n : ℕ) (rest : List ℕ) w
     gathered-names = λ k l. absurd (omega arith);
     gathered-client = own-start (tablesIn t) client 0 refl;
     gathered-server = own-start (tablesIn t) server 1 refl;
+    gathered-clean = λ k l. absurd (omega arith);
   }
 
   module _ (r : Rows) (i : ℕ) (g : Gathered t client server n rest r i) where
@@ -320,13 +388,14 @@ module _ (t : List ℕ) (client server : Endpoint) (n : ℕ) (rest : List ℕ) w
     }
 
     gathered-all : drop i (tablesIn t) ≡ [] → RowsOf (tablesIn t) client server r
-    unfolding NamesOf
+    unfolding NamesOf CleanTexts
     gathered-all e =
         let z : i ≡ length (tablesIn t) = count-all t n rest i (g .so-far) e in
         record {
           rows-names = λ k l. g .gathered-names k (omega arith);
           rows-client = own-all client 0 z (g .gathered-client);
           rows-server = own-all server 1 z (g .gathered-server);
+          rows-clean = λ k l. g .gathered-clean k (omega arith);
         }
 
     pub gathered-end : n ≤ i → RowsOf (tablesIn t) client server r
@@ -387,9 +456,22 @@ module _ (t : List ℕ) (client server : Endpoint) (n : ℕ) (rest : List ℕ) w
               (omega arith) (λ e. omega (arith, gathered-place)) (λ e. omega arith))
               (g .gathered-server)
 
+          clean-next : (k : ℕ) → k < i + 1 → CleanWords (r .clean && s .clean) (tablesIn t) (words (tableAt (tablesIn t) k .text))
+          unfolding CleanWords
+          clean-next k l f = by (eqb k i) refl
+            where
+              by : (b : Bool) → eqb k i ≡ b → wordsChecked (tablesIn t) (words (tableAt (tablesIn t) k .text)) ≡ textChecked false false
+              by true e =
+                  let q : k ≡ i = eqb-true k i e in
+                  rw (q, text-here) (is-s .row-clean (and-right (r .clean) (s .clean) f))
+              by false e =
+                  let q : k ≡ i → ⊥ = eqb-false k i e in
+                  g .gathered-clean k (omega arith) (and-left (r .clean) (s .clean) f)
+
           pub gathered-more : (next : List ℕ) → next ≡ afterEntry rest
               → Gathered t client server n next
-              (rows (set (r .names) i (s .names)) (set (set (set (set (r .notes) 0 c) 1 d) (3 + i) (s .«client_tried»)) (67 + i) (s .«server_tried»))) (i + 1)
+              (rows (set (r .names) i (s .names)) (set (set (set (set (r .notes) 0 c) 1 d) (3 + i) (s .«client_tried»)) (67 + i) (s .«server_tried»))
+              (r .clean && s .clean)) (i + 1)
           gathered-more next is-next = record {
             so-far = reached-more t n rest i (g .so-far) more span is-span whole next is-next;
             long = length-set (r .names) i (s .names) ∙ g .long;
@@ -398,6 +480,7 @@ module _ (t : List ℕ) (client server : Endpoint) (n : ℕ) (rest : List ℕ) w
             gathered-names = names-next;
             gathered-client = client-next;
             gathered-server = server-next;
+            gathered-clean = clean-next;
           }
 
 -- ## What no table names

@@ -14,13 +14,14 @@ use mathlib.Core.List.{List, []}
 use mathlib.Core.Option.{Option, none, some}
 use mathlib.Core.Path.{_≡_}
 use lib.ListN.{length, getD}
+use lib.Bits.{bitOr}
 use lib.Dec.{eqb, ltb}
 use Rattle.text.specs.Basics.{if_then_else_, holds, isEmpty, any, sumUntil}
 use Rattle.text.specs.Text.{firstAmong}
 use Rattle.patterns.specs.Host.{Endpoint}
 use Rattle.patterns.specs.Code.{hostMatches}
 use Rattle.tables.specs.Table.{Table, table, tableName}
-use Rattle.tables.specs.Code.{words, placeNamed}
+use Rattle.tables.specs.Code.{words, placeNamed, CleanWords, CleanTexts}
 use Rattle.views.specs.declared.Naming.{Naming}
 use Rattle.views.specs.declared.Naming.the-variants as Naming
 use Rattle.views.specs.declared.Reference.{Reference}
@@ -81,6 +82,18 @@ pub record RowOf (ts : List Table) (client server : Endpoint) (ws : List (List �
   pub row-server : r .server ≡ any (isOwn server) ws
   pub row-client-tried : WordCount (isOwn client) ws (r .«client_tried»)
   pub row-server-tried : WordCount (isOwn server) ws (r .«server_tried»)
+  pub row-clean : CleanWords (r .clean) ts ws
+
+-- what the words of a row and one more give
+abbrev pub joinedRow : Row → Row → Row
+joinedRow r s = record {
+  names = bitOr (r .names) (s .names);
+  client = r .client || s .client;
+  server = r .server || s .server;
+  «client_tried» = r .«client_tried» + (if r .client then 0 else 1);
+  «server_tried» = r .«server_tried» + (if r .server then 0 else 1);
+  clean = r .clean && s .clean;
+}
 
 -- what the texts by themselves tell of a host, k its number: a bit for each that matches, and the count of each
 pub record OwnOf (ts : List Table) (h : Endpoint) (k : ℕ) (notes : List ℕ) : Type 0 where
@@ -94,6 +107,7 @@ pub record RowsOf (ts : List Table) (client server : Endpoint) (r : Rows) : Type
   pub rows-names : NamesOf ts (r .names)
   pub rows-client : OwnOf ts client 0 (r .notes)
   pub rows-server : OwnOf ts server 1 (r .notes)
+  pub rows-clean : CleanTexts (r .clean) ts
 
 -- a name is of a table of which p holds; a pattern, a text, names one
 unfoldable pub nameLeads : List Table → (ℕ → Bool) → List ℕ → Bool

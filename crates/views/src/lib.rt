@@ -13,8 +13,9 @@ ghost use lib.ListN.{length, getD};
 ghost use Rattle.patterns.specs.Host.{endpoint};
 ghost use Rattle.tables.specs.Code.{tablesIn, words, Starts};
 ghost use Rattle.text.specs.Basics.{if_then_else_};
-ghost use Rattle.views.specs.View.{bitAt, anyBelow, Marks, isNamed, wordNames, RowOf, RowsOf, isDeep, nameLeads, wordLeads, textLeads, Above, Deep};
-ghost use Rattle.views.specs.Level.{Viewed};
+ghost use Rattle.views.specs.View.{bitAt, anyBelow, Marks, isNamed, wordNames, RowOf, RowsOf, joinedRow};
+ghost use Rattle.views.specs.View.{isDeep, nameLeads, wordLeads, textLeads, Above, Deep};
+ghost use Rattle.views.specs.Level.{ViewedBy};
 ghost use Rattle.views.specs.View.{namingAt, markedAt, countedAt, referenceOf};
 use patterns::Host;
 use patterns::pattern::host_read;
@@ -32,6 +33,7 @@ use tables::word::has_slash;
 use tables::word::names_table;
 use tables::word::word;
 use tables::word::word_span;
+use text::equal_fold;
 
 pub mod level;
 
@@ -49,20 +51,28 @@ pub struct Reference {
     pub tried: u64,
 }
 
-// What one text gives: the tables that it names, whether a pattern of its own matches the client, the server, and how many patterns stand up
-// to the first that does.
+// What one text gives: the tables that it names, whether a pattern of its own matches the client, the server, how many patterns stand up to
+// the first that does, and whether all are known to be sound.
 pub struct Row {
     pub names: u64,
     pub client: bool,
     pub server: bool,
     pub client_tried: u64,
     pub server_tried: u64,
+    pub clean: bool,
 }
 
-// The rows of all tables: what each names, and the rest as notes.
+// The rows of all tables: what each names, the rest as notes, and whether all patterns are known to be sound.
 pub struct Rows {
     pub names: [u64; 64],
     pub notes: [u64; 131],
+    pub clean: bool,
+}
+
+// Notes on the tables, and whether all their patterns are known to be sound.
+pub struct Viewing {
+    pub notes: [u64; 131],
+    pub clean: bool,
 }
 
 // The word whose only bit is at i; no bit where i is no place in a word.
@@ -131,12 +141,14 @@ fn word_row(
         (now (w .entry) ∷ []) r ⌝ }
 {
     if has_slash(w) {
+        let named = word_bit(tables, starts, w);
         return Row {
-            names: word_bit(tables, starts, w),
+            names: named,
             client: false,
             server: false,
             client_tried: 1,
             server_tried: 1,
+            clean: named != 0,
         };
     }
     let c = host_read(w, true, client, client_name);
@@ -147,6 +159,7 @@ fn word_row(
         server: s.matches,
         client_tried: 1,
         server_tried: 1,
+        clean: c.sound & !equal_fold(b"EXCEPT", w),
     }
 }
 
@@ -159,6 +172,22 @@ fn count_on(count: u64, ended: bool) -> u64
         return count;
     }
     count + 1
+}
+
+// What the words of a row and one more give.
+fn join_rows(row: Row, seen: Row) -> Row
+    requires { ⌜ row .«client_tried» < 18446744073709551615 ⌝ }
+    requires { ⌜ row .«server_tried» < 18446744073709551615 ⌝ }
+    ensures { λ r. ⌜ r ≡ joinedRow row seen ⌝ }
+{
+    Row {
+        names: row.names | seen.names,
+        client: row.client | seen.client,
+        server: row.server | seen.server,
+        client_tried: count_on(row.client_tried, row.client),
+        server_tried: count_on(row.server_tried, row.server),
+        clean: row.clean & seen.clean,
+    }
 }
 
 // What a text gives.
@@ -182,6 +211,7 @@ fn text_row(
         server: false,
         client_tried: 0,
         server_tried: 0,
+        clean: true,
     };
     let mut rest = text;
     loop {
@@ -191,13 +221,8 @@ fn text_row(
             return row;
         }
         let seen = word_row(tables, starts, w, client, client_name, server, server_name);
-        row = Row {
-            names: row.names | seen.names,
-            client: row.client | seen.client,
-            server: row.server | seen.server,
-            client_tried: count_on(row.client_tried, row.client),
-            server_tried: count_on(row.server_tried, row.server),
-        };
+        let joined = join_rows(row, seen);
+        row = joined;
         let next = after_word(rest, at);
         rest = next;
     }
@@ -222,6 +247,7 @@ fn all_rows(
     let mut rows = Rows {
         names: [0u64; 64],
         notes: [0u64; 131],
+        clean: true,
     };
     let mut i = 0;
     while i < n {
@@ -245,6 +271,8 @@ fn all_rows(
         rows.notes[1] = server_bits;
         rows.notes[3 + i] = row.client_tried;
         rows.notes[67 + i] = row.server_tried;
+        let clean = rows.clean & row.clean;
+        rows.clean = clean;
         let next = after_entry(rest, span);
         rest = next;
         i += 1;
@@ -266,17 +294,18 @@ pub fn step(names: &[u64; 64], own: u64, below: u64) -> u64
     made
 }
 
-// Notes on at most 64 tables for the hosts of a request: which match, which lead more than four deep, and what is tried in each.
+// Notes on at most 64 tables for the hosts of a request: which match, which lead more than four deep, and what is tried in each. The pass over
+// the texts tells too whether they are sound, as most are, so that they need not be gone over once more for that.
 pub fn view(
     tables: &[u8],
     client: Host,
     client_name: &[u8],
     server: Host,
     server_name: &[u8],
-) -> [u64; 131]
+) -> Viewing
     requires { ⌜ length (tablesIn (now tables)) ≤ 64 ⌝ }
     ensures { λ r.
-        ⌜ Viewed (tablesIn (now (tables .entry))) (endpoint client (now («client_name» .entry))) (endpoint server (now («server_name» .entry))) r ⌝ }
+        ⌜ ViewedBy (tablesIn (now (tables .entry))) (endpoint client (now («client_name» .entry))) (endpoint server (now («server_name» .entry))) r ⌝ }
 {
     let mut begin = [0usize; 512];
     note_starts(tables, &mut begin);
@@ -284,7 +313,10 @@ pub fn view(
     let names = rows.names;
     let mut first = rows.notes;
     first[2] = step(&names, 0, 18446744073709551615);
-    level::raised(tables, &begin, &names, &first, 3)
+    Viewing {
+        notes: level::raised(tables, &begin, &names, &first, 3),
+        clean: rows.clean,
+    }
 }
 
 // Whether the table at the place i is marked in the notes as too deep.

@@ -25,8 +25,7 @@ text-row-spec =
     (λ c κs. search needs)
     (λ c. search (rowed-end, needs))
     (λ c κs. search needs)
-    (λ c κs. search (rowed-client-fits, needs))
-    (λ c κs. search (rowed-server-fits, needs))
+    (λ c κs. search (rowed-client-fits, rowed-server-fits, needs))
     (λ c κs. search needs)
     (λ c. search (rest-shorter, needs))
     (λ c. search (rowed-more, needs)) in

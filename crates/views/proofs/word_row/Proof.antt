@@ -12,5 +12,7 @@ word-row-spec =
     (λ c. search (row-slash, needs))
     (λ c κs. search needs)
     (λ c κs. search needs)
+    (λ c. search needs)
+    (λ c κs. search needs)
     (λ c. search (row-plain, needs)) in
     tie.close facts

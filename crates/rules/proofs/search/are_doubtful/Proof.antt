@@ -8,7 +8,6 @@ pub are-doubtful-spec : {M : Type 1} → statement M
 are-doubtful-spec =
     let facts = tie.spec
     (λ c κs. search needs)
-    (λ c κs. search needs)
     (λ c. search (doubt-limits, needs))
     (λ c κs. search needs)
     (λ c. search (doubt-checked, needs)) in

@@ -2,15 +2,15 @@
 -- The measure is the count of the others. Assumes nothing.
 use borrow.Author.Needs.{needs}
 use Prim.Native.Nat.{_-_}
-use Rattle.tables.proofs.CheckLaws.{Checked, checked-start, checked-cut, checked-more, checked-end}
+use Rattle.tables.proofs.CheckLaws.{Checked, checked-start, checked-cut, checked-more, checked-end, clean-here}
 use Rattle.tables.proofs.check.check_each.Statement.{statement}
 use Rattle.tables.proofs.check.check_each.Tie as tie
 
 abbrev Inv-loop : tie.InvT-loop
-Inv-loop tables starts n rest₀ i₀ misnamed₀ unsound₀ rest i misnamed unsound = Checked tables n rest i misnamed unsound
+Inv-loop tables starts clean n rest₀ i₀ misnamed₀ unsound₀ rest i misnamed unsound = Checked tables n rest i misnamed unsound
 
 abbrev μ-loop : tie.MeasureT-loop
-μ-loop tables starts n rest₀ i₀ misnamed₀ unsound₀ rest i misnamed unsound = n - i
+μ-loop tables starts clean n rest₀ i₀ misnamed₀ unsound₀ rest i misnamed unsound = n - i
 
 pub check-each-spec : {M : Type 1} → statement M
 check-each-spec =
@@ -24,7 +24,7 @@ check-each-spec =
     (λ c. search (checked-cut, needs))
     (λ c κs. search needs)
     (λ c κs. search needs)
-    (λ c κs. search needs)
+    (λ c κs. search (clean-here, needs))
     (λ c κs. search needs)
     (λ c. search needs)
     (λ c κs. search needs)
