@@ -34,9 +34,11 @@ use Rattle.address.specs.declared.Addr.the-variants as A
 use Rattle.address.specs.Address.{readV4, readV6}
 use Rattle.byuid.specs.declared.Decision.{Decision}
 use Rattle.byuid.specs.declared.Mark.{Mark}
-use Rattle.byuid.specs.Byuid.{Range, readCommaForm, readColonForm, within, lineGrants, isRetired, retiredFault, byuidFault, byuidDecision, FileBind, addressKnown, decideByuid}
+use Rattle.byuid.specs.Byuid.{Range, readCommaForm, readColonForm, within, lineGrants, isRetired, retiredFault, byuidFault, byuidDecision, FileBind}
+use Rattle.byuid.specs.Byuid.{addressKnown, decideByuid}
 use Rattle.byuid.specs.Convert.{exchanged, convertLine, convertText, convert, lineGranted, decisionBefore, decidedBefore}
-use Rattle.byuid.proofs.FormLaws.{free-before, no-mark, first-mark, digits-free, Form, form, unread, retired-form, newForm, before-free, newForm-v4, newForm-v6, retired-no-comma-v4, retired-no-comma-v6}
+use Rattle.byuid.proofs.FormLaws.{free-before, no-mark, first-mark, digits-free, Form, form, unread, retired-form, newForm, before-free, newForm-v4}
+use Rattle.byuid.proofs.FormLaws.{newForm-v6, retired-no-comma-v4, retired-no-comma-v6}
 use Rattle.byuid.proofs.LineLaws.{rest}
 use Rattle.byuid.proofs.SplitLaws.{split-some, split-all-free, intercalate-split}
 
@@ -233,7 +235,8 @@ alone (some r) c = refl
 pub decideByuid-convertText : (t : List ℕ) (o : Option FileBind) → decideByuid (convertText t) o ≡ decidedBefore t o
 unfolding decideByuid decidedBefore
 decideByuid-convertText t o =
-    rw (byuidFault-convertText t, length-convertText t) (alone (overLimit S.byuid t) _ ∙ ap (λ (c : Outcome Decision). overLimit S.byuid t before c) (fitted t o))
+    rw (byuidFault-convertText t, length-convertText t) (alone (overLimit S.byuid t) _
+    ∙ ap (λ (c : Outcome Decision). overLimit S.byuid t before c) (fitted t o))
 
 -- ## A line is written
 
@@ -324,7 +327,8 @@ module _ (l : List ℕ) (x : Bool) (is-x : x ≡ isRetired l) (e : x ≡ true) (
         (omega (arith, length-net, length-low, length-append (net l retired) (44 ∷ f l retired .low)))
         ∙ ap (putAt d at) final)
       where
-        shape : (c : ℕ) → net l retired ++ (c ∷ []) ++ (f l retired .low ++ bytes "," ++ f l retired .high) ≡ net l retired ++ c ∷ (f l retired .low ++ 44 ∷ f l retired .high)
+        shape : (c : ℕ) → net l retired ++ (c ∷ []) ++ (f l retired .low ++ bytes "," ++ f l retired .high)
+            ≡ net l retired ++ c ∷ (f l retired .low ++ 44 ∷ f l retired .high)
         shape c = simp append-assoc
 
         regroup : net l retired ++ 44 ∷ (f l retired .low ++ 44 ∷ f l retired .high) ≡ (net l retired ++ 44 ∷ f l retired .low) ++ 44 ∷ f l retired .high
@@ -386,7 +390,8 @@ converting-start d t = record { within = omega arith; long = refl; done = []; pl
 module _ (d t o : List ℕ) (at : ℕ) (w : Converting d t o at) where
   pub converting-end : length t ≤ at → o ≡ after (convertText t) d
   converting-end h = w .written ∙ ap (λ (u : List ℕ). after u d)
-      (sym (w .left ∙ ap (λ (s : List ℕ). w .done ++ convertText s) (drop-of-length-le t h) ∙ ap (λ (s : List ℕ). w .done ++ s) convertText-nil ∙ append-nil (w .done)))
+      (sym (w .left ∙ ap (λ (s : List ℕ). w .done ++ convertText s) (drop-of-length-le t h) ∙ ap (λ (s : List ℕ). w .done ++ s) convertText-nil
+      ∙ append-nil (w .done)))
 
   module _ (room : length t ≤ length d) (h : at < length t) (n : ℕ) (is-n : n ≡ indexOf 10 (take (length t - at) (drop at t)))
       (in-text : n ≤ length (take (length t - at) (drop at t))) (p : List ℕ)

@@ -12,7 +12,8 @@ use Rattle.address.specs.declared.Addr.the-variants.{Unknown, V4}
 use Rattle.address.specs.Address.{readV4}
 use Rattle.byuid.specs.declared.Decision.the-variants.{NotRuled, Granted, NoLine}
 use Rattle.byuid.specs.declared.Mark.the-variants.{Plain, Marked}
-use Rattle.byuid.specs.Byuid.{readRange, readNet, readCommaForm, readColonForm, lineGrants, isRetired, retiredFault, byuidFault, byuidDecision, bind, fileBind, decideByuid}
+use Rattle.byuid.specs.Byuid.{readRange, readNet, readCommaForm, readColonForm, lineGrants, isRetired, retiredFault, byuidFault, byuidDecision, bind}
+use Rattle.byuid.specs.Byuid.{fileBind, decideByuid}
 use Rattle.byuid.specs.Convert.{convertLine, convertText}
 
 pub record Examples : Type 0 where

@@ -378,7 +378,8 @@ module _ (l : List ℕ) (f : Form l) where
 
   has-slash : (s : List ℕ) → any (λ b. eqb b 47) (before ++ s) ≡ true
   unfolding any
-  has-slash s = any-append (λ b. eqb b 47) before s ∙ ap (λ (b : Bool). b || any (λ b. eqb b 47) s) (any-between (λ b. eqb b 47) (f .address) (bytes "/") (f .len) refl)
+  has-slash s = any-append (λ b. eqb b 47) before s ∙ ap (λ (b : Bool). b || any (λ b. eqb b 47) s)
+      (any-between (λ b. eqb b 47) (f .address) (bytes "/") (f .len) refl)
 
   alone-range : (g : List ℕ → Option ℕ) (s : List ℕ) → free 45 s ≡ true → g s ≡ none → readRange g s ≡ none
   unfolding readRange
@@ -400,14 +401,16 @@ module _ (l : List ℕ) (f : Form l) where
     part-net : readNet w g part ≡ none
     unfolding readNet any
     part-net =
-        rw (ap (splitOnce (bytes "/")) shape ∙ first-mark 47 (f .address) (f .len ++ (bytes ":" ++ f .low)) (v4-free 47 refl refl (f .address) (f .number) (f .reads-address)))
+        rw (ap (splitOnce (bytes "/")) shape ∙ first-mark 47 (f .address) (f .len ++ (bytes ":" ++ f .low))
+        (v4-free 47 refl refl (f .address) (f .number) (f .reads-address)))
         (skip (g (f .address)) (readDecimal w (f .len ++ (bytes ":" ++ f .low))) _ no-len)
       where
         shape : part ≡ f .address ++ bytes "/" ++ (f .len ++ (bytes ":" ++ f .low))
         shape = append-assoc (f .address ++ bytes "/") (f .len) (bytes ":" ++ f .low)
 
         no-len : readDecimal w (f .len ++ (bytes ":" ++ f .low)) ≡ none
-        no-len = digits-none 58 refl w (f .len ++ (bytes ":" ++ f .low)) (any-append (λ b. eqb b 58) (f .len) (bytes ":" ++ f .low) ∙ or-true (any (λ b. eqb b 58) (f .len)))
+        no-len = digits-none 58 refl w (f .len ++ (bytes ":" ++ f .low))
+            (any-append (λ b. eqb b 58) (f .len) (bytes ":" ++ f .low) ∙ or-true (any (λ b. eqb b 58) (f .len)))
 
     no-comma-form : readCommaForm w g l ≡ none
     unfolding readCommaForm all

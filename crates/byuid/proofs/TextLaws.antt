@@ -19,7 +19,8 @@ use Rattle.section.specs.declared.Refusal.{Refusal}
 use Rattle.section.specs.Refusal.{answered, refusal, placeless, fitting}
 use Rattle.address.specs.declared.Addr.{Addr}
 use Rattle.address.specs.declared.Addr.the-variants as A
-use Rattle.byuid.specs.Byuid.{lineGrants, isRetired, retiredFault, byuidFault, isRuled, inSpan, byuidDecision, bind, fileBind, addressKnown, decideByuid, byuidRuling}
+use Rattle.byuid.specs.Byuid.{lineGrants, isRetired, retiredFault, byuidFault, isRuled, inSpan, byuidDecision, bind, fileBind, addressKnown, decideByuid}
+use Rattle.byuid.specs.Byuid.{byuidRuling}
 use Rattle.byuid.specs.Code.{lookOf, walk, checkedOf, searchedFor, decisionBy, answerBy}
 use Rattle.byuid.specs.declared.Checked.{Checked}
 use Rattle.byuid.specs.declared.Checked.the-variants as C
@@ -126,7 +127,8 @@ retiredFault-walk a p n g [] = refl
 retiredFault-walk a p n g (l ∷ ls) = by (isRetired l) (retiredFault-walk a p (n + 1) (g || lineGrants a p l) ls)
   where
     by : (b : Bool) → retiredFault (n + 1) ls ≡ faultOf (walk a p (n + 1) (g || lineGrants a p l) ls)
-        → (if b then some (refusal F.RetiredForm 3 n) else retiredFault (n + 1) ls) ≡ faultOf (if b then Retired n else walk a p (n + 1) (g || lineGrants a p l) ls)
+        → (if b then some (refusal F.RetiredForm 3 n) else retiredFault (n + 1) ls)
+        ≡ faultOf (if b then Retired n else walk a p (n + 1) (g || lineGrants a p l) ls)
     by true ih = refl
     by false ih = ih
 

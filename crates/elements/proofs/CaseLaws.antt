@@ -12,7 +12,8 @@ use lib.Dec.{eqb}
 use lib.ListN.{length, drop}
 use Rattle.text.specs.Basics.{if_then_else_, _>>=_, _orElse_, given, holds, isSome, any, all, first}
 use Rattle.text.specs.Text.{bytes, among, firstAmong, equal, consFirst, splitOnce, inRange, lower, equalFold}
-use Rattle.text.proofs.CaseLaws.{Blindly, blindTest, test-blindly, Alike, AlikePair, fold-alike, alike-fold, alike-length, alike-all, alike-drop, alike-splitOnce}
+use Rattle.text.proofs.CaseLaws.{Blindly, blindTest, test-blindly, Alike, AlikePair, fold-alike, alike-fold, alike-length, alike-all, alike-drop}
+use Rattle.text.proofs.CaseLaws.{alike-splitOnce}
 use Rattle.patterns.specs.Host.{Endpoint}
 use Rattle.patterns.specs.Pattern.{wildcard, isNameByte, hostPattern}
 use Rattle.patterns.proofs.CaseLaws.{name-blind, alike-firstAmong, alike-wildcard, alike-hostPattern}

@@ -36,8 +36,10 @@ use Rattle.elements.specs.declared.User.the-variants as U
 use Rattle.elements.specs.declared.Found.{Found}
 use Rattle.elements.specs.declared.Found.the-variants.{No, Ask}
 use Rattle.elements.specs.Request.{Request, requestOf, userCase, wellFormed}
-use Rattle.elements.specs.Element.{halves, clientReserved, daemonReserved, namedTable, isPlainName, daemonName, userHalf, foundIf, daemonParts, clientParts, daemonElement, clientElement, lookAt, elementLooked}
-use Rattle.elements.specs.Code.{noted, noReference, referenceWith, elementReference, saying, namingWith, elementNaming, userFits, atSign, nameFits, nameEquals, userTest, userFound, askIf, nobody, daemonRequest, clientRequest}
+use Rattle.elements.specs.Element.{halves, clientReserved, daemonReserved, namedTable, isPlainName, daemonName, userHalf, foundIf, daemonParts}
+use Rattle.elements.specs.Element.{clientParts, daemonElement, clientElement, lookAt, elementLooked}
+use Rattle.elements.specs.Code.{noted, noReference, referenceWith, elementReference, saying, namingWith, elementNaming, userFits, atSign, nameFits}
+use Rattle.elements.specs.Code.{nameEquals, userTest, userFound, askIf, nobody, daemonRequest, clientRequest}
 
 -- ## Halves
 
@@ -432,7 +434,8 @@ pattern-sound : (m k : Matcher) (e : List ℕ) → isSome (patternWith m e) ≡ 
 unfolding patternWith
 pattern-sound m k e = by (firstAmong "/" e) (tableName e)
   where
-    by : (b : Bool) (o : Option (List ℕ)) → isSome (if b then (o >>= λ n. some (m n)) else hostPattern e) ≡ isSome (if b then (o >>= λ n. some (k n)) else hostPattern e)
+    by : (b : Bool) (o : Option (List ℕ)) → isSome (if b then (o >>= λ n. some (m n)) else hostPattern e)
+        ≡ isSome (if b then (o >>= λ n. some (k n)) else hostPattern e)
     by true none = refl
     by true (some n) = refl
     by false o = refl
@@ -517,7 +520,8 @@ module _ (m : Matcher) (b : Bool) where
   pattern-once h t is-b = by (firstAmong "/" t) (tableName t) is-b
     where
       by : (x : Bool) (o : Option (List ℕ)) → b ≡ holds (λ n. m n h) o
-          → matchesPattern (if x then (o >>= λ n. some (saying b n)) else hostPattern t) h ≡ matchesPattern (if x then (o >>= λ n. some (m n)) else hostPattern t) h
+          → matchesPattern (if x then (o >>= λ n. some (saying b n)) else hostPattern t) h
+          ≡ matchesPattern (if x then (o >>= λ n. some (m n)) else hostPattern t) h
       by true none q = refl
       by true (some n) q = q
       by false o q = refl
@@ -572,7 +576,8 @@ module _ (m : Matcher) (b : Bool) where
 -- ## What elements look at
 
 -- a daemon element looks at the daemon and the server alone
-pub daemonElement-request : (m : Matcher) (q : Request) (e : List ℕ) → lookAt q (daemonElement m e) ≡ lookAt (daemonRequest (q .daemon) (q .server)) (daemonElement m e)
+pub daemonElement-request : (m : Matcher) (q : Request) (e : List ℕ) → lookAt q (daemonElement m e)
+    ≡ lookAt (daemonRequest (q .daemon) (q .server)) (daemonElement m e)
 unfolding daemonElement daemonParts
 daemonElement-request m q e = by (halves e)
   where

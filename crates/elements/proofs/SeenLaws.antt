@@ -7,7 +7,7 @@ use mathlib.Core.Option.{none, some}
 use mathlib.Core.Path.{_≡_, refl, sym, ap, ap₂, _∙_}
 use native.Mathlib.Numerals.{add-one}
 use native.Mathlib.Omega.{arith}
-use borrow.Author.Tests.{eqb-true, eq-eqb, not-true}
+use borrow.Author.Tests.{eqb-true, eq-eqb}
 use lib.Bits.{bitAnd}
 use lib.Dec.{eqb, leb, ltb}
 use lib.ListN.{length, take, drop}
@@ -36,9 +36,11 @@ use Rattle.elements.specs.declared.element.ElementFault.{ElementFault}
 use Rattle.elements.specs.declared.element.ElementSeen.{ElementSeen}
 use Rattle.elements.specs.declared.element.KindSeen.{KindSeen}
 use Rattle.elements.specs.Request.{Request}
-use Rattle.elements.specs.Element.{Element, clientReserved, daemonReserved, daemonName, userHalf, foundIf, daemonElement, clientElement, lookAt, elementLooked}
+use Rattle.elements.specs.Element.{Element, clientReserved, daemonReserved, daemonName, userHalf, foundIf, daemonElement, clientElement, lookAt}
+use Rattle.elements.specs.Element.{elementLooked}
 use Rattle.elements.specs.Code.{View, Kind, viewOf, noted, elementReference, saying, tableSeen, daemonKind, clientKind, counted, lookedFor}
-use Rattle.elements.specs.Code.{atSign, nameFits, nameEquals, daemonSeen, userFound, daemonRequest, clientRequest, faultOf, elementFault, sought, kindSeen, elementSeen}
+use Rattle.elements.specs.Code.{atSign, nameFits, nameEquals, daemonSeen, userFound, daemonRequest, clientRequest, faultOf, elementFault, sought}
+use Rattle.elements.specs.Code.{kindSeen, elementSeen}
 use Rattle.elements.proofs.ElementLaws.{clientReserved-whole, daemonReserved-client, naming-none, looked-none}
 use Rattle.elements.proofs.ElementLaws.{reference-naming, reference-matches, reference-looked, daemon-sound, client-sound, daemon-once, client-once}
 use Rattle.elements.proofs.ElementLaws.{daemonAt, daemonName-is, isSome-daemonAt, daemonAt-equals, after}
@@ -152,7 +154,8 @@ module _ (m : Matcher) (e : List ℕ) (at : ℕ) (is-at : at ≡ atSign e) (look
   clientKind-whole h is-g f is-f = ap₂ kind
       (clientElement-whole m e at is-at h (g .sound) (ap (λ (x : HostSeen). x .sound) is-g))
       (is-f ∙ ap (λ (x : HostSeen). foundIf (x .matches)) is-g ∙ foundIf-sought look (matchesPattern (patternWith m e) c)
-      ∙ ap (sought look) (client-found-whole m e at is-at c u name h (matchesPattern (patternWith m e) c) refl (foundIf (matchesPattern (patternWith m e) c)) refl))
+      ∙ ap (sought look) (client-found-whole m e at is-at c u name h (matchesPattern (patternWith m e) c) refl
+      (foundIf (matchesPattern (patternWith m e) c)) refl))
 
   module _ (h : at < length e) (is-g : g ≡ patternSeen look (patternWith m (after e at)) c) (x : Bool) (is-x : x ≡ isSome (userHalf (take at e))) where
     parted : at ≡ length e → ⊥
@@ -282,7 +285,8 @@ pub named-client : (v : View) (e : List ℕ) → true ≡ all isNameByte e → (
     → (n : ℕ) → n ≡ counted look (capped (1 + 0)) → record { fault = f; found = x; looked = n } ≡ elementSeen look (clientRequest c u name) (clientKind v) e
 named-client v e h look c u name g is-g f is-f x is-x n is-n =
     let names : all isNameByte e ≡ true = sym h in
-    let is-with : g ≡ patternSeen look (patternWith (v .client) e) c = is-g ∙ ap (λ (p : Pattern). patternSeen look p c) (sym (plain-pattern e names (v .client))) in
+    let plain : hostPattern e ≡ patternWith (v .client) e = sym (plain-pattern e names (v .client)) in
+    let is-with : g ≡ patternSeen look (patternWith (v .client) e) c = is-g ∙ ap (λ (p : Pattern). patternSeen look p c) plain in
     elementSeen-is look (clientRequest c u name) (clientKind v) e (kind (g .sound) x)
     (clientKind-whole (v .client) e (length e) (whole e names) look c u name g refl is-with x is-x) false (client-unreserved e names)
     N.Sound (naming-none e (whole e names) (slashless e names) (v .naming)) f is-f

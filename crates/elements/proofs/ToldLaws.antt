@@ -8,10 +8,9 @@ use mathlib.Core.Path.{_≡_, refl, sym, ap, _∙_}
 use native.Mathlib.Omega.{arith}
 use borrow.Author.Tests.{lt-ltb, eq-eqb, ne-eqb}
 use lib.Bits.{bitAnd}
-use lib.Dec.{eqb}
 use lib.ListN.{length, getD}
 use Rattle.text.specs.Basics.{isSome, any, all}
-use Rattle.text.specs.Text.{bytes, isWord, equalFold}
+use Rattle.text.specs.Text.{bytes, isWord}
 use Rattle.text.proofs.BasicLaws.{all-getD}
 use Rattle.text.proofs.CaseLaws.{blindTest, test-blindly, fold-alike, alike-all}
 use Rattle.patterns.specs.declared.Host.{Host}
@@ -50,7 +49,9 @@ module _ (e : List ℕ) (h : all isDottedByte e ≡ true) where
   not-word w n = by (isWord w e) refl
     where
       by : (x : Bool) → isWord w e ≡ x → x ≡ false
-      by true q = absurd (true≢false (sym h ∙ sym (alike-all isDottedByte (test-blindly isDottedByte 26 dotted-test) (bytes w) e (fold-alike (bytes w) e q)) ∙ n))
+      by true q =
+          absurd
+          (true≢false (sym h ∙ sym (alike-all isDottedByte (test-blindly isDottedByte 26 dotted-test) (bytes w) e (fold-alike (bytes w) e q)) ∙ n))
       by false q = refl
 
   no-wildcard : wildcardOf e ≡ W.Nothing

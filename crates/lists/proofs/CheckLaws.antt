@@ -26,7 +26,8 @@ use Rattle.lists.specs.declared.Checked.{Checked}
 use Rattle.lists.specs.declared.Checked.the-variants as C
 use Rattle.lists.specs.Check.{exceptMisplaced, ruleFault, ruleNames}
 use Rattle.lists.specs.Code.{checkedOf, NoNewline, isMissingName, isDeepName, missingBy, deepBy, judgedFault}
-use Rattle.lists.specs.ListCode.{isUnsound, checks, isReserved, isFault, isMissing, isDeep, namesMissing, namesDeep, listStart, listCheck, listFrom, listMore, listEnd}
+use Rattle.lists.specs.ListCode.{isUnsound, checks, isReserved, isFault, isMissing, isDeep, namesMissing, namesDeep, listStart, listCheck, listFrom}
+use Rattle.lists.specs.ListCode.{listMore, listEnd}
 use Rattle.lists.specs.ListCode.{namingFaultOf, lowestOf, clientWords, badCommandAfter, restFault}
 use Rattle.lists.proofs.ExceptLaws.{no-element, any-element, except-daemon-start, except-client-start, except-daemon, except-client}
 use Rattle.lists.proofs.JoinedLaws.{hasBadPercent-joined, afterSeparator-joined, parseRule-joined}
@@ -222,7 +223,8 @@ lowest-checked false false false false false false false false true m m′ n n�
 lowest-checked false false false false false false false false false m m′ n n′ p p′ q q′ h k =
     rw (h refl .0, h refl .1, k refl .0, k refl .1) (by (p || p′) (q || q′))
   where
-    by : (y z : Bool) → checkedOf (given y F.TableName orElse given z F.TooDeep) ≡ (if y then C.Faulty F.TableName else if z then C.Faulty F.TooDeep else C.Sound)
+    by : (y z : Bool) → checkedOf (given y F.TableName orElse given z F.TooDeep)
+        ≡ (if y then C.Faulty F.TableName else if z then C.Faulty F.TooDeep else C.Sound)
     by true z = refl
     by false true = refl
     by false false = refl
@@ -269,7 +271,8 @@ pub badCommandAfter-is : (j : ℕ) (s k : List ℕ) → k ≡ afterSeparator j s
     → b ≡ badCommandAfter j s
 badCommandAfter-is j s k is-k t is-t b is-b = rw (← is-k, ← is-t) is-b
 
-pub restFault-is : (v : View) (s : List ℕ) (j : ℕ) (d : ListCheck) → j ≡ separatorIndex false s → (c : ListCheck) → c ≡ listCheck (clientKind v) (words (take j s))
+pub restFault-is : (v : View) (s : List ℕ) (j : ℕ) (d : ListCheck) → j ≡ separatorIndex false s → (c : ListCheck)
+    → c ≡ listCheck (clientKind v) (words (take j s))
     → (b : Bool) → b ≡ badCommandAfter j s → (r : Checked) → r ≡ lowestOf d c b → r ≡ restFault v d s
 unfolding restFault
 restFault-is v s j d is-j c is-c b is-b r is-r = rw (is-r, is-c, is-b, is-j)

@@ -53,7 +53,8 @@ soundElement w =
     not (daemonReserved w) && (not (clientReserved w) && (isSome (daemonElement (λ n h. false) w) && isSome (clientElement (λ n h. false) w)))
 
 every-case : holdsOf soundElement (bytes "EXCEPT") ≡ true
-unfolding holdsOf any all first splitOnce equal lower equalFold isNameByte wildcard namePattern hostPattern patternWith halves clientReserved daemonReserved isPlainName daemonName daemonParts clientParts daemonElement clientElement
+unfolding holdsOf any all first splitOnce equal lower equalFold isNameByte wildcard namePattern hostPattern patternWith halves clientReserved daemonReserved
+    isPlainName daemonName daemonParts clientParts daemonElement clientElement
 every-case = refl
 
 not-false : (b : Bool) → not b ≡ true → b ≡ false

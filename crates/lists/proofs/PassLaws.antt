@@ -39,7 +39,8 @@ use Rattle.lists.specs.Looked.{furtherOn, lookedIncluded, lookedExcluded
 use Rattle.lists.specs.Code.{NoNewline}
 use Rattle.lists.specs.ListCode.{listMore, listEnd, restFault, lowestOf, badCommandAfter, negated, daemonFinds, clientFinds, clientWords}
 use Rattle.lists.specs.ListCode.{daemonCounts, clientCounts, listLooked, negatedLooked}
-use Rattle.lists.specs.PassCode.{sideFinds, sideStart, isLooking, sideEnd, sideOf, sideFound, sideMore, sideTurned, sideStep, sideLooks, turnedLooks, stepLooks, turn}
+use Rattle.lists.specs.PassCode.{sideFinds, sideStart, isLooking, sideEnd, sideOf, sideFound, sideMore, sideTurned, sideStep, sideLooks, turnedLooks}
+use Rattle.lists.specs.PassCode.{stepLooks, turn}
 use Rattle.lists.specs.PassCode.{listPass, listAll, passStart, passStep, passEnd, passFrom, listSeen, isYes, thenFound, restSeen, ruleSeen}
 use Rattle.lists.proofs.CheckLaws.{listFrom-start, listFrom-nil, listFrom-cons, restFault-is, checkRule-none, checkRule-some}
 use Rattle.lists.proofs.WalkLaws.{lineFound-none, lineFound-some, lineLooked-none, lineLooked-some}
@@ -119,7 +120,8 @@ module _ (m : List ℕ → Found) (c : List ℕ → ℕ) (a : ℕ) (w : List ℕ
   looks-except S.Looking e = rw e (still a)
   looks-except S.Matched e = rw e
       (sym (ap (λ (n : ℕ). capped (capped (a + capped (lookedIncluded m c ws)) + n)) (sideOf-looks m c (negated (included m ws)) ws)
-      ∙ capped-then a (lookedIncluded m c ws) 0 ∙ ap (λ (n : ℕ). capped (a + n)) (let z : lookedIncluded m c ws + 0 ≡ lookedIncluded m c ws = omega arith in z)))
+      ∙ capped-then a (lookedIncluded m c ws) 0 ∙ ap (λ (n : ℕ). capped (a + n))
+      (let z : lookedIncluded m c ws + 0 ≡ lookedIncluded m c ws = omega arith in z)))
   looks-except S.No e = still a
   looks-except S.Yes e = still a
   looks-except S.Ask e = still a
@@ -336,7 +338,8 @@ unfolding restSeen listSeen
 restSeen-is v q d s j is-j y is-y c is-c b is-b k is-k f is-f n is-n = rule-same
     (restFault-is v s j (d .check) is-j (c .check) (ap (λ (x : ListSeen). x .check) is-c) b is-b k is-k)
     (is-f ∙ rw (is-c, is-y, is-j) (sought-yes (d .found) (included (clientFinds v (q .client) (q .user) (q .userName)) (clientWords s))))
-    (is-n ∙ rw (is-c, is-y, is-j) (counted-yes (d .looked) (d .found) (lookedIncluded (clientFinds v (q .client) (q .user) (q .userName)) (clientCounts v) (clientWords s))))
+    (is-n ∙ rw (is-c, is-y, is-j) (counted-yes (d .looked) (d .found) (lookedIncluded (clientFinds v (q .client) (q .user) (q .userName)) (clientCounts v)
+    (clientWords s))))
 
 module _ (v : View) (q : Request) (search : Bool) (t : List ℕ) (i : ℕ) (is-i : i ≡ separatorIndex false t) where
   pub ruleSeen-none : length t ≤ i → ruleAll (C.Faulty F.NoElement) No 0 ≡ ruleSeen v q search t

@@ -21,7 +21,8 @@ use Rattle.elements.proofs.ElementLaws.{daemonElement-request, clientElement-re
 use Rattle.lists.specs.Walk.{onFound, included, excluded, ruleFoundBy}
 use Rattle.lists.specs.Looked.{furtherOn, lookedIncluded, lookedExcluded, ruleLookedBy}
 use Rattle.lists.specs.Code.{NoNewline, viewFound, lineFound, viewLooked, lineLooked}
-use Rattle.lists.specs.ListCode.{negated, daemonFinds, clientFinds, daemonCounts, clientCounts, clientWords, listLooked, restLooked, lookedMore, negatedLooked}
+use Rattle.lists.specs.ListCode.{negated, daemonFinds, clientFinds, daemonCounts, clientCounts, clientWords, listLooked, restLooked, lookedMore}
+use Rattle.lists.specs.ListCode.{negatedLooked}
 use Rattle.lists.proofs.JoinedLaws.{parseRule-joined}
 
 -- ## One list: the loop of a side has come to rest, at the element w
@@ -40,7 +41,8 @@ pub record Walked (f : List (List ℕ) → Looked) (s rest : List ℕ) (n : ℕ)
 pub passed-none : (f : List (List ℕ) → Looked) (s : List ℕ) → Passed f s s
 passed-none f s = record { same = refl; within = omega arith }
 
-module _ (f : List (List ℕ) → Looked) (s rest w next : List ℕ) (is-w : w ≡ firstElement rest) (full : length w ≡ 0 → ⊥) (is-next : next ≡ afterElement rest) where
+module _ (f : List (List ℕ) → Looked) (s rest w next : List ℕ) (is-w : w ≡ firstElement rest) (full : length w ≡ 0 → ⊥)
+    (is-next : next ≡ afterElement rest) where
   pub passed-shorter : Passed f s rest → (n : ℕ) → length s ≡ n → length next < n
   passed-shorter h n e = omega (arith, rest-shorter rest w next is-w full is-next (length rest) refl, h .within)
 
@@ -94,7 +96,8 @@ module _ (m : List ℕ → Found) (c : List ℕ → ℕ) where
     where
       by : (y : Found)
           → lookedFor (onFound y (excluded m ws) (included m ws)) (capped (c w + furtherOn y (lookedExcluded m c ws) (lookedIncluded m c ws)))
-          ≡ lookedMore (capped (c w)) (onLooked y (lookedFor (excluded m ws) (capped (lookedExcluded m c ws))) (lookedFor (included m ws) (capped (lookedIncluded m c ws))))
+          ≡ lookedMore (capped (c w)) (onLooked y (lookedFor (excluded m ws) (capped (lookedExcluded m c ws)))
+          (lookedFor (included m ws) (capped (lookedIncluded m c ws))))
       by Yes = ap (lookedFor (excluded m ws)) (sym (capped-left (c w) (capped (lookedExcluded m c ws)) ∙ capped-add (c w) (lookedExcluded m c ws)))
       by No = ap (lookedFor (included m ws)) (sym (capped-left (c w) (capped (lookedIncluded m c ws)) ∙ capped-add (c w) (lookedIncluded m c ws)))
       by Ask = ap (lookedFor Ask) (sym (capped-left (c w) 0))
@@ -111,7 +114,8 @@ module _ (m : List ℕ → Found) (c : List ℕ → ℕ) (s rest w : List ℕ) (
         ∙ ap (lookedMore n) (looked-except m c w (words (afterElement rest)) (sym is-x ∙ e)) ∙ more-none n (h .fits) No)
 
     module _ (e : x ≡ false) (y : Looked) (is-y : y ≡ lookedFor (m w) (capped (c w))) (k : ℕ) (is-k : k ≡ capped (n + y .looked)) where
-      included-more : listLooked m c (words s) ≡ lookedMore k (onLooked (y .found) (restLooked m c (words (afterElement rest))) (listLooked m c (words (afterElement rest))))
+      included-more : listLooked m c (words s) ≡ lookedMore k (onLooked (y .found) (restLooked m c (words (afterElement rest)))
+          (listLooked m c (words (afterElement rest))))
       included-more =
           h .same ∙ ap (λ (ws : List (List ℕ)). lookedMore n (listLooked m c ws)) (words-more rest w (afterElement rest) is-w full refl)
           ∙ ap (lookedMore n) (looked-more m c w (words (afterElement rest)) (sym is-x ∙ e))
@@ -175,7 +179,8 @@ module _ (v : View) (q : Request) where
   pub ruleLooked-lists : (ds cs : List (List ℕ)) (k : List ℕ)
       → viewLooked v q (rule ds cs k)
       ≡ lookedIncluded (daemonFinds v (q .daemon) (q .server)) (daemonCounts v) ds
-      + furtherOn (included (daemonFinds v (q .daemon) (q .server)) ds) (lookedIncluded (clientFinds v (q .client) (q .user) (q .userName)) (clientCounts v) cs) 0
+      + furtherOn (included (daemonFinds v (q .daemon) (q .server)) ds)
+      (lookedIncluded (clientFinds v (q .client) (q .user) (q .userName)) (clientCounts v) cs) 0
   unfolding ruleLookedBy
   ruleLooked-lists ds cs k =
       ap₂ (λ (d e : List ℕ → Found). lookedIncluded d (daemonCounts v) ds + furtherOn (included d ds) (lookedIncluded e (clientCounts v) cs) 0)

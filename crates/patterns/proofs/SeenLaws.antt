@@ -28,7 +28,8 @@ use Rattle.patterns.specs.declared.pattern.Wildcard.{Wildcard}
 use Rattle.patterns.specs.declared.pattern.Wildcard.the-variants as W
 use Rattle.patterns.specs.Host.{Endpoint, endpoint, nameCase, nameKnown, addrKnown}
 use Rattle.patterns.specs.Pattern.{Pattern, isNameByte, domainPattern, bracketPattern, dottedPattern, namePattern, hostPattern}
-use Rattle.patterns.specs.Code.{isDottedByte, Named, hostSeen, patternSeen, matchesPattern, wildcardOf, wildcardPattern, formOf, formPattern, domainCovers, plainCovers}
+use Rattle.patterns.specs.Code.{isDottedByte, Named, hostSeen, patternSeen, matchesPattern, wildcardOf, wildcardPattern, formOf, formPattern}
+use Rattle.patterns.specs.Code.{domainCovers, plainCovers}
 use Rattle.patterns.specs.Code.{asNet, dottedNet, netSound, netCovers, dottedCovers, asPrefix, bracketPrefix, prefixHolds, prefixCovers, bracketCovers}
 use Rattle.patterns.proofs.PatternLaws.{wildcardOf-size, formOf-domain, formOf-plain, domainPattern-matches, namePattern-matches, hostPattern-at}
 use Rattle.patterns.proofs.CoverLaws.{dottedTest-net, dottedPattern-sound, dottedPattern-matches, bracketPattern-matches}

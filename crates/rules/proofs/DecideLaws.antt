@@ -42,7 +42,8 @@ use Rattle.rules.specs.declared.search.Finding.the-variants as Finding
 use Rattle.rules.specs.Check.{hostsFault, tablesFault}
 use Rattle.rules.specs.Search.{lineAnswer, search, decideOver, decide, decideTables, commandBytes}
 use Rattle.rules.specs.Looked.{looked, numberOf, lookedOver, reported}
-use Rattle.rules.specs.FileCode.{Query, queryFound, hostsFaultAt, passOf, passText, isUnmatched, combined, passBoth, tallied, linesLooked, bothLooked, refusedReport, refusingRequest}
+use Rattle.rules.specs.FileCode.{Query, queryFound, hostsFaultAt, passOf, passText, isUnmatched, combined, passBoth, tallied, linesLooked, bothLooked}
+use Rattle.rules.specs.FileCode.{refusedReport, refusingRequest}
 use Rattle.rules.specs.Code.{linesFault, contentsFault, refusedBy, searched, findingOf}
 use Rattle.rules.proofs.FileLaws.{tallied-pass}
 
@@ -76,7 +77,8 @@ sum-both a b = capped-left a (capped b) ∙ capped-add a b
 -- an answer in the second text is looked for, and its rules are counted, only if the first one has none
 combined-tally : (o o′ : Option Refusal) (x x′ : Option Answer) (a : ℕ) (d : Bool → ℕ) → d false ≡ 0
     → tallied (combined (passOf o x) (passOf o′ (if isUnmatched (passOf o x) then x′ else none)))
-    (capped (tallied (passOf o x) (capped a) .looked + tallied (passOf o′ (if isUnmatched (passOf o x) then x′ else none)) (capped (d (isUnmatched (passOf o x)))) .looked))
+    (capped (tallied (passOf o x) (capped a) .looked + tallied (passOf o′ (if isUnmatched (passOf o x) then x′ else none))
+    (capped (d (isUnmatched (passOf o x)))) .looked))
     ≡ tallied (passOf (o orElse o′) (x orElse x′)) (capped (a + (if isSome x then 0 else d true)))
 combined-tally (some g) o′ x x′ a d z = refl
 combined-tally none (some g) none x′ a d z = refl
@@ -139,14 +141,16 @@ module _ (o : Option Refusal) (ts : List Table) (allow deny names : List ℕ) (q
   abbrev ruled : Reported
   ruled = reported (o before decideOver ts allow deny (some given-request)) (lookedOver ts allow deny (some given-request))
 
-  ruled-held : reported (o before (if wellFormed (requestAt names h) then answered answer-held else refused (placeless F.BadRequest))) (found-held .looked) ≡ ruled
+  ruled-held : reported (o before (if wellFormed (requestAt names h) then answered answer-held else refused (placeless F.BadRequest))) (found-held .looked)
+      ≡ ruled
   unfolding lookedOver
   ruled-held = rw (held-at names q h is-h, held-fits given-request)
       (by o (wellFormed given-request) (search (matchOf ts) allow deny (held given-request)) (capped (looked ts allow deny (held given-request))))
     where
       by : (o : Option Refusal) (b : Bool) (a : Answer) (n : ℕ)
           → reported (o before (if b then answered a else refused (placeless F.BadRequest))) n
-          ≡ reported (o before (if b then answered a else refused (placeless F.BadRequest))) (numberOf (if b then answered n else refused (placeless F.BadRequest)))
+          ≡ reported (o before (if b then answered a else refused (placeless F.BadRequest)))
+          (numberOf (if b then answered n else refused (placeless F.BadRequest)))
       by (some g) b a n = refl
       by none true a n = refl
       by none false a n = refl
@@ -233,7 +237,8 @@ module _ (allow deny tables : List ℕ) (r : Request) (f : Framing) (is-f : f �
   framed-trailing k g is-g z is-z = is-z ∙ rw (frame-trailing tables f is-f k, is-g)
 
   pub framed-contents : f ≡ Framing.Sound → (q : Reported)
-      → q ≡ reported (contentsFault allow deny tables before decideOver (tablesOf tables) allow deny (some r)) (lookedOver (tablesOf tables) allow deny (some r))
+      → q ≡ reported (contentsFault allow deny tables before decideOver (tablesOf tables) allow deny (some r))
+      (lookedOver (tablesOf tables) allow deny (some r))
       → q ≡ framedReport
   framed-contents k q is-q = is-q ∙ sym (rw (frame-sound tables f is-f k))
 

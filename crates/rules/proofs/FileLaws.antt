@@ -55,7 +55,8 @@ use Rattle.rules.specs.declared.hosts_file.Examined.the-variants as T
 use Rattle.rules.specs.declared.hosts_file.Step.{Step}
 use Rattle.rules.specs.Check.{lineFaultBy}
 use Rattle.rules.specs.Search.{answer, ruleAnswer, lineAnswer}
-use Rattle.rules.specs.FileCode.{Query, queryFound, judgedLine, faultAt, hostsFaultAt, passOf, passLine, passText, layoutFault, kindAs, lineKind, examinedAs, isRefused, ruleExamined, lineExamined}
+use Rattle.rules.specs.FileCode.{Query, queryFound, judgedLine, faultAt, hostsFaultAt, passOf, passLine, passText, layoutFault, kindAs, lineKind}
+use Rattle.rules.specs.FileCode.{examinedAs, isRefused, ruleExamined, lineExamined}
 use Rattle.rules.specs.FileCode.{commandPart, ScannedLine, stepOf, combined, tallied, queryLooked, lineLooks, linesLooked, soughtIn}
 use Rattle.rules.specs.Looked.{ofRule, lineCount}
 use Rattle.rules.proofs.JoinLaws.{ruleExamined-join, isEmpty-trimmed}
@@ -296,7 +297,8 @@ passBy o v f n p (T.Faulty g) = tally (P.Faulty (refusal g o n)) 0
 passBy o v f n p (T.Finds x) = tally (passFound v f n p (x .found)) (x .looked)
 
 module _ (o : ℕ) (v : Verdict) (f : File) (b : Bool) (r : Query) (n at : ℕ) (s : List ℕ) (e : Bool) where
-  passBy-found : (u : Rule) (x : Found) (k : ℕ) → tally (passFound v f n (commandPart at s (some u)) x) k ≡ tallied (passOf none (ruleAnswer v f (line n at s e) u x)) k
+  passBy-found : (u : Rule) (x : Found) (k : ℕ) → tally (passFound v f n (commandPart at s (some u)) x) k
+      ≡ tallied (passOf none (ruleAnswer v f (line n at s e) u x)) k
   unfolding commandPart
   passBy-found u No k = refl
   passBy-found u Yes k = refl
@@ -494,15 +496,18 @@ module _ (o : ℕ) (v : Verdict) (f : File) (r : Query) where
   module _ (b : Bool) (l : Line) (ls : List Line) where
     passLines-faulty : (g : Refusal) → passLine o v f b r l ≡ P.Faulty g → passLines b (l ∷ ls) ≡ P.Faulty g
     unfolding passLine passLines first
-    passLines-faulty g e = both-faulty (faultAt o (r .view) l) (first (faultAt o (r .view)) ls) (lineAnswer v f (queryFound r) l) (first (lineAnswer v f (queryFound r)) ls) b g e
+    passLines-faulty g e = both-faulty (faultAt o (r .view) l) (first (faultAt o (r .view)) ls) (lineAnswer v f (queryFound r) l)
+        (first (lineAnswer v f (queryFound r)) ls) b g e
 
     passLines-unmatched : passLine o v f b r l ≡ P.Unmatched → passLines b (l ∷ ls) ≡ passLines b ls
     unfolding passLine passLines first
-    passLines-unmatched e = both-unmatched (faultAt o (r .view) l) (first (faultAt o (r .view)) ls) (lineAnswer v f (queryFound r) l) (first (lineAnswer v f (queryFound r)) ls) b e
+    passLines-unmatched e = both-unmatched (faultAt o (r .view) l) (first (faultAt o (r .view)) ls) (lineAnswer v f (queryFound r) l)
+        (first (lineAnswer v f (queryFound r)) ls) b e
 
     passLines-matched : (a : Answer) → passLine o v f b r l ≡ P.Matched a → (b ≡ true) × (passLines b (l ∷ ls) ≡ combined (P.Matched a) (passLines false ls))
     unfolding passLine passLines first
-    passLines-matched a e = both-matched (faultAt o (r .view) l) (first (faultAt o (r .view)) ls) (lineAnswer v f (queryFound r) l) (first (lineAnswer v f (queryFound r)) ls) b a e
+    passLines-matched a e = both-matched (faultAt o (r .view) l) (first (faultAt o (r .view)) ls) (lineAnswer v f (queryFound r) l)
+        (first (lineAnswer v f (queryFound r)) ls) b a e
 
   module _ {whole : Pass} {total : ℕ} {t : List ℕ} {i n : ℕ} {b : Bool} {found : Pass} {k : ℕ} (inv : Passing whole total t i n b found k) where
     pub passing-end : length t ≤ i → tally found k ≡ tallied whole (capped total)
@@ -569,7 +574,8 @@ module _ (o : ℕ) (v : Verdict) (f : File) (r : Query) where
 
       pub pass-stop : (g : Refusal) → st .tally .pass ≡ P.Faulty g → tally (P.Faulty g) 0 ≡ tallied whole (capped total)
       pass-stop g e =
-          let w : P.Faulty g ≡ whole = sym (inv .rest ∙ rw (all-lines, passLines-faulty b this those g (this-pass (P.Faulty g) e)) (combined-faulty found g (inv .sound))) in
+          let w : P.Faulty g ≡ whole = sym (inv .rest ∙ rw (all-lines, passLines-faulty b this those g (this-pass (P.Faulty g) e))
+          (combined-faulty found g (inv .sound))) in
           ap (λ (p : Pass). tallied p (capped total)) w
 
       pub passing-more : st .tally .pass ≡ P.Unmatched → (c : ℕ) → c ≡ capped (k + st .tally .looked) → Passing whole total t (st .next) (st .number) b found c

@@ -92,8 +92,10 @@ module _ (ts : List Table) where
       list-le x (λ n. triedOf ts n (r .server)) (u .daemons) (f .0) in
       let k : lookedIncluded y (elementLooked (λ n. triedOf ts n (r .client))) (u .clients) ≤ listElements (u .clients) =
       list-le y (λ n. triedOf ts n (r .client)) (u .clients) (f .1) in
-      let g : furtherOn (included x (u .daemons)) (lookedIncluded y (elementLooked (λ n. triedOf ts n (r .client))) (u .clients)) 0 ≤ listElements (u .clients) =
-      further-le (included x (u .daemons)) (lookedIncluded y (elementLooked (λ n. triedOf ts n (r .client))) (u .clients)) 0 (listElements (u .clients)) k (omega arith) in
+      let g : furtherOn (included x (u .daemons)) (lookedIncluded y (elementLooked (λ n. triedOf ts n (r .client))) (u .clients)) 0 ≤ listElements
+      (u .clients) =
+      further-le (included x (u .daemons)) (lookedIncluded y (elementLooked (λ n. triedOf ts n (r .client))) (u .clients)) 0 (listElements (u .clients)) k
+      (omega arith) in
       omega arith
 
   line-le : (r : Request) (l : Line) → lineNames (λ n. true) l ≡ false → lineCount (ruleLooked ts r) l ≤ lineCount ruleElements l
@@ -111,11 +113,13 @@ module _ (ts : List Table) where
   unfolding sumUntil sum any
   until-le p r [] e = omega arith
   until-le p r (l ∷ ls) e =
-      let f : (lineNames (λ n. true) l ≡ false) × (any (lineNames (λ n. true)) ls ≡ false) = or-false (lineNames (λ n. true) l) (any (lineNames (λ n. true)) ls) e in
+      let f : (lineNames (λ n. true) l ≡ false) × (any (lineNames (λ n. true)) ls ≡ false) =
+      or-false (lineNames (λ n. true) l) (any (lineNames (λ n. true)) ls) e in
       by (p l) (line-le r l (f .0)) (until-le p r ls (f .1))
     where
       by : (b : Bool) → lineCount (ruleLooked ts r) l ≤ lineCount ruleElements l → sumUntil p (lineCount (ruleLooked ts r)) ls ≤ sum (lineCount ruleElements) ls
-          → lineCount (ruleLooked ts r) l + (if b then 0 else sumUntil p (lineCount (ruleLooked ts r)) ls) ≤ lineCount ruleElements l + sum (lineCount ruleElements) ls
+          → lineCount (ruleLooked ts r) l + (if b then 0 else sumUntil p (lineCount (ruleLooked ts r)) ls) ≤ lineCount ruleElements l + sum
+          (lineCount ruleElements) ls
       by true h g = omega arith
       by false h g = omega arith
 
@@ -127,7 +131,8 @@ module _ (ts : List Table) where
   pub looked-le : (allow deny : List ℕ) (r : Request) → any (lineNames (λ n. true)) (lines allow) ≡ false → any (lineNames (λ n. true)) (lines deny) ≡ false
       → looked ts allow deny r ≤ fileElements allow + fileElements deny
   unfolding looked
-  looked-le allow deny r a d = by (isSome (first (lineAnswer Granted Allow (ruleFound (matchOf ts) r)) (lines allow))) (file-le Granted Allow r allow a) (file-le Denied Deny r deny d)
+  looked-le allow deny r a d = by (isSome (first (lineAnswer Granted Allow (ruleFound (matchOf ts) r)) (lines allow))) (file-le Granted Allow r allow a)
+      (file-le Denied Deny r deny d)
     where
       by : (b : Bool) → fileLooked ts Granted Allow r allow ≤ fileElements allow → fileLooked ts Denied Deny r deny ≤ fileElements deny
           → fileLooked ts Granted Allow r allow + (if b then 0 else fileLooked ts Denied Deny r deny) ≤ fileElements allow + fileElements deny

@@ -53,18 +53,22 @@ module _ (m m′ : List ℕ → Found) (c : List ℕ → ℕ) (agree : (w : List
     looked-included-same (w ∷ ws) h = by (isExcept w) h (λ q. looked-excluded-same ws q) (λ q. looked-included-same ws q)
       where
         by : (b : Bool) → Quiet (if b then No else onFound (m w) (excluded m ws) (included m ws))
-            → (Quiet (excluded m ws) → lookedExcluded m′ c ws ≡ lookedExcluded m c ws) → (Quiet (included m ws) → lookedIncluded m′ c ws ≡ lookedIncluded m c ws)
-            → (if b then 0 else c w + furtherOn (m′ w) (lookedExcluded m′ c ws) (lookedIncluded m′ c ws)) ≡ (if b then 0 else c w + furtherOn (m w) (lookedExcluded m c ws) (lookedIncluded m c ws))
+            → (Quiet (excluded m ws) → lookedExcluded m′ c ws ≡ lookedExcluded m c ws)
+            → (Quiet (included m ws) → lookedIncluded m′ c ws ≡ lookedIncluded m c ws)
+            → (if b then 0 else c w + furtherOn (m′ w) (lookedExcluded m′ c ws) (lookedIncluded m′ c ws))
+            ≡ (if b then 0 else c w + furtherOn (m w) (lookedExcluded m c ws) (lookedIncluded m c ws))
         by true h e i = refl
         by false h e i = ap (λ (n : ℕ). c w + n)
-            (further-same (m w) (m′ w) (excluded m ws) (included m ws) (lookedExcluded m c ws) (lookedExcluded m′ c ws) (lookedIncluded m c ws) (lookedIncluded m′ c ws) h (agree w) e i)
+            (further-same (m w) (m′ w) (excluded m ws) (included m ws) (lookedExcluded m c ws) (lookedExcluded m′ c ws) (lookedIncluded m c ws)
+            (lookedIncluded m′ c ws) h (agree w) e i)
 
     looked-excluded-same : (ws : List (List ℕ)) → Quiet (excluded m ws) → lookedExcluded m′ c ws ≡ lookedExcluded m c ws
     looked-excluded-same [] h = refl
     looked-excluded-same (w ∷ ws) h = by (isExcept w) h (λ q. looked-included-same ws q) (λ q. looked-excluded-same ws q)
       where
         by : (b : Bool) → Quiet (if b then onFound (included m ws) No Yes else excluded m ws)
-            → (Quiet (included m ws) → lookedIncluded m′ c ws ≡ lookedIncluded m c ws) → (Quiet (excluded m ws) → lookedExcluded m′ c ws ≡ lookedExcluded m c ws)
+            → (Quiet (included m ws) → lookedIncluded m′ c ws ≡ lookedIncluded m c ws)
+            → (Quiet (excluded m ws) → lookedExcluded m′ c ws ≡ lookedExcluded m c ws)
             → (if b then lookedIncluded m′ c ws else lookedExcluded m′ c ws) ≡ (if b then lookedIncluded m c ws else lookedExcluded m c ws)
         by true h i e = i (turn-quiet (included m ws) h)
         by false h i e = e h
@@ -91,19 +95,27 @@ module _ (ts : List Table) (r : Request) (t₀ : List ℕ) (u : User) (t : List 
       both No e q =
           let f : included (λ e. lookAt asked (daemonElement (matchOf ts) e)) (x .daemons) ≡ No =
           included-same md (λ e. lookAt asked (daemonElement (matchOf ts) e)) (λ w z. daemon-same (matchOf ts) r t₀ u t w) (x .daemons) (rw e tt) ∙ e in
-          rw (f, e, looked-included-same md (λ e. lookAt asked (daemonElement (matchOf ts) e)) (elementLooked (λ n. triedOf ts n (r .server))) (λ w z. daemon-same (matchOf ts) r t₀ u t w) (x .daemons) (rw e tt))
+          rw (
+            f,
+            e,
+            looked-included-same md (λ e. lookAt asked (daemonElement (matchOf ts) e)) (elementLooked (λ n. triedOf ts n (r .server)))
+                (λ w z. daemon-same (matchOf ts) r t₀ u t w) (x .daemons) (rw e tt),
+          )
       both Yes e q =
           let f : included (λ e. lookAt asked (daemonElement (matchOf ts) e)) (x .daemons) ≡ Yes =
           included-same md (λ e. lookAt asked (daemonElement (matchOf ts) e)) (λ w z. daemon-same (matchOf ts) r t₀ u t w) (x .daemons) (rw e tt) ∙ e in
           rw (
             f,
             e,
-            looked-included-same md (λ e. lookAt asked (daemonElement (matchOf ts) e)) (elementLooked (λ n. triedOf ts n (r .server))) (λ w z. daemon-same (matchOf ts) r t₀ u t w) (x .daemons) (rw e tt),
-            looked-included-same mc (λ e. lookAt asked (clientElement (matchOf ts) e)) (elementLooked (λ n. triedOf ts n (r .client))) (client-same (matchOf ts) r t₀ u t) (x .clients) q,
+            looked-included-same md (λ e. lookAt asked (daemonElement (matchOf ts) e)) (elementLooked (λ n. triedOf ts n (r .server)))
+                (λ w z. daemon-same (matchOf ts) r t₀ u t w) (x .daemons) (rw e tt),
+            looked-included-same mc (λ e. lookAt asked (clientElement (matchOf ts) e)) (elementLooked (λ n. triedOf ts n (r .client)))
+                (client-same (matchOf ts) r t₀ u t) (x .clients) q,
           )
 
   module _ (v : Verdict) (f : File) where
-    line-looked-same : (l : Line) → QuietAnswer (lineAnswer v f (ruleFound (matchOf ts) unasked) l) → lineCount (ruleLooked ts asked) l ≡ lineCount (ruleLooked ts unasked) l
+    line-looked-same : (l : Line) → QuietAnswer (lineAnswer v f (ruleFound (matchOf ts) unasked) l)
+        → lineCount (ruleLooked ts asked) l ≡ lineCount (ruleLooked ts unasked) l
     unfolding lineAnswer lineCount
     line-looked-same l = by (isComment l || isBlank l) (parseRule (l .raw))
       where
@@ -125,7 +137,8 @@ module _ (ts : List Table) (r : Request) (t₀ : List ℕ) (u : User) (t : List 
     until-same [] h = refl
     until-same (l ∷ ls) h = by (lineAnswer v f (ruleFound (matchOf ts) unasked) l) refl h (until-same ls)
       where
-        by : (o : Option Answer) → lineAnswer v f (ruleFound (matchOf ts) unasked) l ≡ o → QuietAnswer (o orElse first (lineAnswer v f (ruleFound (matchOf ts) unasked)) ls)
+        by : (o : Option Answer) → lineAnswer v f (ruleFound (matchOf ts) unasked) l ≡ o
+            → QuietAnswer (o orElse first (lineAnswer v f (ruleFound (matchOf ts) unasked)) ls)
             → (QuietAnswer (first (lineAnswer v f (ruleFound (matchOf ts) unasked)) ls)
             → sumUntil (λ l. isSome (lineAnswer v f (ruleFound (matchOf ts) asked) l)) (lineCount (ruleLooked ts asked)) ls
             ≡ sumUntil (λ l. isSome (lineAnswer v f (ruleFound (matchOf ts) unasked) l)) (lineCount (ruleLooked ts unasked)) ls)
@@ -135,12 +148,15 @@ module _ (ts : List Table) (r : Request) (t₀ : List ℕ) (u : User) (t : List 
         by (some a) e q ih = rw (line-looked-same l (rw e q), line-same (matchOf ts) r t₀ u t v f l (rw e q), e)
 
   first-line-same : (ls : List Line) → QuietAnswer (first (lineAnswer Ver.Granted Deciding.Allow (ruleFound (matchOf ts) unasked)) ls)
-      → first (lineAnswer Ver.Granted Deciding.Allow (ruleFound (matchOf ts) asked)) ls ≡ first (lineAnswer Ver.Granted Deciding.Allow (ruleFound (matchOf ts) unasked)) ls
-  first-line-same = first-same (lineAnswer Ver.Granted Deciding.Allow (ruleFound (matchOf ts) unasked)) (lineAnswer Ver.Granted Deciding.Allow (ruleFound (matchOf ts) asked))
+      → first (lineAnswer Ver.Granted Deciding.Allow (ruleFound (matchOf ts) asked)) ls
+      ≡ first (lineAnswer Ver.Granted Deciding.Allow (ruleFound (matchOf ts) unasked)) ls
+  first-line-same = first-same (lineAnswer Ver.Granted Deciding.Allow (ruleFound (matchOf ts) unasked))
+      (lineAnswer Ver.Granted Deciding.Allow (ruleFound (matchOf ts) asked))
       (line-same (matchOf ts) r t₀ u t Ver.Granted Deciding.Allow)
 
   -- the search that does not ask looks at as many elements for every user
-  pub looked-same : (allow deny : List ℕ) → QuietVerdict (search (matchOf ts) allow deny unasked .verdict) → looked ts allow deny asked ≡ looked ts allow deny unasked
+  pub looked-same : (allow deny : List ℕ) → QuietVerdict (search (matchOf ts) allow deny unasked .verdict)
+      → looked ts allow deny asked ≡ looked ts allow deny unasked
   unfolding search looked fileLooked
   looked-same allow deny h = by
       (first (lineAnswer Ver.Granted Deciding.Allow (ruleFound (matchOf ts) unasked)) (lines allow)) refl

@@ -179,4 +179,5 @@ module _ (s : Section) (v : View) (t : List ℕ) where
     pub judged-plain : ((n : List ℕ) → missingBy v n ≡ false) → hostsFaultAt (s .order) v t ≡ hostsFault s t
     unfolding hostsFaultAt hostsFault
     judged-plain e = ap (λ (f : Line → Option Refusal). first f (lines t))
-        (fun-ext (λ l. judged-at s v l ∙ ap (λ (o : Option Refusal). plainAt s l orElse o) (shallow-at l ∙ rw (fun-ext e, line-never l)) ∙ orElse-none (plainAt s l)))
+        (fun-ext (λ l. judged-at s v l ∙ ap (λ (o : Option Refusal). plainAt s l orElse o) (shallow-at l ∙ rw (fun-ext e, line-never l))
+        ∙ orElse-none (plainAt s l)))

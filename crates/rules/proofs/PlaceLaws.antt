@@ -179,9 +179,11 @@ fileLength allow deny Deny = length deny
 module _ (m : Matcher) (allow deny : List ℕ) (r : Request) where
   pub search-within : search m allow deny r .command .place + search m allow deny r .command .len ≤ fileLength allow deny (search m allow deny r .file)
   unfolding search
-  search-within = by (first (lineAnswer Ver.Granted Allow (ruleFound m r)) (lines allow)) (first (lineAnswer Ver.Denied Deny (ruleFound m r)) (lines deny)) refl refl
+  search-within = by (first (lineAnswer Ver.Granted Allow (ruleFound m r)) (lines allow))
+      (first (lineAnswer Ver.Denied Deny (ruleFound m r)) (lines deny)) refl refl
     where
-      by : (x y : Option Answer) → first (lineAnswer Ver.Granted Allow (ruleFound m r)) (lines allow) ≡ x → first (lineAnswer Ver.Denied Deny (ruleFound m r)) (lines deny) ≡ y
+      by : (x y : Option Answer) → first (lineAnswer Ver.Granted Allow (ruleFound m r)) (lines allow) ≡ x
+          → first (lineAnswer Ver.Denied Deny (ruleFound m r)) (lines deny) ≡ y
           → let a : Answer = Option·getD (x orElse y) (answer Ver.Granted Neither 0 (part 0 0)) in
           a .command .place + a .command .len ≤ fileLength allow deny (a .file)
       by (some a) y e f = let w = text-within Ver.Granted Allow (ruleFound m r) allow a e in rw (w .file) (w .end)

@@ -25,7 +25,8 @@ use Rattle.patterns.specs.Code.{matchesPattern}
 use Rattle.lines.specs.Line.{lines}
 use Rattle.lines.specs.Rule.{Rule}
 use Rattle.tables.specs.declared.check.TablesCheck.{TablesCheck}
-use Rattle.tables.specs.Table.{Table, Matcher, afterCount, tableName, tableNamed, isMissing, patternWith, inTable, leadsPast, matchOf, readTable, tablesOf, tableNameFault, badTableFault, firstTable}
+use Rattle.tables.specs.Table.{Table, Matcher, afterCount, tableName, tableNamed, isMissing, patternWith, inTable, leadsPast, matchOf, readTable, tablesOf}
+use Rattle.tables.specs.Table.{tableNameFault, badTableFault, firstTable}
 use Rattle.tables.specs.Tried.{triedIn, triedOf, capped}
 use Rattle.tables.specs.Code.{entries, tableCount, tablesIn, tablesChecked, placeNamed}
 use Rattle.tables.proofs.TableLaws.{missing-place, refusedBy, names-told, bad-told}
@@ -391,7 +392,8 @@ module _ (allow deny t : List ℕ) (whole : tablesIn t ≡ tablesOf t) (r : Requ
           ∙ ap₂ _||_ (text-some S.allow allow) (text-some S.deny deny)
           ∙ or-order (isSome (hostsFault S.allow allow)) (isSome (missingFault ts S.allow allow)) (isSome (depthFault ts S.allow allow))
           (isSome (hostsFault S.deny deny)) (isSome (missingFault ts S.deny deny)) (isSome (depthFault ts S.deny deny))
-          ∙ sym (contents-some ∙ rw (clear .0, clear .1 .0, clear .1 .1) (ap (λ (b : Bool). (isSome (hostsFault S.allow allow) || isSome (hostsFault S.deny deny)) || b)
+          ∙ sym (contents-some ∙ rw (clear .0, clear .1 .0, clear .1 .1)
+          (ap (λ (b : Bool). (isSome (hostsFault S.allow allow) || isSome (hostsFault S.deny deny)) || b)
           (or-false _)))
 
       same-found : queryFound (record { view = v; request = r }) ≡ ruleFound (matchOf ts) r
@@ -436,7 +438,8 @@ module _ (allow deny t : List ℕ) (whole : tablesIn t ≡ tablesOf t) (r : Requ
           let end : Answer = answer Ver.Granted File.Neither 0 (part 0 0) in
           is-f ∙ ap findingBy is-p ∙ finding-pass o (answers (queryFound query)) (capped (bothLooked query allow deny))
           ∙ ap₂ (λ (g : Rule → Found) (n : ℕ). findingOf o (searched (Option·getD (answers g) end) n)) same-found both-looked
-          ∙ finding-some o (contentsFault allow deny t) (searched (Option·getD (answers (ruleFound (matchOf ts) r)) end) (capped (looked ts allow deny r))) both-some
+          ∙ finding-some o (contentsFault allow deny t) (searched (Option·getD (answers (ruleFound (matchOf ts) r)) end) (capped (looked ts allow deny r)))
+          both-some
 
   pub found-over : (x : Bool) → x ≡ tablesOver t → x ≡ true → Finding.Doubtful ≡ found
   unfolding tablesDoubtful

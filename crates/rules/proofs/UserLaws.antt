@@ -159,7 +159,8 @@ module _ (m : Matcher) (r : Request) (t₀ : List ℕ) (u : User) (t : List ℕ)
       (included-same (λ e. lookAt unasked (clientElement m e)) (λ e. lookAt asked (clientElement m e)) client-same (x .clients))
       (λ q. refl)
 
-  pub line-same : (v : Verdict) (f : File) (l : Line) → QuietAnswer (lineAnswer v f (ruleFound m unasked) l) → lineAnswer v f (ruleFound m asked) l ≡ lineAnswer v f (ruleFound m unasked) l
+  pub line-same : (v : Verdict) (f : File) (l : Line) → QuietAnswer (lineAnswer v f (ruleFound m unasked) l)
+      → lineAnswer v f (ruleFound m asked) l ≡ lineAnswer v f (ruleFound m unasked) l
   unfolding lineAnswer
   line-same v f l = by (isComment l || isBlank l) (parseRule (l .raw))
     where
@@ -178,11 +179,15 @@ module _ (m : Matcher) (r : Request) (t₀ : List ℕ) (u : User) (t : List ℕ)
   pub search-same : (allow deny : List ℕ) → QuietVerdict (search m allow deny unasked .verdict) → search m allow deny asked ≡ search m allow deny unasked
   unfolding search
   search-same allow deny = two
-      (first (lineAnswer Ver.Granted Deciding.Allow (ruleFound m unasked)) (lines allow)) (first (lineAnswer Ver.Granted Deciding.Allow (ruleFound m asked)) (lines allow))
-      (first (lineAnswer Ver.Denied Deciding.Deny (ruleFound m unasked)) (lines deny)) (first (lineAnswer Ver.Denied Deciding.Deny (ruleFound m asked)) (lines deny))
-      (first-same (lineAnswer Ver.Granted Deciding.Allow (ruleFound m unasked)) (lineAnswer Ver.Granted Deciding.Allow (ruleFound m asked)) (line-same Ver.Granted Deciding.Allow)
+      (first (lineAnswer Ver.Granted Deciding.Allow (ruleFound m unasked)) (lines allow))
+      (first (lineAnswer Ver.Granted Deciding.Allow (ruleFound m asked)) (lines allow))
+      (first (lineAnswer Ver.Denied Deciding.Deny (ruleFound m unasked)) (lines deny))
+      (first (lineAnswer Ver.Denied Deciding.Deny (ruleFound m asked)) (lines deny))
+      (first-same (lineAnswer Ver.Granted Deciding.Allow (ruleFound m unasked)) (lineAnswer Ver.Granted Deciding.Allow (ruleFound m asked))
+      (line-same Ver.Granted Deciding.Allow)
       (lines allow))
-      (first-same (lineAnswer Ver.Denied Deciding.Deny (ruleFound m unasked)) (lineAnswer Ver.Denied Deciding.Deny (ruleFound m asked)) (line-same Ver.Denied Deciding.Deny) (lines deny))
+      (first-same (lineAnswer Ver.Denied Deciding.Deny (ruleFound m unasked)) (lineAnswer Ver.Denied Deciding.Deny (ruleFound m asked))
+      (line-same Ver.Denied Deciding.Deny) (lines deny))
     where
       none-matched : Answer
       none-matched = answer Ver.Granted Deciding.Neither 0 (part 0 0)
@@ -352,7 +357,8 @@ module _ (o : Option Refusal) (ts : List Table) (a d : List ℕ) where
   pub over-quiet : (r : Request) → Fetched (r .user) → QuietOutcome (o before decideOver ts a d (some r))
   over-quiet r fetched = by o (wellFormed r)
     where
-      by : (o : Option Refusal) (b : Bool) → QuietOutcome (o before (if b then answered (search (matchOf ts) a d (held r)) else refused (placeless F.BadRequest)))
+      by : (o : Option Refusal) (b : Bool)
+          → QuietOutcome (o before (if b then answered (search (matchOf ts) a d (held r)) else refused (placeless F.BadRequest)))
       by (some f) b = tt
       by none false = tt
       by none true = search-quiet (matchOf ts) (held r) fetched a d

@@ -50,7 +50,8 @@ line-tests l e =
     ∷ (F.LongLine, isTooLong (join (l .raw))) ∷ []))
     (if isComment l || isBlank l then none else ruleFault (Rattle.lines.specs.Rule.parseRule (l .raw))) e .0)
 
-no-element : (a b c d e : Bool) → lowest ((F.NoElement, a) ∷ (F.MisplacedExcept, b) ∷ (F.ReservedStart, c) ∷ (F.UnknownElement, d) ∷ (F.BadPercent, e) ∷ []) ≡ none
+no-element : (a b c d e : Bool) → lowest ((F.NoElement, a) ∷ (F.MisplacedExcept, b) ∷ (F.ReservedStart, c) ∷ (F.UnknownElement, d) ∷ (F.BadPercent, e) ∷ [])
+    ≡ none
     → a ≡ false
 unfolding lowest
 no-element true b c d e h = let z : _≡_ {A = ℕ} 0 1 = cc in absurd (omega arith)
@@ -85,7 +86,8 @@ unparted h = let z : _≡_ {A = ℕ} 0 1 = cc in omega arith
 no-daemon : (t : List ℕ) → ruleFault (parted (some ([], t))) ≡ none → ⊥
 no-daemon t h =
     let e : (hasNoElement (elements []) || hasNoElement (elements (Option·getD (splitSeparator false t) (t, []) .0))) ≡ false = both-elements _ h in
-    let z : _≡_ {A = Bool} true false = sym (ap (λ (b : Bool). b || hasNoElement (elements (Option·getD (splitSeparator false t) (t, []) .0))) none-of-none) ∙ e in
+    let z : _≡_ {A = Bool} true false = sym (ap (λ (b : Bool). b || hasNoElement (elements (Option·getD (splitSeparator false t) (t, []) .0))) none-of-none)
+    ∙ e in
     let n : _≡_ {A = ℕ} 0 1 = cc in omega arith
 
 no-client : (s : List ℕ) → ruleFault (parted (some (s, []))) ≡ none → ⊥

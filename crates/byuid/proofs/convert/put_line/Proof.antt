@@ -20,11 +20,19 @@ put-line-spec =
     (λ c κs. search needs)
     (λ c. search needs)
     (λ c. search needs)
-    (λ c. let h = colon-within _ _ (c .before .before .before .before .is-retired .ensures) (c .before .before .before .if1 .taken) _ (c .before .before .index-of .ensures .0) in search needs)
+    (λ c. let h = colon-within _ _ (c .before .before .before .before .is-retired .ensures) (c .before .before .before .if1 .taken) _
+    (c .before .before .index-of .ensures .0) in search needs)
     (λ c. search needs)
-    (λ c. let h = comma-within _ _ (c .before .before .before .before .is-retired .ensures) (c .before .before .before .if1 .taken) _ (c .before .before .index-of .ensures .0) _ (c .index-of2 .ensures .0) in
-    lt-length-set (c .before .before .before .before .before .before .before .put .last .0) (c .before .before .before .before .before .before .before .before .before .before .before .args .at + c .before .before .index-of .result) 44
-    (omega (arith, h, c .before .before .before .before .before .before .before .put .kept .0, c .before .before .before .before .before .before .before .before .before .before .before .pre)))
+    (λ c. let h = comma-within _ _ (c .before .before .before .before .is-retired .ensures) (c .before .before .before .if1 .taken) _
+    (c .before .before .index-of .ensures .0) _ (c .index-of2 .ensures .0) in
+    lt-length-set (c .before .before .before .before .before .before .before .put .last .0)
+    (c .before .before .before .before .before .before .before .before .before .before .before .args .at + c .before .before .index-of .result) 44
+    (omega (
+      arith,
+      h,
+      c .before .before .before .before .before .before .before .put .kept .0,
+      c .before .before .before .before .before .before .before .before .before .before .before .pre,
+    )))
     (λ c. search needs)
     (λ c. search (line-converted, needs))
     (λ c. search needs)

@@ -1,6 +1,8 @@
--- `patterns::pattern::read_wildcard` meets its contract. The words are tried in the definition's order; a text of another length is none of them. Assumes nothing.
+-- `patterns::pattern::read_wildcard` meets its contract. The words are tried in the definition's order; a text of another length is none of them. Assumes
+-- nothing.
 use borrow.Author.Needs.{needs}
-use Rattle.patterns.proofs.PatternLaws.{wildcardOf-sized, wildcardOf-all, wildcardOf-local, wildcardOf-known, wildcardOf-unknown, wildcardOf-paranoid, wildcardOf-nothing}
+use Rattle.patterns.proofs.PatternLaws.{wildcardOf-sized, wildcardOf-all, wildcardOf-local, wildcardOf-known, wildcardOf-unknown, wildcardOf-paranoid}
+use Rattle.patterns.proofs.PatternLaws.{wildcardOf-nothing}
 use Rattle.patterns.proofs.pattern.read_wildcard.Statement.{statement}
 use Rattle.patterns.proofs.pattern.read_wildcard.Tie as tie
 

@@ -1,4 +1,5 @@
--- `rules::hosts_file::examine_line` meets its contract: by the kind of the line. A rule passed the tests of 5 and 6, so that its join holds no newline and fits.
+-- `rules::hosts_file::examine_line` meets its contract: by the kind of the line. A rule passed the tests of 5 and 6, so that its join holds no newline and
+-- fits.
 -- Assumes nothing.
 use borrow.Author.Needs.{needs}
 use Rattle.rules.proofs.FileLaws.{ruled-clean, ruled-short, line-faulty, line-passed, line-ruled, plain-line}

@@ -1,4 +1,5 @@
--- `rules::hosts_file::pass_lines` meets its contract. The invariant: the pass over the text is what was found, then the pass over the lines from i on, and so is
+-- `rules::hosts_file::pass_lines` meets its contract. The invariant: the pass over the text is what was found, then the pass over the lines from i on, and so
+-- is
 -- the number of elements looked at; no answer is found while one is looked for; n is at most i + 1. The measure is what is left of the text. Assumes nothing.
 use borrow.Author.Needs.{needs}
 use Prim.Native.Nat.{_-_}
