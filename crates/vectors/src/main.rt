@@ -761,7 +761,8 @@ fn run_input(input: &mut [u8]) {
     run_lines(cases::part(input, 0, n));
 }
 
+// More cases than this holds are to be read in parts: the prover runs out of stack over an array of 1,048,576 bytes.
 fn main() {
-    let mut input = [0u8; 1048576];
+    let mut input = [0u8; 393216];
     run_input(&mut input);
 }
