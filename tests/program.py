@@ -1090,12 +1090,17 @@ def test_tidy(folder):
         expect("the place of another text: " + other, gate("tidy", deny, where / other), 2, b"", other + ": is another text of the station: give another name for the new file\n")
         if (where / other).read_bytes() != kept:
             fail("another text is as it was: " + other)
-    expect("a draft into the station's own file", gate("tidy", "-q", new, deny, "--as", "deny", "--tables", where / "tables"), 2, b"", "this station has tables of its own")
     expect("and that it is refused", gate("tidy", deny, new, "--lines", "2"), 2, b"", "refused: a proposal that is not accepted; nothing was written; without --lines every rule is shown that may be dropped\n")
     deny.chmod(0o640)
     expect("in place", gate("tidy", "-q", deny, deny), 0, b"", b"")
     if deny.read_bytes() != tidied or deny.stat().st_mode & 0o777 != 0o640:
         fail("a file tidied in place")
+    draft = where / "draft"
+    draft.write_bytes(REPEATS)
+    expect("a draft into the station's own file", gate("tidy", "-q", draft, deny, "--as", "deny"), 0, b"", b"")
+    if deny.read_bytes() != tidied:
+        fail("a draft that became the station's own file")
+    draft.unlink()
     expect("what is left is sound", gate("check", where), 0, "sound", None)
     test_tidy_refusals(where)
 
