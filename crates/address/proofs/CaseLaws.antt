@@ -13,7 +13,8 @@ use lib.ListN.{length, replicate}
 use Rattle.text.specs.Basics.{if_then_else_, _>>=_, _orElse_, given, isEmpty, any, all, each}
 use Rattle.text.specs.Text.{bytes, among, splitOnce, split, inRange, charRange, isDigit, lower}
 use Rattle.text.specs.Number.{fromDigits, toDigits, digitValue, readDecimal}
-use Rattle.text.proofs.CaseLaws.{Blindly, blindTest, test-blindly, blindNumber, number-blindly, Alike, AlikePair, AlikeList, alike-length, alike-all, alike-map, alike-splitOnce, alike-split, alike-readDecimal}
+use Rattle.text.proofs.CaseLaws.{Blindly, blindTest, test-blindly, blindNumber, number-blindly, Alike, AlikePair, AlikeList, alike-length, alike-all}
+use Rattle.text.proofs.CaseLaws.{alike-map, alike-splitOnce, alike-split, alike-readDecimal}
 use Rattle.address.specs.Address.{readV4, readGroup, readLastGroup, readGroups, readCompressed, readV6}
 
 -- ## Marks
@@ -92,7 +93,10 @@ alike-side (x ∷ xs) (y ∷ ys) a = alike-split ":" (test-blindly (among ":") 2
 alike-readCompressed : (p q : List ℕ × List ℕ) → Alike (p .0) (q .0) → Alike (p .1) (q .1) → readCompressed p ≡ readCompressed q
 unfolding readCompressed
 alike-readCompressed p q a b =
-    rw (alike-readGroups readGroup alike-readGroup _ _ (alike-side (p .0) (q .0) a), alike-readGroups readLastGroup alike-readLastGroup _ _ (alike-side (p .1) (q .1) b))
+    rw (
+      alike-readGroups readGroup alike-readGroup _ _ (alike-side (p .0) (q .0) a),
+      alike-readGroups readLastGroup alike-readLastGroup _ _ (alike-side (p .1) (q .1) b),
+    )
 
 -- ## An address
 

@@ -19,10 +19,12 @@ use Rattle.text.specs.Number.{fromDigits, toDigits, digitByte, numeral, decimal
 use Rattle.text.proofs.BasicLaws.{and-true}
 use Rattle.text.proofs.Digits.{length-toDigits, toDigits-below, fromDigits-toDigits}
 use Rattle.text.proofs.Numeral.{digitByte-cases, length-numeral, all-numeral, fromDigits-numeral, isDigit-digitByte, readDecimal-decimal, readDecimal-none}
-use Rattle.text.proofs.Intercalate.{any-between, all-append-left, all-append-right, all-false, all-map, each-map, each-none, any-split, free, isField, free-all, isField-free, isEmpty-intercalate, among-one, split-intercalate, splitOnce-some, splitOnce-intercalate}
+use Rattle.text.proofs.Intercalate.{any-between, all-append-left, all-append-right, all-false, all-map, each-map, each-none, any-split, free, isField}
+use Rattle.text.proofs.Intercalate.{free-all, isField-free, isEmpty-intercalate, among-one, split-intercalate, splitOnce-some, splitOnce-intercalate}
 use Rattle.section.specs.Refusal.{answered}
 use Rattle.address.specs.declared.Addr.the-variants as A
-use Rattle.address.specs.Address.{readV4, readGroup, readLastGroup, readGroups, readCompressed, readV6, hexGroups, compress, textV4, textV6, addrText, readAddress}
+use Rattle.address.specs.Address.{readV4, readGroup, readLastGroup, readGroups, readCompressed, readV6, hexGroups, compress, textV4, textV6}
+use Rattle.address.specs.Address.{addrText, readAddress}
 
 abbrev dot : ℕ
 dot = code "."

@@ -3,7 +3,8 @@
 use Prim.Native.Nat.{ℕ, _+_, _-_, _*_, _/_, _%_, _^_, _<_, _≤_, suc}
 use mathlib.Core.Bool.{Bool, true, false}
 use mathlib.Core.Path.{_≡_, refl, sym, ap, ap₂, _∙_}
-use native.Mathlib.Nat.{div-add-mod', mod-lt, mul-mod-left, pow-suc, pow-le-pow-right, lt-of-lt-of-le, add-zero, mod-le, mul-div-cancel, mul-one, mul-assoc, mul-lt-mul-of-pos-right, one-le-pow}
+use native.Mathlib.Nat.{div-add-mod', mod-lt, mul-mod-left, pow-suc, pow-le-pow-right, lt-of-lt-of-le, add-zero, mod-le, mul-div-cancel, mul-one}
+use native.Mathlib.Nat.{mul-assoc, mul-lt-mul-of-pos-right, one-le-pow}
 use native.Mathlib.Omega.{arith}
 use borrow.Author.Tests.{leb-true, leb-false, lt-ltb, le-ltb}
 use lib.Arith.{digits-lt, mod-mul}

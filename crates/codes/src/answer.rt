@@ -24,8 +24,10 @@ ghost use Rattle.address.specs.declared.read.AddressRead.the-variants as R;
 ghost use Rattle.sheet.specs.declared.unpack.Unpacked.the-variants as Un;
 ghost use Rattle.authbind.specs.declared.Next.the-variants as N;
 ghost use Rattle.section.specs.declared.WrittenTwo.the-variants as Two;
-ghost use Rattle.codes.specs.Answers.{placeNumbers, verdictWord, byuidWord, portaclWord, refusalAnswer, wordAnswer, answerNumbers, foundParts, withCount, nextWith, addressWith, addressNumbers};
-ghost use Rattle.codes.specs.Code.{matterNumbers, byuidNumbers, portaclNumbers, verdictNumbers, checkNumbers, partsNumbers, writtenNumbers, writtenTwoNumbers, commandWritten, nextNumbers, readNumbers};
+ghost use Rattle.codes.specs.Answers.{placeNumbers, verdictWord, byuidWord, portaclWord, refusalAnswer, wordAnswer, answerNumbers, foundParts};
+ghost use Rattle.codes.specs.Answers.{withCount, nextWith, addressWith, addressNumbers};
+ghost use Rattle.codes.specs.Code.{matterNumbers, byuidNumbers, portaclNumbers, verdictNumbers, checkNumbers, partsNumbers, writtenNumbers};
+ghost use Rattle.codes.specs.Code.{writtenTwoNumbers, commandWritten, nextNumbers, readNumbers};
 
 // The kind of an address that was not read: no address has it.
 pub const NO_ADDRESS: u32 = 255;

@@ -30,7 +30,8 @@ ghost use mathlib.Core.Path.{_≡_};
 ghost use Rattle.sheet.specs.Sheet.{texts};
 ghost use Rattle.codes.specs.Requests.{hostNumbers, requestNumbers, settingsOf};
 ghost use Rattle.gate.specs.Calls.{gateVerdict, gateTablesVerdict, gateSheetVerdict, gateByuid, gateSheetByuid, gatePortacl, gateSheetPortacl};
-ghost use Rattle.gate.specs.Calls.{gateCheck, gateUnpack, gateReadAddress, gatePack, gateUpgrade, gateExpand, gateCommand, gateSheetCommand, gateWriteAddress};
+ghost use Rattle.gate.specs.Calls.{gateCheck, gateUnpack, gateReadAddress, gatePack, gateUpgrade, gateExpand, gateCommand, gateSheetCommand};
+ghost use Rattle.gate.specs.Calls.{gateWriteAddress};
 ghost use Rattle.gate.specs.Calls.{gatePropose, gateDrop, gateIndex, gateVerdicts};
 ghost use Rattle.gate.specs.Calls.{gateAuthbind, gateConvert, gateCarry, gateSalvage, gateNameMatters, gateTablesNameMatters, gateSheetNameMatters};
 
@@ -307,9 +308,11 @@ pub extern "C" fn gate_pack(
     tables: &[u8],
 ) -> GateWritten
     ensures answer { λ r. ⌜ r
-        ≡ gatePack (texts (now (allow .entry)) (now (deny .entry)) (now (byuid .entry)) (now (portacl .entry)) (now (tables .entry))) (now (out .entry)) .answer ⌝ }
+        ≡ gatePack (texts (now (allow .entry)) (now (deny .entry)) (now (byuid .entry)) (now (portacl .entry)) (now (tables .entry)))
+        (now (out .entry)) .answer ⌝ }
     ensures holds { λ _. ⌜ now (out .exit)
-        ≡ gatePack (texts (now (allow .entry)) (now (deny .entry)) (now (byuid .entry)) (now (portacl .entry)) (now (tables .entry))) (now (out .entry)) .out ⌝ }
+        ≡ gatePack (texts (now (allow .entry)) (now (deny .entry)) (now (byuid .entry)) (now (portacl .entry)) (now (tables .entry)))
+        (now (out .entry)) .out ⌝ }
 {
     codes::answer::written_numbers(sheet::pack::pack(out, allow, deny, byuid, portacl, tables))
 }

@@ -5,7 +5,8 @@ ghost use mathlib.Core.Path.{_≡_};
 ghost use Prim.Native.Nat.{_+_, _≤_, _<_};
 ghost use lib.ListN.{length, getD};
 ghost use Rattle.index.specs.Index.{numberAt, readRequests};
-ghost use Rattle.index.specs.Code.{numberFrom, textAt, textReadOf, numbersAt, hostAt, hostReadOf, userFrom, hostsFrom, fieldsAt, requestReadOf, countedOf};
+ghost use Rattle.index.specs.Code.{numberFrom, textAt, textReadOf, numbersAt, hostAt, hostReadOf, userFrom, hostsFrom, fieldsAt, requestReadOf};
+ghost use Rattle.index.specs.Code.{countedOf};
 use codes::request::HostNumbers;
 use section::Part;
 

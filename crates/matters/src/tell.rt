@@ -18,7 +18,8 @@ ghost use Rattle.lists.specs.Code.{NoNewline};
 ghost use Rattle.rules.specs.FileCode.{ScannedLine};
 ghost use Rattle.rules.specs.Code.{contentsFault};
 ghost use Rattle.matters.specs.Matters.{sameFound, toldOf, settled, matterBy};
-ghost use Rattle.matters.specs.Code.{finderAt, nameAgrees, halfAgrees, askedList, listTold, parsedBy, kindTold, textToldBy, tellingOf, endedBy, settledBy};
+ghost use Rattle.matters.specs.Code.{finderAt, nameAgrees, halfAgrees, askedList, listTold, parsedBy, kindTold, textToldBy, tellingOf, endedBy};
+ghost use Rattle.matters.specs.Code.{settledBy};
 ghost use Rattle.matters.specs.Code.{askedHalf, wasTried, notedCount, notedPlaces, triedBy, placesBy};
 use super::Matter;
 use super::Place;
@@ -78,7 +79,8 @@ fn clients_find(
     user_name: &[u8],
 ) -> Found
     requires { ⌜ Classes (now class) ⌝ }
-    ensures { λ r. ⌜ r ≡ finderAt (now (tables .entry)) (now (notes .entry)) (now (names .entry)) request .clients user (now («user_name» .entry)) (words (now (s .entry))) ⌝ }
+    ensures { λ r. ⌜ r
+        ≡ finderAt (now (tables .entry)) (now (notes .entry)) (now (names .entry)) request .clients user (now («user_name» .entry)) (words (now (s .entry))) ⌝ }
 {
     let client = request.client;
     let seen = clients_included(
@@ -106,7 +108,8 @@ fn name_agrees(
     name: &[u8],
 ) -> bool
     requires { ⌜ Classes (now class) ⌝ }
-    ensures { λ r. ⌜ r ≡ nameAgrees (finderAt (now (tables .entry)) (now (notes .entry)) (now (names .entry)) request) (words (now (s .entry))) f (now (name .entry)) ⌝ }
+    ensures { λ r. ⌜ r
+        ≡ nameAgrees (finderAt (now (tables .entry)) (now (notes .entry)) (now (names .entry)) request) (words (now (s .entry))) f (now (name .entry)) ⌝ }
 {
     if (name.len() == 0) | (64 < name.len()) {
         return true;
@@ -414,7 +417,8 @@ fn line_told(
 ) -> Told
     requires { ⌜ Classes (now class) ⌝ }
     requires { ⌜ ScannedLine (now raw) span ⌝ }
-    ensures { λ r. ⌜ r ≡ kindTold (finderAt (now (tables .entry)) (now (notes .entry)) (now (names .entry)) request) (line 0 0 (now (raw .entry)) (span .ended)) ⌝ }
+    ensures { λ r. ⌜ r
+        ≡ kindTold (finderAt (now (tables .entry)) (now (notes .entry)) (now (names .entry)) request) (line 0 0 (now (raw .entry)) (span .ended)) ⌝ }
 {
     match kind_of_line(raw, span) {
         LineKind::Faulty(_) => Told::Passes,

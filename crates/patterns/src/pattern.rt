@@ -16,7 +16,8 @@ ghost use Rattle.text.specs.Basics.{isSome, any, all};
 ghost use Rattle.text.specs.Text.{among};
 ghost use Rattle.patterns.specs.Host.{endpoint, nameCase, nameKnown, addrKnown};
 ghost use Rattle.patterns.specs.Pattern.{isNameByte, domainPattern, namePattern, hostPattern};
-ghost use Rattle.patterns.specs.Code.{wordSize, wildcardOf, formOf, isDottedByte, formPattern, matchesPattern, patternSeen, domainCovers, plainCovers, Named};
+ghost use Rattle.patterns.specs.Code.{wordSize, wildcardOf, formOf, isDottedByte, formPattern, matchesPattern, patternSeen, domainCovers};
+ghost use Rattle.patterns.specs.Code.{plainCovers, Named};
 
 // The wildcard that a text is.
 pub enum Wildcard {

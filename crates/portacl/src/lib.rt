@@ -15,7 +15,8 @@ ghost use Rattle.text.specs.Basics.{if_then_else_, isSome, any};
 ghost use Rattle.text.specs.Text.{equal};
 ghost use Rattle.portacl.specs.Portacl.{bind, protocolWord, readEntry, portaclRuling, portaclFault, decidePortacl};
 ghost use Rattle.portacl.specs.declared.Protocol.the-variants.{Tcp, Udp};
-ghost use Rattle.portacl.specs.Code.{checkedOf, asEntry, entryData, idData, protocolData, portData, grantsTo, entriesData, walk, decisionOf, noted, notes};
+ghost use Rattle.portacl.specs.Code.{checkedOf, asEntry, entryData, idData, protocolData, portData, grantsTo, entriesData, walk, decisionOf};
+ghost use Rattle.portacl.specs.Code.{noted, notes};
 
 // The words of the decision.
 pub enum Decision {

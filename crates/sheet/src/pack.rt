@@ -70,8 +70,8 @@ pub fn pack(
     tables: &[u8],
 ) -> Written
     ensures answer { λ r. ⌜ r
-        ≡ writtenOf
-        (packOf (texts (now (allow .entry)) (now (deny .entry)) (now (byuid .entry)) (now (portacl .entry)) (now (tables .entry))) (length (now (out .entry)))) ⌝ }
+        ≡ writtenOf (packOf
+        (texts (now (allow .entry)) (now (deny .entry)) (now (byuid .entry)) (now (portacl .entry)) (now (tables .entry))) (length (now (out .entry)))) ⌝ }
     ensures holds { λ _. ⌜ now (out .exit)
         ≡ lentAfter (now (out .entry))
         (packOf (texts (now (allow .entry)) (now (deny .entry)) (now (byuid .entry)) (now (portacl .entry)) (now (tables .entry)))

@@ -7,7 +7,8 @@ use mathlib.Core.List.{List, [], _∷_, _++_, map, map-append}
 use mathlib.Core.Option.{none, some}
 use mathlib.Core.Path.{_≡_, refl, ap₂, _∙_}
 use native.Mathlib.Omega.{arith}
-use native.Mathlib.Nat.{one-le-pow, lt-of-lt-of-le, mul-assoc, add-mul, mul-le-mul-right, pow-succ', one-mul, pow-le-pow-right, div-lt-iff-lt-mul, le-div-iff-mul-le, mod-eq-of-lt, pow-zero, pow-suc, le-mul-of-pos-right}
+use native.Mathlib.Nat.{one-le-pow, lt-of-lt-of-le, mul-assoc, add-mul, mul-le-mul-right, pow-succ', one-mul, pow-le-pow-right, div-lt-iff-lt-mul}
+use native.Mathlib.Nat.{le-div-iff-mul-le, mod-eq-of-lt, pow-zero, pow-suc, le-mul-of-pos-right}
 use borrow.Author.Tests.{ltb-true, ltb-false, lt-ltb, le-ltb, leb-true, le-leb, lt-leb}
 use lib.Dec.{ltb, leb}
 use lib.ListN.{length, take, getD, length-append, length-map, List·getD-append}

@@ -14,7 +14,8 @@ use borrow.Author.Tests.{eqb-true, eqb-false, eq-eqb, leb-true, not-true}
 use lib.Dec.{eqb, leb}
 use lib.ListN.{length, take, drop}
 use Rattle.text.specs.Basics.{if_then_else_, any, all}
-use Rattle.text.specs.Text.{bytes, among, equal, startsWith, firstAmong, lastAmong, consFirst, splitOnce, consHead, split, inRange, isDigit, lower, equalFold}
+use Rattle.text.specs.Text.{bytes, among, equal, startsWith, firstAmong, lastAmong, consFirst, splitOnce, consHead, split, inRange, isDigit}
+use Rattle.text.specs.Text.{lower, equalFold}
 use Rattle.text.specs.Number.{fromDigits, digitValue, decimal, readDecimal}
 use Rattle.text.proofs.BasicLaws.{and-true}
 use Rattle.text.proofs.ScanLaws.{eq-of-equal}
@@ -119,7 +120,8 @@ no-letter p (suc n) k e h =
     let b = and-true (not (p (65 + n))) (not (p (97 + n))) (a .0) in
     by (eqb k n) refl (b .0) (b .1) (λ q. no-letter p n k (a .1) q)
   where
-    by : (c : Bool) → eqb k n ≡ c → not (p (65 + n)) ≡ true → not (p (97 + n)) ≡ true → (k < n → (p (65 + k) ≡ false) × (p (97 + k) ≡ false)) → (p (65 + k) ≡ false) × (p (97 + k) ≡ false)
+    by : (c : Bool) → eqb k n ≡ c → not (p (65 + n)) ≡ true → not (p (97 + n)) ≡ true
+        → (k < n → (p (65 + k) ≡ false) × (p (97 + k) ≡ false)) → (p (65 + k) ≡ false) × (p (97 + k) ≡ false)
     by true f u v ih = rw (eqb-true k n f) (not-true (p (65 + n)) u, not-true (p (97 + n)) v)
     by false f u v ih = ih (omega (arith, eqb-false k n f))
 
@@ -204,7 +206,8 @@ AlikePair (some p) (some q) = Alike (p .0) (q .0) × Alike (p .1) (q .1)
 
 -- a mark none of whose bytes is a letter
 module _ (m : List ℕ) (clear : (c : ℕ) → any (eqb c) m ≡ true → Blindly (λ x. eqb c x) 26) where
-  starts : (k : List ℕ) → ((c : ℕ) → any (eqb c) k ≡ true → any (eqb c) m ≡ true) → (xs ys : List ℕ) → Alike xs ys → equal k (take (length k) xs) ≡ equal k (take (length k) ys)
+  starts : (k : List ℕ) → ((c : ℕ) → any (eqb c) k ≡ true → any (eqb c) m ≡ true) → (xs ys : List ℕ) → Alike xs ys
+      → equal k (take (length k) xs) ≡ equal k (take (length k) ys)
   unfolding equal any
   starts [] h xs ys a = refl
   starts (c ∷ k) h [] [] a = refl

@@ -8,3 +8,4 @@ pub mod Intercalate
 pub mod PasteLaws
 pub mod Writing
 pub mod CaseLaws
+pub mod Search

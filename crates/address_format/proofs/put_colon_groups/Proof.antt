@@ -3,6 +3,7 @@
 use Prim.Native.Nat.{_-_}
 use borrow.Author.Needs.{needs}
 use lib.ListN.{length}
+use Rattle.text.proofs.Search.{outright}
 use Rattle.address_format.proofs.WriteLaws.{Groups, groups-start, groups-room, groups-step, groups-end}
 use Rattle.address_format.proofs.put_colon_groups.Statement.{statement}
 use Rattle.address_format.proofs.put_colon_groups.Tie as tie
@@ -21,13 +22,13 @@ put-colon-groups-spec =
     let facts = tie.spec
     Inv-loop
     μ-loop
-    (λ c. search (groups-start, needs))
+    (λ c. outright (search (groups-start, needs)))
     (λ c. search needs)
     (λ c. search needs)
-    (λ c κs. search (groups-room, needs))
+    (λ c κs. outright (search (groups-room, needs)))
     (λ c. search needs)
     (λ c. search needs)
-    (λ c. search (groups-step, needs))
+    (λ c. outright (search (groups-step, needs)))
     (λ c. search needs)
     returns in
     tie.close facts

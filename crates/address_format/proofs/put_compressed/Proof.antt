@@ -2,6 +2,7 @@
 use mathlib.Core.Path.{sym}
 use borrow.Author.Needs.{needs}
 use lib.Seq.{length-take-le}
+use Rattle.text.proofs.Search.{outright}
 use Rattle.address_format.proofs.WriteLaws.{plain-room, plain-all, run-room, run-mark-room, run-behind-room, run-all}
 use Rattle.address_format.proofs.put_compressed.Statement.{statement}
 use Rattle.address_format.proofs.put_compressed.Tie as tie
@@ -40,14 +41,14 @@ pub put-compressed-spec : {M : Type 1} → statement M
 put-compressed-spec =
     let facts = tie.spec
     (λ c κs. search needs)
-    (λ c κs. search (plain-room, needs))
+    (λ c κs. outright (search (plain-room, needs)))
     (λ c. search needs)
     returns
     (λ c. search needs)
     slice-aggregate-put-groups
-    (λ c κs. search (run-room, needs))
+    (λ c κs. outright (search (run-room, needs)))
     (λ c. search needs)
-    (λ c κs. search (run-mark-room, needs))
+    (λ c κs. outright (search (run-mark-room, needs)))
     (λ c. search needs)
     (λ c. search needs)
     (λ c. search needs)

@@ -1,11 +1,12 @@
 -- `address_format::put_group` meets its contract: at most two digits, or the last two after them. Assumes nothing.
 use borrow.Author.Needs.{needs}
+use Rattle.text.proofs.Search.{outright}
 use Rattle.address_format.proofs.WriteLaws.{group-pair-room, group-pair, group-room, group-third-room, group-last-room, group-four}
 use Rattle.address_format.proofs.put_group.Statement.{statement}
 use Rattle.address_format.proofs.put_group.Tie as tie
 
 put-pair-requires : tie.Need-put-pair-requires
-put-pair-requires c κs = search (group-pair-room, needs)
+put-pair-requires c κs = outright (search (group-pair-room, needs))
 
 returns : tie.Need-returns
 returns c = group-pair _ _ _ (c .before .before .before .before .before .before .pre)

@@ -1,5 +1,6 @@
 -- `address_format::put_groups` meets its contract: the first group, and then the others with a colon before each. Assumes nothing.
 use borrow.Author.Needs.{needs}
+use Rattle.text.proofs.Search.{outright}
 use Rattle.address_format.proofs.WriteLaws.{hexGroups-none, hexGroups-first-room, hexGroups-rest-room, hexGroups-all}
 use Rattle.address_format.proofs.put_groups.Statement.{statement}
 use Rattle.address_format.proofs.put_groups.Tie as tie
@@ -20,11 +21,11 @@ put-groups-spec =
     let facts = tie.spec
     returns
     (λ c. search needs)
-    (λ c κs. search (hexGroups-first-room, needs))
+    (λ c κs. outright (search (hexGroups-first-room, needs)))
     (λ c. search needs)
     (λ c. search needs)
     (λ c. search needs)
-    (λ c κs. search (hexGroups-rest-room, needs))
+    (λ c κs. outright (search (hexGroups-rest-room, needs)))
     (λ c. search needs)
     returns-2 in
     tie.close facts

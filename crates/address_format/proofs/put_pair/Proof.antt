@@ -1,11 +1,12 @@
 -- `address_format::put_pair` meets its contract: one digit, or two. Assumes nothing.
 use borrow.Author.Needs.{needs}
+use Rattle.text.proofs.Search.{outright}
 use Rattle.address_format.proofs.WriteLaws.{pair-room, pair-one, pair-last-room, pair-two}
 use Rattle.address_format.proofs.put_pair.Statement.{statement}
 use Rattle.address_format.proofs.put_pair.Tie as tie
 
 put-digit-requires : tie.Need-put-digit-requires
-put-digit-requires c κs = search (pair-room, needs)
+put-digit-requires c κs = outright (search (pair-room, needs))
 
 returns : tie.Need-returns
 returns c = let b = c .before .before .before .before .before .before in

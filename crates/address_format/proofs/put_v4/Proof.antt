@@ -1,14 +1,15 @@
 -- `address_format::put_v4` meets its contract: the four fields, one after the other. Assumes nothing.
 use borrow.Author.Needs.{needs}
+use Rattle.text.proofs.Search.{outright}
 use Rattle.address_format.proofs.WriteLaws.{fields-room, fields-room-2, fields-room-3, fields-room-4, fields-all}
 use Rattle.address_format.proofs.put_v4.Statement.{statement}
 use Rattle.address_format.proofs.put_v4.Tie as tie
 
 put-decimal-requires : tie.Need-put-decimal-requires
-put-decimal-requires c κs = search (fields-room, needs)
+put-decimal-requires c κs = outright (search (fields-room, needs))
 
 put-next-field-requires : tie.Need-put-next-field-requires
-put-next-field-requires c κs = search (fields-room-2, needs)
+put-next-field-requires c κs = outright (search (fields-room-2, needs))
 
 put-next-field-requires-2 : tie.Need-put-next-field-requires-2
 put-next-field-requires-2 c κs =

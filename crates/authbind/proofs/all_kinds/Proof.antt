@@ -2,6 +2,7 @@
 use Prim.Native.Nat.{_-_}
 use lib.ListN.{length}
 use borrow.Author.Needs.{needs}
+use Rattle.text.proofs.Search.{outright}
 use Rattle.authbind.proofs.AnswerLaws.{Kinds, kinds-start, kinds-other, kinds-more, kinds-end}
 use Rattle.authbind.proofs.all_kinds.Statement.{statement}
 use Rattle.authbind.proofs.all_kinds.Tie as tie
@@ -17,11 +18,11 @@ all-kinds-spec =
     let facts = tie.spec
     Inv-loop
     μ-loop
-    (λ c. search (kinds-start, needs))
+    (λ c. outright (search (kinds-start, needs)))
     (λ c. search needs)
-    (λ c. search (kinds-other, needs))
+    (λ c. outright (search (kinds-other, needs)))
     (λ c. search needs)
     (λ c. search needs)
-    (λ c. search (kinds-more, needs))
-    (λ c. search (kinds-end, needs)) in
+    (λ c. outright (search (kinds-more, needs)))
+    (λ c. outright (search (kinds-end, needs))) in
     tie.close facts

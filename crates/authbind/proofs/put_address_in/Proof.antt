@@ -1,5 +1,6 @@
 -- `authbind::put_address_in` meets its contract, by the file. Assumes nothing.
 use borrow.Author.Needs.{needs}
+use Rattle.text.proofs.Search.{outright}
 use Rattle.authbind.proofs.NameLaws.{address-in-room, behind-room, text-all, in-address, third-in-room, third-in, in-port, in-uid}
 use Rattle.authbind.proofs.put_address_in.Statement.{statement}
 use Rattle.authbind.proofs.put_address_in.Tie as tie
@@ -20,11 +21,11 @@ put-address-in-spec =
     let facts = tie.spec
     (λ c. search needs)
     (λ c. search needs)
-    (λ c κs. search (address-in-room, needs))
+    (λ c κs. outright (search (address-in-room, needs)))
     (λ c. search needs)
     put-requires
     (λ c. search needs)
-    (λ c κs. search (third-in-room, needs))
+    (λ c κs. outright (search (third-in-room, needs)))
     (λ c. search needs)
     (λ c. in-port _ _ (search needs) _ _)
     (λ c. search needs)

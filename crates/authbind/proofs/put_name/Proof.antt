@@ -1,5 +1,6 @@
 -- `authbind::put_name` meets its contract: its four parts, one after the other. Assumes nothing.
 use borrow.Author.Needs.{needs}
+use Rattle.text.proofs.Search.{outright}
 use Rattle.authbind.proofs.NameLaws.{name-room, name-room-2, name-room-3, name-room-4, name-all}
 use Rattle.authbind.proofs.put_name.Statement.{statement}
 use Rattle.authbind.proofs.put_name.Tie as tie
@@ -30,8 +31,8 @@ returns c =
 pub put-name-spec : {M : Type 1} → statement M
 put-name-spec =
     let facts = tie.spec
-    (λ c κs. search (name-room, needs))
-    (λ c κs. search (name-room-2, needs))
+    (λ c κs. outright (search (name-room, needs)))
+    (λ c κs. outright (search (name-room-2, needs)))
     put-address-in-requires
     (λ c κs. search needs)
     put-decimal-requires

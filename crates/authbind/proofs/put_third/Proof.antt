@@ -1,5 +1,6 @@
 -- `authbind::put_third` meets its contract: a text and the mark behind it, by the kind of address. Assumes nothing.
 use borrow.Author.Needs.{needs}
+use Rattle.text.proofs.Search.{outright}
 use Rattle.authbind.proofs.NameLaws.{text-room, behind-room, text-all, third-v4, third-v6, third-none}
 use Rattle.authbind.proofs.put_third.Statement.{statement}
 use Rattle.authbind.proofs.put_third.Tie as tie
@@ -21,13 +22,13 @@ put-third-spec =
     let facts = tie.spec
     (λ c. search needs)
     (λ c. search needs)
-    (λ c κs. search (text-room, third-v4, needs))
+    (λ c κs. outright (search (text-room, third-v4, needs)))
     (λ c. search needs)
-    (λ c κs. search (behind-room, third-v4, needs))
+    (λ c κs. outright (search (behind-room, third-v4, needs)))
     (λ c. search needs)
-    (λ c κs. search (text-room, third-v6, needs))
+    (λ c κs. outright (search (text-room, third-v6, needs)))
     (λ c. search needs)
-    (λ c κs. search (behind-room, third-v6, needs))
+    (λ c κs. outright (search (behind-room, third-v6, needs)))
     (λ c. third-none _ (search needs) _ _)
     (λ c. search needs)
     returns-2

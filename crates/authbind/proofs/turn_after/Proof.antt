@@ -2,6 +2,7 @@
 use Prim.Native.Nat.{_-_}
 use lib.ListN.{length}
 use borrow.Author.Needs.{needs}
+use Rattle.text.proofs.Search.{outright}
 use Rattle.authbind.proofs.AnswerLaws.{Turns, turns-start, turns-late, turns-settled, turns-more, turns-test, turns-byuid}
 use Rattle.authbind.proofs.turn_after.Statement.{statement}
 use Rattle.authbind.proofs.turn_after.Tie as tie
@@ -17,14 +18,14 @@ turn-after-spec =
     let facts = tie.spec
     Inv-loop
     μ-loop
-    (λ c. search (turns-start, needs))
-    (λ c. search (turns-late, needs))
+    (λ c. outright (search (turns-start, needs)))
+    (λ c. outright (search (turns-late, needs)))
     (λ c. search needs)
     (λ c. search needs)
     (λ c κs. search needs)
-    (λ c. search (turns-settled, needs))
+    (λ c. outright (search (turns-settled, needs)))
     (λ c. search needs)
-    (λ c. search (turns-more, needs))
-    (λ c. search (turns-test, needs))
-    (λ c. search (turns-byuid, needs)) in
+    (λ c. outright (search (turns-more, needs)))
+    (λ c. outright (search (turns-test, needs)))
+    (λ c. outright (search (turns-byuid, needs))) in
     tie.close facts

@@ -1,5 +1,6 @@
 -- `byuid::answer_by` meets its contract, by the kind of address. Assumes nothing.
 use borrow.Author.Needs.{needs}
+use Rattle.text.proofs.Search.{outright}
 use Rattle.byuid.proofs.TextLaws.{by-unknown, by-v4, by-v6}
 use Rattle.byuid.proofs.answer_by.Statement.{statement}
 use Rattle.byuid.proofs.answer_by.Tie as tie
@@ -13,7 +14,7 @@ answer-by-spec =
     (λ c κs. search needs)
     (λ c. search needs)
     (λ c κs. search needs)
-    (λ c. search (by-unknown, needs))
-    (λ c. search (by-v4, needs))
-    (λ c. search (by-v6, needs)) in
+    (λ c. outright (search (by-unknown, needs)))
+    (λ c. outright (search (by-v4, needs)))
+    (λ c. outright (search (by-v6, needs))) in
     tie.close facts

@@ -1,5 +1,6 @@
 -- `byuid::check` meets its contract: what the walk finds is the fault of the text, whatever is asked. Assumes nothing.
 use borrow.Author.Needs.{needs}
+use Rattle.text.proofs.Search.{outright}
 use Rattle.byuid.proofs.TextLaws.{check-retired, check-sound}
 use Rattle.byuid.proofs.check.Statement.{statement}
 use Rattle.byuid.proofs.check.Tie as tie
@@ -11,6 +12,6 @@ check-spec =
     (λ c. search needs)
     (λ c κs. search needs)
     (λ c. search needs)
-    (λ c. search (check-retired, needs))
-    (λ c. search (check-sound, needs)) in
+    (λ c. outright (search (check-retired, needs)))
+    (λ c. outright (search (check-sound, needs))) in
     tie.close facts

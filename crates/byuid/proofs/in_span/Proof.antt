@@ -1,5 +1,6 @@
 -- `byuid::in_span` meets its contract. Assumes nothing.
 use borrow.Author.Needs.{needs}
+use Rattle.text.proofs.Search.{outright}
 use Rattle.byuid.proofs.TextLaws.{plain-span, marked-span}
 use Rattle.byuid.proofs.in_span.Statement.{statement}
 use Rattle.byuid.proofs.in_span.Tie as tie
@@ -9,6 +10,6 @@ in-span-spec =
     let facts = tie.spec
     (λ c. search needs)
     (λ c. search needs)
-    (λ c. search (plain-span, needs))
-    (λ c. search (marked-span, needs)) in
+    (λ c. outright (search (plain-span, needs)))
+    (λ c. outright (search (marked-span, needs))) in
     tie.close facts

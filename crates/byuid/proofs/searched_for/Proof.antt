@@ -1,5 +1,6 @@
 -- `byuid::searched_for` meets its contract. Assumes nothing.
 use borrow.Author.Needs.{needs}
+use Rattle.text.proofs.Search.{outright}
 use Rattle.byuid.proofs.TextLaws.{searched-address, searched-none}
 use Rattle.byuid.proofs.searched_for.Statement.{statement}
 use Rattle.byuid.proofs.searched_for.Tie as tie
@@ -9,6 +10,6 @@ searched-for-spec =
     let facts = tie.spec
     (λ c κs. search needs)
     (λ c κs. search needs)
-    (λ c. search (searched-address, needs))
-    (λ c. search (searched-none, needs)) in
+    (λ c. outright (search (searched-address, needs)))
+    (λ c. outright (search (searched-none, needs))) in
     tie.close facts

@@ -3,6 +3,7 @@
 use borrow.Author.Needs.{needs}
 use Prim.Native.Nat.{_+_, _-_}
 use lib.ListN.{length}
+use Rattle.text.proofs.Search.{outright}
 use Rattle.byuid.proofs.TextLaws.{Walking, walking-start, walking-retired, walking-on, walking-end}
 use Rattle.byuid.proofs.walk_lines.Statement.{statement}
 use Rattle.byuid.proofs.walk_lines.Tie as tie
@@ -18,7 +19,7 @@ walk-lines-spec =
     let facts = tie.spec
     Inv-loop
     μ-loop
-    (λ c. search (walking-start, needs))
+    (λ c. outright (search (walking-start, needs)))
     (λ c. search needs)
     (λ c. search needs)
     (λ c. search needs)
@@ -29,11 +30,11 @@ walk-lines-spec =
     (λ c. search needs)
     (λ c κs. search needs)
     (λ c. search needs)
-    (λ c. search (walking-retired, needs))
+    (λ c. outright (search (walking-retired, needs)))
     (λ c. search needs)
     (λ c. search needs)
     (λ c. search needs)
     (λ c. search needs)
-    (λ c. search (walking-on, needs))
-    (λ c. search (walking-end, needs)) in
+    (λ c. outright (search (walking-on, needs)))
+    (λ c. outright (search (walking-end, needs))) in
     tie.close facts

@@ -28,5 +28,14 @@ carry-spec =
     (λ c. search needs)
     (λ c. search needs)
     (λ c. carry-written _ _
-    (c .before .before .before .before .before .before .before .before .before .before .before .before .before .before .before .before .before .before .before .before .before .before .args .plain .now) (c .before .before .before .before .before .before .before .before .before .before .before .before .before .before .before .before .before .before .before .before .before .before .args .marked .now) _ (c .before .before .before .before .before .before .before .before .before .before .before .before .before .before .before .before .before .before .over .ensures) (c .before .before .before .before .before .before .before .before .before .before .before .before .before .before .before .before .before .if1 .left) _ (c .before .before .before .before .before .before .before .before .before .before .before .before .before .before .note-ports .ensures .0) (search needs) (c .before .before .before .before .before .before .before .before .before .if2 .left) _ _ (c .before .before .before .before .before .before .before .before .before .before .before .before .before .before .note-ports .ensures .1 .0) (c .before .before .before .before .before .before .before .before .before .before .before .before .before .before .note-ports .ensures .1 .1) _ _ _ (c .before .before .before .before .write-texts .ensures)) in
+    (c .before .before .before .before .before .before .before .before .before .before .before .before .before .before .before .before .before .before .before .before .before .before .args .plain .now)
+    (c .before .before .before .before .before .before .before .before .before .before .before .before .before .before .before .before .before .before .before .before .before .before .args .marked .now)
+    _
+    (c .before .before .before .before .before .before .before .before .before .before .before .before .before .before .before .before .before .before .over .ensures)
+    (c .before .before .before .before .before .before .before .before .before .before .before .before .before .before .before .before .before .if1 .left)
+    _ (c .before .before .before .before .before .before .before .before .before .before .before .before .before .before .note-ports .ensures .0)
+    (search needs) (c .before .before .before .before .before .before .before .before .before .if2 .left) _ _
+    (c .before .before .before .before .before .before .before .before .before .before .before .before .before .before .note-ports .ensures .1 .0)
+    (c .before .before .before .before .before .before .before .before .before .before .before .before .before .before .note-ports .ensures .1 .1) _
+    _ _ (c .before .before .before .before .write-texts .ensures)) in
     tie.close facts

@@ -3,6 +3,7 @@ use Prim.Native.Nat.{_-_}
 use Rattle.carry.specs.Code.{inBoth}
 use Rattle.carry.proofs.SpanLaws.{Measuring, measuring-start, measuring-on, measuring-end}
 use borrow.Author.Needs.{needs}
+use Rattle.text.proofs.Search.{outright}
 use Rattle.carry.proofs.measure.Statement.{statement}
 use Rattle.carry.proofs.measure.Tie as tie
 
@@ -17,12 +18,12 @@ measure-spec =
     let facts = tie.spec
     Inv-loop
     μ-loop
-    (λ c. search (measuring-start, needs))
+    (λ c. outright (search (measuring-start, needs)))
     (λ c. search needs)
     (λ c κs. search needs)
     (λ c. search needs)
     (λ c. search needs)
     (λ c. search needs)
-    (λ c. search (measuring-on, needs))
-    (λ c. search (measuring-end, needs)) in
+    (λ c. outright (search (measuring-on, needs)))
+    (λ c. outright (search (measuring-end, needs))) in
     tie.close facts

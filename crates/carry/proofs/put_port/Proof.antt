@@ -1,5 +1,6 @@
 use Rattle.carry.proofs.SpanLaws.{room-there, put-there, put-none}
 use borrow.Author.Needs.{needs}
+use Rattle.text.proofs.Search.{outright}
 use Rattle.carry.proofs.put_port.Statement.{statement}
 use Rattle.carry.proofs.put_port.Tie as tie
 use Rattle.carry.proofs.put_port.Reads as reads
@@ -17,7 +18,7 @@ cast-put-lines c = search needs
 
 -- src/lib.rt:87:9
 put-lines-requires : tie.Need-put-lines-requires
-put-lines-requires c κs = search (room-there, needs)
+put-lines-requires c κs = outright (search (room-there, needs))
 
 -- src/lib.rt:87:9
 same-length : tie.Need-same-length

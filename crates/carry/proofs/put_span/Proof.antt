@@ -3,6 +3,7 @@ use Prim.Native.Nat.{_-_}
 use Rattle.carry.specs.Code.{inBoth}
 use Rattle.carry.proofs.SpanLaws.{Putting, putting-start, putting-room, putting-on, putting-end, putting-text}
 use borrow.Author.Needs.{needs}
+use Rattle.text.proofs.Search.{outright}
 use Rattle.carry.proofs.put_span.Statement.{statement}
 use Rattle.carry.proofs.put_span.Tie as tie
 
@@ -17,12 +18,12 @@ put-span-spec =
     let facts = tie.spec
     Inv-loop
     μ-loop
-    (λ c. search (putting-start, needs))
+    (λ c. outright (search (putting-start, needs)))
     (λ c. search needs)
     (λ c κs. (search needs, search (putting-room, needs)))
     (λ c. search needs)
     (λ c. search needs)
-    (λ c. search (putting-on, needs))
+    (λ c. outright (search (putting-on, needs)))
     (λ c. search needs)
     (λ c. (search (putting-end, needs), search (putting-text, needs))) in
     tie.close facts

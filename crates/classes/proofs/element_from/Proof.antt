@@ -3,6 +3,7 @@
 use Prim.Native.Nat.{_-_}
 use borrow.Author.Needs.{needs}
 use lib.ListN.{length}
+use Rattle.text.proofs.Search.{outright}
 use Rattle.classes.proofs.ClassLaws.{Scanned, scanned-none, scanned-end, scanned-stop, scanned-more}
 use Rattle.classes.proofs.element_from.Statement.{statement}
 use Rattle.classes.proofs.element_from.Tie as tie
@@ -18,12 +19,12 @@ element-from-spec =
     let facts = tie.spec
     Inv-loop
     μ-loop
-    (λ c. search (scanned-none, needs))
+    (λ c. outright (search (scanned-none, needs)))
     (λ c. search needs)
     (λ c κs. search needs)
-    (λ c. search (scanned-stop, needs))
+    (λ c. outright (search (scanned-stop, needs)))
     (λ c. search needs)
     (λ c. search needs)
-    (λ c. search (scanned-more, needs))
-    (λ c. search (scanned-end, needs)) in
+    (λ c. outright (search (scanned-more, needs)))
+    (λ c. outright (search (scanned-end, needs))) in
     tie.close facts

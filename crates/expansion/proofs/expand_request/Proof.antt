@@ -22,7 +22,8 @@ put-decimal-requires c κs = let a =
 
 write-expansion-requires : tie.Need-write-expansion-requires
 write-expansion-requires c κs =
-    let s = c .before .before .before .before .before .before .before .before .before .before .before .before .before .before .before .before .before .before .before .before .before in (
+    let b = c .before .before .before .before .before .before .before .before .before .before in
+    let s = b .before .before .before .before .before .before .before .before .before .before .before in (
       s .pre .0,
       request-short (s .args .request) (s .args .names .now) _ _ _ _ _ _ _ _ _ (s .args .process)
           (c .before .before .before .before .before .before .before .before .before .before .before .before .before .put .ensures)
@@ -33,7 +34,8 @@ write-expansion-requires c κs =
 
 returns : tie.Need-returns
 returns c =
-    let a = c .before .before .before .before .before .before .before .before .before .before .before .before .before .before .before .before .before .before .before .before .before .before .before .before .args in
+    let b = c .before .before .before .before .before .before .before .before .before .before in
+    let a = b .before .before .before .before .before .before .before .before .before .before .before .before .before .before .args in
     request-gave (a .request) (a .names .now) _ _ _ _ _ _ _ _ _ (a .process)
     (c .before .before .before .before .before .before .before .before .before .before .before .before .before .before .before .before .put .ensures)
     (c .before .before .before .before .before .before .before .before .before .before .before .before .before .put-address .ensures)

@@ -1,5 +1,6 @@
 -- What the calls answered, together. Assumes nothing.
 use borrow.Author.Needs.{needs}
+use Rattle.text.proofs.Search.{outright}
 use Rattle.gate.proofs.Laws.{byuid-by}
 use Rattle.gate.proofs.gate_byuid.Statement.{statement}
 use Rattle.gate.proofs.gate_byuid.Tie as tie
@@ -13,4 +14,4 @@ gate-byuid-spec =
     (λ c κs. search needs)
     (λ c κs. search needs)
     (λ c κs. search needs)
-    (λ c. search (byuid-by, needs)))
+    (λ c. outright (search (byuid-by, needs))))

@@ -1,5 +1,6 @@
 -- What the calls answered, together. Assumes nothing.
 use borrow.Author.Needs.{needs}
+use Rattle.text.proofs.Search.{outright}
 use Rattle.codes.proofs.AnswerLaws.{check-numbers}
 use Rattle.gate.proofs.gate_check.Statement.{statement}
 use Rattle.gate.proofs.gate_check.Tie as tie
@@ -10,4 +11,4 @@ gate-check-spec =
     (tie.spec
     (λ c κs. search needs)
     (λ c κs. search needs)
-    (λ c. search (check-numbers, needs)))
+    (λ c. outright (search (check-numbers, needs))))

@@ -1,5 +1,6 @@
 -- What the calls answered, together. Assumes nothing.
 use borrow.Author.Needs.{needs}
+use Rattle.text.proofs.Search.{outright}
 use Rattle.gate.proofs.Laws.{read-by}
 use Rattle.gate.proofs.gate_read_address.Statement.{statement}
 use Rattle.gate.proofs.gate_read_address.Tie as tie
@@ -10,4 +11,4 @@ gate-read-address-spec =
     (tie.spec
     (λ c κs. search needs)
     (λ c κs. search needs)
-    (λ c. search (read-by, needs)))
+    (λ c. outright (search (read-by, needs))))

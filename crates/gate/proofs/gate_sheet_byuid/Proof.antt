@@ -1,5 +1,6 @@
 -- What the calls answered, together. Assumes nothing.
 use borrow.Author.Needs.{needs}
+use Rattle.text.proofs.Search.{outright}
 use Rattle.gate.proofs.Laws.{sheet-byuid-by}
 use Rattle.gate.proofs.gate_sheet_byuid.Statement.{statement}
 use Rattle.gate.proofs.gate_sheet_byuid.Tie as tie
@@ -12,4 +13,4 @@ gate-sheet-byuid-spec =
     (λ c κs. search needs)
     (λ c κs. search needs)
     (λ c κs. search needs)
-    (λ c. search (sheet-byuid-by, needs)))
+    (λ c. outright (search (sheet-byuid-by, needs))))

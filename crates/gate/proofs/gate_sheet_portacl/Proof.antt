@@ -1,5 +1,6 @@
 -- What the calls answered, together. Assumes nothing.
 use borrow.Author.Needs.{needs}
+use Rattle.text.proofs.Search.{outright}
 use Rattle.gate.proofs.Laws.{sheet-portacl-by}
 use Rattle.gate.proofs.gate_sheet_portacl.Statement.{statement}
 use Rattle.gate.proofs.gate_sheet_portacl.Tie as tie
@@ -13,4 +14,4 @@ gate-sheet-portacl-spec =
     (λ c κs. search needs)
     (λ c κs. search needs)
     (λ c κs. search needs)
-    (λ c. search (sheet-portacl-by, needs)))
+    (λ c. outright (search (sheet-portacl-by, needs))))

@@ -1,5 +1,6 @@
 -- What the calls answered, together. Assumes nothing.
 use borrow.Author.Needs.{needs}
+use Rattle.text.proofs.Search.{outright}
 use Rattle.gate.proofs.Laws.{sheet-verdict-by}
 use Rattle.gate.proofs.gate_sheet_verdict.Statement.{statement}
 use Rattle.gate.proofs.gate_sheet_verdict.Tie as tie
@@ -13,4 +14,4 @@ gate-sheet-verdict-spec =
     (λ c. search needs)
     (λ c κs. search needs)
     (λ c κs. search needs)
-    (λ c. search (sheet-verdict-by, needs)))
+    (λ c. outright (search (sheet-verdict-by, needs))))

@@ -1,5 +1,6 @@
 -- What the calls answered, together. Assumes nothing.
 use borrow.Author.Needs.{needs}
+use Rattle.text.proofs.Search.{outright}
 use Rattle.codes.proofs.AnswerLaws.{parts-numbers}
 use Rattle.gate.proofs.gate_unpack.Statement.{statement}
 use Rattle.gate.proofs.gate_unpack.Tie as tie
@@ -10,4 +11,4 @@ gate-unpack-spec =
     (tie.spec
     (λ c κs. search needs)
     (λ c κs. search needs)
-    (λ c. search (parts-numbers, needs)))
+    (λ c. outright (search (parts-numbers, needs))))

@@ -1,5 +1,6 @@
 -- `verdicts` meets its contract. Assumes nothing.
 use borrow.Author.Needs.{needs}
+use Rattle.text.proofs.Search.{outright}
 use Rattle.index.proofs.CallLaws.{verdicts-refused, verdicts-untouched, unpack-is, index-is, verdicts-answer, verdicts-holds, verdicts-wrong}
 use Rattle.index.proofs.CallLaws.{wrong-untouched}
 use Rattle.index.proofs.verdicts.Statement.{statement}
@@ -11,8 +12,8 @@ verdicts-spec =
     (λ c κs. search needs)
     (λ c. search needs)
     (λ c. search needs)
-    (λ c κs. search (unpack-is, needs))
-    (λ c κs. search (unpack-is, index-is, needs))
+    (λ c κs. outright (search (unpack-is, needs)))
+    (λ c κs. outright (search (unpack-is, index-is, needs)))
     (λ c. search needs)
     (λ c. (search (verdicts-answer, needs), search (verdicts-holds, needs)))
     (λ c κs. search needs)

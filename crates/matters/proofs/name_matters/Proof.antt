@@ -1,5 +1,6 @@
 -- `name_matters` meets its contract. Assumes nothing.
 use borrow.Author.Needs.{needs}
+use Rattle.text.proofs.Search.{outright}
 use Rattle.rules.proofs.DecideLaws.{untabled}
 use Rattle.matters.proofs.CallLaws.{texts-unfit, texts-refused, texts-sound, texts-unasked, texts-settled}
 use Rattle.matters.proofs.name_matters.Statement.{statement}
@@ -11,13 +12,13 @@ name-matters-spec =
     (λ c κs. search needs)
     (λ c κs. search needs)
     (λ c κs. search needs)
-    (λ c. search (texts-unfit, needs))
+    (λ c. outright (search (texts-unfit, needs)))
     (λ c κs. search needs)
     (λ c κs. search needs)
     (λ c. search needs)
     (λ c. search needs)
     (λ c. search needs)
     (λ c κs. (search (untabled, needs), (search (texts-sound, needs), search (texts-unasked, needs))))
-    (λ c. search (texts-refused, needs))
-    (λ c. search (texts-settled, needs)) in
+    (λ c. outright (search (texts-refused, needs)))
+    (λ c. outright (search (texts-settled, needs))) in
     tie.close facts

@@ -1,5 +1,6 @@
 -- `name_matters_sheet` meets its contract. Assumes nothing.
 use borrow.Author.Needs.{needs}
+use Rattle.text.proofs.Search.{outright}
 use Rattle.matters.proofs.SheetLaws.{sheet-unfit, sheet-fits, sheet-refused, sheet-answered}
 use Rattle.matters.proofs.name_matters_sheet.Statement.{statement}
 use Rattle.matters.proofs.name_matters_sheet.Tie as tie
@@ -10,12 +11,12 @@ name-matters-sheet-spec =
     (λ c κs. search needs)
     (λ c κs. search needs)
     (λ c κs. search needs)
-    (λ c. search (sheet-unfit, needs))
+    (λ c. outright (search (sheet-unfit, needs)))
     (λ c κs. search needs)
     (λ c κs. search needs)
     (λ c. search needs)
     (λ c. search needs)
     (λ c κs. (search (sheet-fits, needs), search (sheet-answered, needs)))
-    (λ c. search (sheet-refused, needs))
+    (λ c. outright (search (sheet-refused, needs)))
     (λ c. search needs) in
     tie.close facts

@@ -1,5 +1,6 @@
 -- `name_matters_tables` meets its contract. Assumes nothing.
 use borrow.Author.Needs.{needs}
+use Rattle.text.proofs.Search.{outright}
 use Rattle.matters.proofs.CallLaws.{tables-unfit, tables-refused, tables-whole, tables-sound, tables-unasked, tables-settled}
 use Rattle.matters.proofs.name_matters_tables.Statement.{statement}
 use Rattle.matters.proofs.name_matters_tables.Tie as tie
@@ -10,12 +11,12 @@ name-matters-tables-spec =
     (λ c κs. search needs)
     (λ c κs. search needs)
     (λ c κs. search needs)
-    (λ c. search (tables-unfit, needs))
+    (λ c. outright (search (tables-unfit, needs)))
     (λ c κs. search needs)
     (λ c κs. search needs)
     (λ c. search needs)
     (λ c. search needs)
     (λ c κs. (search (tables-whole, needs), (search (tables-sound, needs), search (tables-unasked, needs))))
-    (λ c. search (tables-refused, needs))
-    (λ c. search (tables-settled, needs)) in
+    (λ c. outright (search (tables-refused, needs)))
+    (λ c. outright (search (tables-settled, needs))) in
     tie.close facts

@@ -1,5 +1,6 @@
 -- `refuse` meets its contract. Assumes nothing.
 use borrow.Author.Needs.{needs}
+use Rattle.text.proofs.Search.{outright}
 use Rattle.matters.proofs.CallLaws.{refuse-refused, refuse-answered}
 use Rattle.matters.proofs.refuse.Statement.{statement}
 use Rattle.matters.proofs.refuse.Tie as tie
@@ -10,6 +11,6 @@ refuse-spec =
     (λ c. search needs)
     (λ c. search needs)
     (λ c κs. search needs)
-    (λ c. search (refuse-refused, needs))
-    (λ c. search (refuse-answered, needs)) in
+    (λ c. outright (search (refuse-refused, needs)))
+    (λ c. outright (search (refuse-answered, needs))) in
     tie.close facts

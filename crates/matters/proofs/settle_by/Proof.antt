@@ -1,5 +1,6 @@
 -- `settle_by` meets its contract. Assumes nothing.
 use borrow.Author.Needs.{needs}
+use Rattle.text.proofs.Search.{outright}
 use Rattle.matters.proofs.CallLaws.{by-granted, by-denied, by-asking}
 use Rattle.matters.proofs.settle_by.Statement.{statement}
 use Rattle.matters.proofs.settle_by.Tie as tie
@@ -12,7 +13,7 @@ settle-by-spec =
     (λ c κs. search needs)
     (λ c. search needs)
     (λ c. search needs)
-    (λ c. search (by-asking, needs))
-    (λ c. search (by-granted, needs))
-    (λ c. search (by-denied, needs)) in
+    (λ c. outright (search (by-asking, needs)))
+    (λ c. outright (search (by-granted, needs)))
+    (λ c. outright (search (by-denied, needs))) in
     tie.close facts

@@ -1,5 +1,6 @@
 -- `settle_in_sheet` meets its contract. Assumes nothing.
 use borrow.Author.Needs.{needs}
+use Rattle.text.proofs.Search.{outright}
 use Rattle.matters.proofs.SheetLaws.{sheet-unframed, sheet-framed}
 use Rattle.matters.proofs.settle_in_sheet.Statement.{statement}
 use Rattle.matters.proofs.settle_in_sheet.Tie as tie
@@ -11,6 +12,6 @@ settle-in-sheet-spec =
     (λ c. search needs)
     (λ c. search needs)
     (λ c κs. (search needs, (search needs, search (sheet-framed, needs))))
-    (λ c. search (sheet-unframed, needs))
+    (λ c. outright (search (sheet-unframed, needs)))
     (λ c. search needs) in
     tie.close facts

@@ -2,6 +2,7 @@
 -- Assumes nothing.
 use Rattle.portacl.proofs.DecideLaws.{check-bad, check-sound}
 use borrow.Author.Needs.{needs}
+use Rattle.text.proofs.Search.{outright}
 use Rattle.portacl.proofs.check.Statement.{statement}
 use Rattle.portacl.proofs.check.Tie as tie
 
@@ -13,6 +14,6 @@ check-spec =
     (λ c. search needs)
     (λ c κs. search needs)
     (λ c. search needs)
-    (λ c. search (check-bad, needs))
-    (λ c. search (check-sound, needs)) in
+    (λ c. outright (search (check-bad, needs)))
+    (λ c. outright (search (check-sound, needs))) in
     tie.close facts

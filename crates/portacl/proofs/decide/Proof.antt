@@ -2,6 +2,7 @@
 -- Assumes nothing.
 use Rattle.portacl.proofs.DecideLaws.{decide-over, decide-unsound, decide-many, decide-bad, decide-answer}
 use borrow.Author.Needs.{needs}
+use Rattle.text.proofs.Search.{outright}
 use Rattle.portacl.proofs.decide.Statement.{statement}
 use Rattle.portacl.proofs.decide.Tie as tie
 
@@ -10,18 +11,18 @@ decide-spec =
     let facts = tie.spec
     (λ c κs. search needs)
     (λ c κs. search needs)
-    (λ c. search (decide-over, needs))
+    (λ c. outright (search (decide-over, needs)))
     (λ c κs. search needs)
     (λ c. search needs)
     (λ c. search needs)
     (λ c κs. search needs)
-    (λ c. search (decide-unsound, needs))
-    (λ c. search (decide-many, needs))
+    (λ c. outright (search (decide-unsound, needs)))
+    (λ c. outright (search (decide-many, needs)))
     (λ c κs. search needs)
     (λ c. search needs)
     (λ c κs. search needs)
     (λ c. search needs)
     (λ c κs. search needs)
-    (λ c. search (decide-bad, needs))
-    (λ c. search (decide-answer, needs)) in
+    (λ c. outright (search (decide-bad, needs)))
+    (λ c. outright (search (decide-answer, needs))) in
     tie.close facts

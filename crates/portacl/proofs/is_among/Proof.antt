@@ -7,6 +7,7 @@ use lib.ListN.{length, drop}
 use Rattle.text.specs.Basics.{any}
 use Rattle.portacl.proofs.EntryLaws.{any-found, any-more, any-missing}
 use borrow.Author.Needs.{needs}
+use Rattle.text.proofs.Search.{outright}
 use Rattle.portacl.proofs.is_among.Statement.{statement}
 use Rattle.portacl.proofs.is_among.Tie as tie
 
@@ -25,8 +26,8 @@ is-among-spec =
     (λ c. search needs)
     (λ c. search needs)
     (λ c. search needs)
-    (λ c. search (any-found, needs))
+    (λ c. outright (search (any-found, needs)))
     (λ c. search needs)
     (λ c. search needs)
     (λ c. search (any-more, needs))
-    (λ c. search (any-missing, needs)))
+    (λ c. outright (search (any-missing, needs))))

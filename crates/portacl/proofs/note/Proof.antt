@@ -1,6 +1,7 @@
 -- `portacl::note` meets its contract: both tests are those of the definition. Assumes nothing.
 use Rattle.portacl.proofs.NoteLaws.{noted-set, noted-past, noted-other}
 use borrow.Author.Needs.{needs}
+use Rattle.text.proofs.Search.{outright}
 use Rattle.portacl.proofs.note.Statement.{statement}
 use Rattle.portacl.proofs.note.Tie as tie
 
@@ -11,7 +12,7 @@ note-spec =
     (λ c κs. search needs)
     (λ c. search needs)
     (λ c. search needs)
-    (λ c. search (noted-set, needs))
-    (λ c. search (noted-past, needs))
-    (λ c. search (noted-other, needs)) in
+    (λ c. outright (search (noted-set, needs)))
+    (λ c. outright (search (noted-past, needs)))
+    (λ c. outright (search (noted-other, needs))) in
     tie.close facts

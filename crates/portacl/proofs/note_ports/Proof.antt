@@ -5,6 +5,7 @@ use lib.ListN.{length}
 use Rattle.portacl.proofs.NoteLaws.{Noting, note-empty, notes-empty, noting-start, noting-end, noting-end-tcp, noting-end-udp, noting-bad}
 use Rattle.portacl.proofs.NoteLaws.{noting-bad-tcp, noting-bad-udp, noting-on}
 use borrow.Author.Needs.{needs}
+use Rattle.text.proofs.Search.{outright}
 use Rattle.portacl.proofs.note_ports.Statement.{statement}
 use Rattle.portacl.proofs.note_ports.Tie as tie
 
@@ -20,7 +21,7 @@ note-ports-spec =
     Inv-loop
     μ-loop
     (λ c. (search (note-empty, needs), (search (notes-empty, needs), search (notes-empty, needs))))
-    (λ c. search (noting-start, needs))
+    (λ c. outright (search (noting-start, needs)))
     (λ c. search needs)
     (λ c. search needs)
     (λ c. search needs)
@@ -41,7 +42,7 @@ note-ports-spec =
     (λ c. search needs)
     (λ c. search needs)
     (λ c. search needs)
-    (λ c. search (noting-on, needs))
+    (λ c. outright (search (noting-on, needs)))
     (λ c. search needs)
     (λ c. search needs)
     (λ c. (search (noting-end, needs), (search (noting-end-tcp, needs), search (noting-end-udp, needs)))) in

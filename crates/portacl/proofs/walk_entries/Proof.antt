@@ -5,6 +5,7 @@ use lib.ListN.{length}
 use Rattle.portacl.specs.Portacl.{bind}
 use Rattle.portacl.proofs.WalkLaws.{Walking, walk-empty, walking-start, walking-end, walking-bad, walking-on}
 use borrow.Author.Needs.{needs}
+use Rattle.text.proofs.Search.{outright}
 use Rattle.portacl.proofs.walk_entries.Statement.{statement}
 use Rattle.portacl.proofs.walk_entries.Tie as tie
 
@@ -19,8 +20,8 @@ walk-entries-spec =
     let facts = tie.spec
     Inv-loop
     μ-loop
-    (λ c. search (walk-empty, needs))
-    (λ c. search (walking-start, needs))
+    (λ c. outright (search (walk-empty, needs)))
+    (λ c. outright (search (walking-start, needs)))
     (λ c. search needs)
     (λ c. search needs)
     (λ c. search needs)
@@ -31,12 +32,12 @@ walk-entries-spec =
     (λ c. search needs)
     (λ c κs. search needs)
     (λ c. search needs)
-    (λ c. search (walking-bad, needs))
+    (λ c. outright (search (walking-bad, needs)))
     (λ c. search needs)
     (λ c κs. search needs)
     (λ c. search needs)
     (λ c. search needs)
     (λ c. search needs)
-    (λ c. search (walking-on, needs))
-    (λ c. search (walking-end, needs)) in
+    (λ c. outright (search (walking-on, needs)))
+    (λ c. outright (search (walking-end, needs))) in
     tie.close facts

@@ -1,5 +1,6 @@
 -- `salvage::salvage` meets its contract: the frame, then the texts. Assumes nothing.
 use borrow.Author.Needs.{needs}
+use Rattle.text.proofs.Search.{outright}
 use Rattle.salvage.proofs.CallLaws.{call-small, call-refused, call-done}
 use Rattle.salvage.proofs.salvage.Statement.{statement}
 use Rattle.salvage.proofs.salvage.Tie as tie
@@ -10,7 +11,7 @@ salvage-spec =
     (λ c κs. search needs)
     (λ c. search needs)
     (λ c. search needs)
-    (λ c κs. search (call-small, needs))
+    (λ c κs. outright (search (call-small, needs)))
     (λ c. call-refused _ _ _ _ (c .before .before .before .frame .ensures) _ (search needs))
     (λ c. search needs)
     (λ c. search needs)

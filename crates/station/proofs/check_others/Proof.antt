@@ -1,5 +1,6 @@
 -- The texts are those of the sheet, but for the list. Assumes nothing.
 use borrow.Author.Needs.{needs}
+use Rattle.text.proofs.Search.{outright}
 use Rattle.station.proofs.ListLaws.{others-checked}
 use Rattle.station.proofs.check_others.Statement.{statement}
 use Rattle.station.proofs.check_others.Tie as tie
@@ -13,5 +14,5 @@ check-others-spec =
     (λ c κs. search needs)
     (λ c. search needs)
     (λ c κs. search needs)
-    (λ c. search (others-checked, needs)) in
+    (λ c. outright (search (others-checked, needs))) in
     tie.close facts

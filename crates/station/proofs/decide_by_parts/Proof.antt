@@ -1,5 +1,6 @@
 -- `decide_by_parts` meets its contract: the command stands within its file, and the file within the sheet. Assumes nothing.
 use borrow.Author.Needs.{needs}
+use Rattle.text.proofs.Search.{outright}
 use Rattle.station.proofs.DecideLaws.{command-fits, parts-doubtful, parts-answered}
 use Rattle.station.proofs.decide_by_parts.Statement.{statement}
 use Rattle.station.proofs.decide_by_parts.Tie as tie
@@ -13,8 +14,8 @@ decide-by-parts-spec =
     (λ c κs. search needs)
     (λ c. search needs)
     (λ c κs. search needs)
-    (λ c κs. search (command-fits, needs))
+    (λ c κs. outright (search (command-fits, needs)))
     (λ c κs. search needs)
-    (λ c. search (parts-doubtful, needs))
-    (λ c. search (parts-answered, needs)) in
+    (λ c. outright (search (parts-doubtful, needs)))
+    (λ c. outright (search (parts-answered, needs))) in
     tie.close facts

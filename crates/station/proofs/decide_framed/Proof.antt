@@ -1,5 +1,6 @@
 -- A list that gave a decision is sound, and then the other texts decide whether it stands. Assumes nothing.
 use borrow.Author.Needs.{needs}
+use Rattle.text.proofs.Search.{outright}
 use Rattle.station.proofs.ListLaws.{others-refused, others-sound}
 use Rattle.station.proofs.decide_framed.Statement.{statement}
 use Rattle.station.proofs.decide_framed.Tie as tie
@@ -16,6 +17,6 @@ decide-framed-spec =
     (λ c. search needs)
     (λ c. search needs)
     (λ c. search needs)
-    (λ c. search (others-refused, needs))
-    (λ c. search (others-sound, needs)) in
+    (λ c. outright (search (others-refused, needs)))
+    (λ c. outright (search (others-sound, needs))) in
     tie.close facts

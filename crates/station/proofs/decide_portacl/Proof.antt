@@ -1,5 +1,6 @@
 -- The frame comes first. Assumes nothing.
 use borrow.Author.Needs.{needs}
+use Rattle.text.proofs.Search.{outright}
 use Rattle.sheet.proofs.UnpackLaws.{is-framed}
 use Rattle.station.proofs.ListLaws.{list-unframed}
 use Rattle.station.proofs.decide_portacl.Statement.{statement}
@@ -11,7 +12,7 @@ decide-portacl-spec =
     (λ c κs. search needs)
     (λ c. search needs)
     (λ c. search needs)
-    (λ c κs. search (is-framed, needs))
-    (λ c. search (list-unframed, needs))
+    (λ c κs. outright (search (is-framed, needs)))
+    (λ c. outright (search (list-unframed, needs)))
     (λ c. search needs) in
     tie.close facts

@@ -1,5 +1,6 @@
 -- `find_framed` meets its contract. Assumes nothing.
 use borrow.Author.Needs.{needs}
+use Rattle.text.proofs.Search.{outright}
 use Rattle.station.proofs.DecideLaws.{find-entry, find-retired, find-entries}
 use Rattle.station.proofs.find_framed.Statement.{statement}
 use Rattle.station.proofs.find_framed.Tie as tie
@@ -14,7 +15,7 @@ find-framed-spec =
     (λ c. search needs)
     (λ c. search needs)
     (λ c κs. search needs)
-    (λ c. search (find-entry, needs))
-    (λ c. search (find-retired, needs))
-    (λ c. search (find-entries, needs)) in
+    (λ c. outright (search (find-entry, needs)))
+    (λ c. outright (search (find-retired, needs)))
+    (λ c. outright (search (find-entries, needs))) in
     tie.close facts

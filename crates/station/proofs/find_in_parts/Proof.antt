@@ -1,5 +1,6 @@
 -- `find_in_parts` meets its contract. Assumes nothing.
 use borrow.Author.Needs.{needs}
+use Rattle.text.proofs.Search.{outright}
 use Rattle.station.proofs.DecideLaws.{find-parts}
 use Rattle.station.proofs.find_in_parts.Statement.{statement}
 use Rattle.station.proofs.find_in_parts.Tie as tie
@@ -13,5 +14,5 @@ find-in-parts-spec =
     (λ c κs. search needs)
     (λ c κs. search needs)
     (λ c κs. search needs)
-    (λ c. search (find-parts, needs)) in
+    (λ c. outright (search (find-parts, needs))) in
     tie.close facts

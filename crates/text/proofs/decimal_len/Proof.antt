@@ -5,6 +5,7 @@ use Rattle.text.proofs.Writing.{Measured, measured-start, measured-step
 use borrow.Author.Needs.{needs}
 use Rattle.text.proofs.decimal_len.Statement.{statement}
 use Rattle.text.proofs.decimal_len.Tie as tie
+use Rattle.text.proofs.Search.{outright}
 
 abbrev Inv-loop : tie.InvT-loop
 Inv-loop n m power₀ k₀ power k = Measured n power k
@@ -15,5 +16,5 @@ abbrev μ-loop : tie.MeasureT-loop
 pub decimal-len-spec : {M : Type 1} → statement M
 decimal-len-spec =
     tie.close
-    (tie.spec Inv-loop μ-loop (λ c. search (measured-start, needs)) (λ c. search needs) (λ c. search needs) (λ c. search needs)
-    (λ c. search (measured-step, needs)) (λ c. search (measured-end, needs)))
+    (tie.spec Inv-loop μ-loop (λ c. outright (search (measured-start, needs))) (λ c. search needs) (λ c. search needs) (λ c. search needs)
+    (λ c. outright (search (measured-step, needs))) (λ c. outright (search (measured-end, needs))))

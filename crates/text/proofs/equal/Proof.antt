@@ -8,6 +8,7 @@ use Rattle.text.proofs.ScanLaws.{equal-by, equal-lengths, differs, agre
 use borrow.Author.Needs.{needs}
 use Rattle.text.proofs.equal.Statement.{statement}
 use Rattle.text.proofs.equal.Tie as tie
+use Rattle.text.proofs.Search.{outright}
 
 abbrev Inv-loop : tie.InvT-loop
 Inv-loop a b i₀ i = (i ≤ length a) × ((length a ≡ length b) × (equal a b ≡ equal (drop i a) (drop i b)))
@@ -39,4 +40,4 @@ equal-spec =
     (λ c. search needs)
     (λ c. search needs)
     loop-again
-    (λ c. search (all-agree equal-by, needs)))
+    (λ c. outright (search (all-agree equal-by, needs))))

@@ -8,6 +8,7 @@ use Rattle.text.proofs.ScanLaws.{equalFold-by, equalFold-lengths, told-
 use borrow.Author.Needs.{needs}
 use Rattle.text.proofs.equal_fold.Statement.{statement}
 use Rattle.text.proofs.equal_fold.Tie as tie
+use Rattle.text.proofs.Search.{outright}
 
 abbrev Inv-loop : tie.InvT-loop
 Inv-loop a b i₀ i = (i ≤ length a) × ((length a ≡ length b) × (equalFold a b ≡ equalFold (drop i a) (drop i b)))
@@ -28,6 +29,6 @@ equal-fold-spec =
     (λ c. search needs)
     (λ c. search needs)
     (λ c. (search needs, (search needs, search (told-agree equalFold-by, needs))))
-    (λ c. search (told-differ equalFold-by, needs))
-    (λ c. search (all-agree equalFold-by, needs)) in
+    (λ c. outright (search (told-differ equalFold-by, needs)))
+    (λ c. outright (search (all-agree equalFold-by, needs))) in
     tie.close facts

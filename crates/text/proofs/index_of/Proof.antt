@@ -8,6 +8,7 @@ use Rattle.text.proofs.ScanLaws.{indexOf-stop, indexOf-more, indexOf-en
 use borrow.Author.Needs.{needs}
 use Rattle.text.proofs.index_of.Statement.{statement}
 use Rattle.text.proofs.index_of.Tie as tie
+use Rattle.text.proofs.Search.{outright}
 
 abbrev Inv-loop : tie.InvT-loop
 Inv-loop s b i₀ i = (i ≤ length s) × (indexOf b s ≡ i + indexOf b (drop i s))
@@ -23,8 +24,8 @@ index-of-spec =
     μ-loop
     (λ c. search needs)
     (λ c. search needs)
-    (λ c. search (indexOf-stop, needs))
+    (λ c. outright (search (indexOf-stop, needs)))
     (λ c. search needs)
     (λ c. search needs)
     (λ c. search (indexOf-more, needs))
-    (λ c. search (indexOf-end, needs)))
+    (λ c. outright (search (indexOf-end, needs))))

@@ -6,6 +6,7 @@ use Rattle.text.proofs.PasteLaws.{Pasted, pasted-start, pasted-step, pa
 use borrow.Author.Needs.{needs}
 use Rattle.text.proofs.put.Statement.{statement}
 use Rattle.text.proofs.put.Tie as tie
+use Rattle.text.proofs.Search.{outright}
 
 abbrev Inv-loop : tie.InvT-loop
 Inv-loop out₀ at s j₀ out j = Pasted out₀ s out at j
@@ -19,13 +20,13 @@ put-spec =
     (tie.spec
     Inv-loop
     μ-loop
-    (λ c. search (pasted-start, needs))
+    (λ c. outright (search (pasted-start, needs)))
     (λ c. search needs)
     (λ c. search needs)
     (λ c. search needs)
     (λ c. search needs)
     (λ c. search needs)
-    (λ c. search (pasted-step, needs))
+    (λ c. outright (search (pasted-step, needs)))
     (λ c. search needs)
     (λ c. search needs)
     (λ c. search (pasted-all, needs)))

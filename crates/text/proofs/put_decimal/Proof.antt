@@ -4,6 +4,7 @@ use Rattle.text.proofs.Writing.{Written, written-start, written-step, w
 use borrow.Author.Needs.{needs}
 use Rattle.text.proofs.put_decimal.Statement.{statement}
 use Rattle.text.proofs.put_decimal.Tie as tie
+use Rattle.text.proofs.Search.{outright}
 
 abbrev Inv-loop : tie.InvT-loop
 Inv-loop out₀ at n k m₀ j₀ out m j = Written out₀ out at n m j
@@ -17,14 +18,14 @@ put-decimal-spec =
     Inv-loop
     μ-loop
     (λ c κs. search needs)
-    (λ c. search (written-start, needs))
+    (λ c. outright (search (written-start, needs)))
     (λ c. search needs)
     (λ c. search needs)
     (λ c. search needs)
     (λ c. search needs)
     (λ c. search needs)
     (λ c. search needs)
-    (λ c. search (written-step, needs))
+    (λ c. outright (search (written-step, needs)))
     (λ c. search needs)
     (λ c. search needs)
     (λ c. search (written-all, needs)) in

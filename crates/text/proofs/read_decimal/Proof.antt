@@ -6,6 +6,7 @@ use Rattle.text.proofs.Reading.{Reading, read-empty, read-zero, reading
 use borrow.Author.Needs.{needs}
 use Rattle.text.proofs.read_decimal.Statement.{statement}
 use Rattle.text.proofs.read_decimal.Tie as tie
+use Rattle.text.proofs.Search.{outright}
 
 abbrev Inv-loop : tie.InvT-loop
 Inv-loop s max limit n₀ i₀ n i = Reading max s n i
@@ -19,19 +20,19 @@ read-decimal-spec =
     (tie.spec
     Inv-loop
     μ-loop
-    (λ c. search (read-empty, needs))
+    (λ c. outright (search (read-empty, needs)))
     (λ c. search needs)
-    (λ c. search (read-zero, needs))
-    (λ c. search (reading-start, needs))
+    (λ c. outright (search (read-zero, needs)))
+    (λ c. outright (search (reading-start, needs)))
     (λ c. search needs)
-    (λ c. search (read-below, needs))
-    (λ c. search (read-above, needs))
-    (λ c. search needs)
-    (λ c. search needs)
-    (λ c. search needs)
-    (λ c. search (read-over, needs))
+    (λ c. outright (search (read-below, needs)))
+    (λ c. outright (search (read-above, needs)))
     (λ c. search needs)
     (λ c. search needs)
-    (λ c. search (reading-step, needs))
     (λ c. search needs)
-    (λ c. search (read-done, needs)))
+    (λ c. outright (search (read-over, needs)))
+    (λ c. search needs)
+    (λ c. search needs)
+    (λ c. outright (search (reading-step, needs)))
+    (λ c. search needs)
+    (λ c. outright (search (read-done, needs))))

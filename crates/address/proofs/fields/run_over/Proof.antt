@@ -3,6 +3,7 @@
 use Prim.Native.Nat.{_-_}
 use borrow.Author.Needs.{needs}
 use lib.ListN.{length}
+use Rattle.text.proofs.Search.{outright}
 use Rattle.address.proofs.FieldLaws.{Running, running-start, running-end, running-fails, running-stops, running-goes}
 use Rattle.address.proofs.fields.run_over.Statement.{statement}
 use Rattle.address.proofs.fields.run_over.Tie as tie
@@ -18,16 +19,16 @@ run-over-spec =
     let facts = tie.spec
     Inv-loop
     μ-loop
-    (λ c. search (running-start, needs))
+    (λ c. outright (search (running-start, needs)))
     (λ c. search needs)
     (λ c κs. search needs)
     (λ c. search needs)
-    (λ c. search (running-fails, needs))
+    (λ c. outright (search (running-fails, needs)))
     (λ c. search needs)
-    (λ c. search (running-stops, needs))
+    (λ c. outright (search (running-stops, needs)))
     (λ c. search needs)
     (λ c. search needs)
     (λ c. search needs)
-    (λ c. search (running-goes, needs))
-    (λ c. search (running-end, needs)) in
+    (λ c. outright (search (running-goes, needs)))
+    (λ c. outright (search (running-end, needs))) in
     tie.close facts

@@ -5,6 +5,7 @@ use mathlib.Core.Path.{_≡_}
 use lib.ListN.{length, drop}
 use borrow.Author.Needs.{needs}
 use Rattle.text.specs.Text.{bytes}
+use Rattle.text.proofs.Search.{outright}
 use Rattle.address.specs.Code.{placeOf}
 use Rattle.address.proofs.ReadV6Laws.{place-found, place-more, place-none}
 use Rattle.address.proofs.read.double_colon.Statement.{statement}
@@ -27,7 +28,7 @@ double-colon-spec =
     (λ c. search needs)
     (λ c. search needs)
     (λ c. search needs)
-    (λ c. search (place-found, needs))
+    (λ c. outright (search (place-found, needs)))
     (λ c. search needs)
     (λ c. search (place-more, needs))
-    (λ c. search (place-none, needs)))
+    (λ c. outright (search (place-none, needs))))

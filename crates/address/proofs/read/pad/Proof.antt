@@ -2,6 +2,7 @@
 -- The measure is how many are left. Assumes nothing.
 use Prim.Native.Nat.{_-_}
 use borrow.Author.Needs.{needs}
+use Rattle.text.proofs.Search.{outright}
 use Rattle.address.proofs.WordLaws.{Padded, padded-start, padded-room, padded-step, padded-end}
 use Rattle.address.proofs.read.pad.Statement.{statement}
 use Rattle.address.proofs.read.pad.Tie as tie
@@ -17,10 +18,10 @@ pad-spec =
     let facts = tie.spec
     Inv-loop
     μ-loop
-    (λ c. search (padded-start, needs))
-    (λ c κs. search (padded-room, needs))
+    (λ c. outright (search (padded-start, needs)))
+    (λ c κs. outright (search (padded-room, needs)))
     (λ c. search needs)
     (λ c. search needs)
-    (λ c. search (padded-step, needs))
-    (λ c. search (padded-end, needs)) in
+    (λ c. outright (search (padded-step, needs)))
+    (λ c. outright (search (padded-end, needs))) in
     tie.close facts

@@ -1,5 +1,6 @@
 -- `address::read::read_address` meets its contract: IPv4 text first, then IPv6 text. Assumes nothing.
 use borrow.Author.Needs.{needs}
+use Rattle.text.proofs.Search.{outright}
 use Rattle.address.proofs.ReadV6Laws.{address-v4, address-none, address-v6}
 use Rattle.address.proofs.read.read_address.Statement.{statement}
 use Rattle.address.proofs.read.read_address.Tie as tie
@@ -14,7 +15,7 @@ read-address-spec =
     (λ c κs. search needs)
     (λ c. search needs)
     (λ c. search needs)
-    (λ c. search (address-none, needs))
-    (λ c. search (address-v6, needs))
-    (λ c. search (address-v4, needs)) in
+    (λ c. outright (search (address-none, needs)))
+    (λ c. outright (search (address-v6, needs)))
+    (λ c. outright (search (address-v4, needs))) in
     tie.close facts

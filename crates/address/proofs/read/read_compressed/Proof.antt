@@ -3,6 +3,7 @@ use mathlib.Core.Bool.{true, false}
 use mathlib.Core.Path.{sym, _∙_}
 use lib.Seq.{length-take-le}
 use borrow.Author.Needs.{needs}
+use Rattle.text.proofs.Search.{outright}
 use Rattle.address.proofs.ReadV6Laws.{sides-left, sides-right, groups-fit, sides-join}
 use Rattle.address.proofs.read.read_compressed.Statement.{statement}
 use Rattle.address.proofs.read.read_compressed.Tie as tie
@@ -31,7 +32,7 @@ read-compressed-spec =
     (λ c. search needs)
     (λ c. search needs)
     join-requires
-    (λ c. search (sides-left, needs))
-    (λ c. search (sides-right, needs))
-    (λ c. search (sides-join, needs)) in
+    (λ c. outright (search (sides-left, needs)))
+    (λ c. outright (search (sides-right, needs)))
+    (λ c. outright (search (sides-join, needs))) in
     tie.close facts

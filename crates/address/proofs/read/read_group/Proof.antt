@@ -4,6 +4,7 @@ use Prim.Native.Nat.{_-_}
 use native.Mathlib.Omega.{arith}
 use lib.ListN.{length}
 use borrow.Author.Needs.{needs}
+use Rattle.text.proofs.Search.{outright}
 use Rattle.address.proofs.GroupLaws.{HexDigits, group-empty, group-long, hex-start, hex-none, hex-mul, hex-add, hex-step, hex-done}
 use Rattle.address.proofs.read.read_group.Statement.{statement}
 use Rattle.address.proofs.read.read_group.Tie as tie
@@ -22,16 +23,16 @@ read-group-spec =
     let facts = tie.spec
     Inv-loop
     μ-loop
-    (λ c. search (group-empty, needs))
-    (λ c. search (group-long, needs))
-    (λ c. search (hex-start, needs))
+    (λ c. outright (search (group-empty, needs)))
+    (λ c. outright (search (group-long, needs)))
+    (λ c. outright (search (hex-start, needs)))
     (λ c. search needs)
     (λ c κs. search needs)
-    (λ c. search (hex-none, needs))
+    (λ c. outright (search (hex-none, needs)))
     mul-n
     (λ c. record { fits = search (hex-add, needs) })
     (λ c. search needs)
     (λ c. search needs)
-    (λ c. search (hex-step, needs))
-    (λ c. search (hex-done, needs)) in
+    (λ c. outright (search (hex-step, needs)))
+    (λ c. outright (search (hex-done, needs))) in
     tie.close facts

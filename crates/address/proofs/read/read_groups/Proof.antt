@@ -2,6 +2,7 @@
 -- The measure is how many groups are left. Assumes nothing.
 use Prim.Native.Nat.{_-_}
 use borrow.Author.Needs.{needs}
+use Rattle.text.proofs.Search.{outright}
 use Rattle.address.proofs.RowLaws.{Row, no-groups, row-start, row-many, row-bad, row-ends, row-group, row-at, row-step, row-room}
 use Rattle.address.proofs.read.read_groups.Statement.{statement}
 use Rattle.address.proofs.read.read_groups.Tie as tie
@@ -17,25 +18,25 @@ read-groups-spec =
     let facts = tie.spec
     Inv-loop
     μ-loop
-    (λ c. search (no-groups, needs))
-    (λ c. search (row-start, needs))
+    (λ c. outright (search (no-groups, needs)))
+    (λ c. outright (search (row-start, needs)))
     (λ c. search needs)
     (λ c. search needs)
     (λ c. search needs)
     (λ c κs. search needs)
     (λ c. search needs)
-    (λ c. search (row-bad, needs))
+    (λ c. outright (search (row-bad, needs)))
     (λ c. search needs)
     (λ c. search needs)
     (λ c. search needs)
     (λ c. search needs)
     (λ c κs. search needs)
-    (λ c. search (row-ends, needs))
+    (λ c. outright (search (row-ends, needs)))
     (λ c. search needs)
-    (λ c κs. search (row-room, row-group, needs))
+    (λ c κs. outright (search (row-room, row-group, needs)))
     (λ c. search needs)
     (λ c. record { fits = search (row-at, needs) })
     (λ c. search needs)
-    (λ c. search (row-step, needs))
-    (λ c. search (row-many, needs)) in
+    (λ c. outright (search (row-step, needs)))
+    (λ c. outright (search (row-many, needs))) in
     tie.close facts

@@ -3,6 +3,7 @@ use borrow.Author.Needs.{needs}
 use Prim.Native.Nat.{_+_}
 use native.Mathlib.Omega.{arith}
 use lib.Seq.{lt-length-set}
+use Rattle.text.proofs.Search.{outright}
 use Rattle.byuid.proofs.ConvertLaws.{colon-within, comma-within, line-converted, line-kept}
 use Rattle.byuid.proofs.convert.put_line.Statement.{statement}
 use Rattle.byuid.proofs.convert.put_line.Tie as tie
@@ -34,7 +35,7 @@ put-line-spec =
       c .before .before .before .before .before .before .before .before .before .before .before .pre,
     )))
     (λ c. search needs)
-    (λ c. search (line-converted, needs))
+    (λ c. outright (search (line-converted, needs)))
     (λ c. search needs)
-    (λ c. search (line-kept, needs)) in
+    (λ c. outright (search (line-kept, needs))) in
     tie.close facts

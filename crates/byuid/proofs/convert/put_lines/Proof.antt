@@ -3,6 +3,7 @@
 use borrow.Author.Needs.{needs}
 use Prim.Native.Nat.{_-_}
 use lib.ListN.{length}
+use Rattle.text.proofs.Search.{outright}
 use Rattle.byuid.proofs.ConvertLaws.{Converting, converting-start, converting-last, converting-on, converting-end}
 use Rattle.byuid.proofs.convert.put_lines.Statement.{statement}
 use Rattle.byuid.proofs.convert.put_lines.Tie as tie
@@ -18,7 +19,7 @@ put-lines-spec =
     let facts = tie.spec
     Inv-loop
     μ-loop
-    (λ c. search (converting-start, needs))
+    (λ c. outright (search (converting-start, needs)))
     (λ c. search needs)
     (λ c. search needs)
     (λ c. search needs)
@@ -29,11 +30,11 @@ put-lines-spec =
     (λ c. search needs)
     (λ c κs. search needs)
     (λ c. search needs)
-    (λ c. search (converting-last, needs))
+    (λ c. outright (search (converting-last, needs)))
     (λ c. search needs)
     (λ c. search needs)
     (λ c. search needs)
-    (λ c. search (converting-on, needs))
+    (λ c. outright (search (converting-on, needs)))
     (λ c. search needs)
-    (λ c. search (converting-end, needs)) in
+    (λ c. outright (search (converting-end, needs))) in
     tie.close facts

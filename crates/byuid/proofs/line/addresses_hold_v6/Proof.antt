@@ -2,6 +2,7 @@
 use borrow.Author.Needs.{needs}
 use mathlib.Core.Path.{sym}
 use lib.Seq.{length-take-le}
+use Rattle.text.proofs.Search.{outright}
 use Rattle.byuid.proofs.LineLaws.{net-v6-nothing, net-v6, range-v6}
 use Rattle.byuid.proofs.line.addresses_hold_v6.Statement.{statement}
 use Rattle.byuid.proofs.line.addresses_hold_v6.Tie as tie
@@ -23,7 +24,7 @@ addresses-hold-v6-spec =
     (λ c. search needs)
     (λ c κs. search needs)
     (λ c κs. search needs)
-    (λ c. search (net-v6-nothing, needs))
-    (λ c. search (net-v6, needs))
-    (λ c. search (range-v6, needs)) in
+    (λ c. outright (search (net-v6-nothing, needs)))
+    (λ c. outright (search (net-v6, needs)))
+    (λ c. outright (search (range-v6, needs))) in
     tie.close facts

@@ -1,5 +1,6 @@
 -- `byuid::line::both` meets its contract. Assumes nothing.
 use borrow.Author.Needs.{needs}
+use Rattle.text.proofs.Search.{outright}
 use Rattle.byuid.proofs.LineLaws.{both-is}
 use Rattle.byuid.proofs.line.both.Statement.{statement}
 use Rattle.byuid.proofs.line.both.Tie as tie
@@ -14,4 +15,4 @@ both-spec =
     (λ c. search needs)
     (λ c. search needs)
     (λ c. search needs)
-    (λ c. search (both-is, needs)))
+    (λ c. outright (search (both-is, needs))))

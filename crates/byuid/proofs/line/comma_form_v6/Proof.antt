@@ -2,6 +2,7 @@
 use borrow.Author.Needs.{needs}
 use mathlib.Core.Path.{sym}
 use lib.Seq.{length-take-le}
+use Rattle.text.proofs.Search.{outright}
 use Rattle.byuid.proofs.LineLaws.{comma-mark, comma-no-mark}
 use Rattle.byuid.proofs.line.comma_form_v6.Statement.{statement}
 use Rattle.byuid.proofs.line.comma_form_v6.Tie as tie
@@ -21,6 +22,6 @@ comma-form-v6-spec =
     (λ c. search needs)
     (λ c κs. search needs)
     (λ c κs. search needs)
-    (λ c. search (comma-mark, needs))
-    (λ c. search (comma-no-mark, needs)) in
+    (λ c. outright (search (comma-mark, needs)))
+    (λ c. outright (search (comma-no-mark, needs))) in
     tie.close facts

@@ -1,5 +1,6 @@
 -- `byuid::line::held` meets its contract, by the kind of address. Assumes nothing.
 use borrow.Author.Needs.{needs}
+use Rattle.text.proofs.Search.{outright}
 use Rattle.byuid.proofs.LineLaws.{held-unknown, held-v4, held-v6}
 use Rattle.byuid.proofs.line.held.Statement.{statement}
 use Rattle.byuid.proofs.line.held.Tie as tie
@@ -12,7 +13,7 @@ held-spec =
     (λ c κs. search needs)
     (λ c. search needs)
     (λ c κs. search needs)
-    (λ c. search (held-unknown, needs))
-    (λ c. search (held-v4, needs))
-    (λ c. search (held-v6, needs)) in
+    (λ c. outright (search (held-unknown, needs)))
+    (λ c. outright (search (held-v4, needs)))
+    (λ c. outright (search (held-v6, needs))) in
     tie.close facts

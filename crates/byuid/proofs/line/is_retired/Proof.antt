@@ -2,6 +2,7 @@
 use borrow.Author.Needs.{needs}
 use mathlib.Core.Path.{sym}
 use lib.Seq.{length-take-le}
+use Rattle.text.proofs.Search.{outright}
 use Rattle.byuid.proofs.LineLaws.{retired-no-mark, retired-no-net, retired-ports}
 use Rattle.byuid.proofs.line.is_retired.Statement.{statement}
 use Rattle.byuid.proofs.line.is_retired.Tie as tie
@@ -22,7 +23,7 @@ is-retired-spec =
     (λ c. search needs)
     (λ c. search needs)
     (λ c κs. search needs)
-    (λ c. search (retired-no-net, needs))
-    (λ c. search (retired-ports, needs))
-    (λ c. search (retired-no-mark, needs)) in
+    (λ c. outright (search (retired-no-net, needs)))
+    (λ c. outright (search (retired-ports, needs)))
+    (λ c. outright (search (retired-no-mark, needs))) in
     tie.close facts

@@ -2,6 +2,7 @@
 use borrow.Author.Needs.{needs}
 use mathlib.Core.Path.{sym}
 use lib.Seq.{length-take-le}
+use Rattle.text.proofs.Search.{outright}
 use Rattle.byuid.proofs.LineLaws.{form-mark, form-no-mark}
 use Rattle.byuid.proofs.line.net_form_v4.Statement.{statement}
 use Rattle.byuid.proofs.line.net_form_v4.Tie as tie
@@ -21,6 +22,6 @@ net-form-v4-spec =
     (λ c. search needs)
     (λ c κs. search needs)
     (λ c κs. search needs)
-    (λ c. search (form-mark, needs))
-    (λ c. search (form-no-mark, needs)) in
+    (λ c. outright (search (form-mark, needs)))
+    (λ c. outright (search (form-no-mark, needs))) in
     tie.close facts

@@ -2,6 +2,7 @@
 use borrow.Author.Needs.{needs}
 use mathlib.Core.Path.{sym}
 use lib.Seq.{length-take-le}
+use Rattle.text.proofs.Search.{outright}
 use Rattle.byuid.proofs.LineLaws.{word-nothing, word-mark, net-no-mark}
 use Rattle.byuid.proofs.line.net_holds_v4.Statement.{statement}
 use Rattle.byuid.proofs.line.net_holds_v4.Tie as tie
@@ -22,7 +23,7 @@ net-holds-v4-spec =
     (λ c. search needs)
     (λ c. search needs)
     (λ c κs. search needs)
-    (λ c. search (word-nothing, needs))
-    (λ c. search (word-mark, needs))
-    (λ c. search (net-no-mark, needs)) in
+    (λ c. outright (search (word-nothing, needs)))
+    (λ c. outright (search (word-mark, needs)))
+    (λ c. outright (search (net-no-mark, needs))) in
     tie.close facts

@@ -2,6 +2,7 @@
 use borrow.Author.Needs.{needs}
 use mathlib.Core.Path.{sym}
 use lib.Seq.{length-take-le}
+use Rattle.text.proofs.Search.{outright}
 use Rattle.byuid.proofs.LineLaws.{range-mark, one-nothing, one-value}
 use Rattle.byuid.proofs.line.ports_hold.Statement.{statement}
 use Rattle.byuid.proofs.line.ports_hold.Tie as tie
@@ -19,10 +20,10 @@ ports-hold-spec =
     (λ c. search needs)
     (λ c. search needs)
     (λ c κs. search needs)
-    (λ c. search (range-mark, needs))
+    (λ c. outright (search (range-mark, needs)))
     (λ c κs. search needs)
     (λ c. search needs)
     (λ c. search needs)
-    (λ c. search (one-nothing, needs))
-    (λ c. search (one-value, needs)) in
+    (λ c. outright (search (one-nothing, needs)))
+    (λ c. outright (search (one-value, needs))) in
     tie.close facts

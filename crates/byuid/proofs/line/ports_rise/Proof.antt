@@ -2,6 +2,7 @@
 use borrow.Author.Needs.{needs}
 use mathlib.Core.Path.{sym}
 use lib.Seq.{length-take-le}
+use Rattle.text.proofs.Search.{outright}
 use Rattle.byuid.proofs.LineLaws.{ports-no-mark, ports-no-min, ports-no-max, ports-two}
 use Rattle.byuid.proofs.line.ports_rise.Statement.{statement}
 use Rattle.byuid.proofs.line.ports_rise.Tie as tie
@@ -24,8 +25,8 @@ ports-rise-spec =
     (λ c κs. search needs)
     (λ c. search needs)
     (λ c. search needs)
-    (λ c. search (ports-no-min, needs))
-    (λ c. search (ports-no-max, needs))
-    (λ c. search (ports-two, needs))
-    (λ c. search (ports-no-mark, needs)) in
+    (λ c. outright (search (ports-no-min, needs)))
+    (λ c. outright (search (ports-no-max, needs)))
+    (λ c. outright (search (ports-two, needs)))
+    (λ c. outright (search (ports-no-mark, needs))) in
     tie.close facts

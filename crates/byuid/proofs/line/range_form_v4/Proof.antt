@@ -1,5 +1,6 @@
 -- `byuid::line::range_form_v4` meets its contract: a comma stands after the max, and the ports after it. Assumes nothing.
 use borrow.Author.Needs.{needs}
+use Rattle.text.proofs.Search.{outright}
 use Rattle.byuid.proofs.FrontLaws.{range-end, range-unread, range-comma, range-other}
 use Rattle.byuid.proofs.line.range_form_v4.Statement.{statement}
 use Rattle.byuid.proofs.line.range_form_v4.Tie as tie
@@ -10,7 +11,7 @@ range-form-v4-spec =
     (λ c κs. search needs)
     (λ c. search needs)
     (λ c. search needs)
-    (λ c. search (range-end, needs))
+    (λ c. outright (search (range-end, needs)))
     (λ c. search needs)
     (λ c. search needs)
     (λ c. search needs)
@@ -18,7 +19,7 @@ range-form-v4-spec =
     (λ c. search needs)
     (λ c κs. search needs)
     (λ c κs. search needs)
-    (λ c. search (range-unread, needs))
-    (λ c. search (range-comma, needs))
-    (λ c. search (range-other, needs)) in
+    (λ c. outright (search (range-unread, needs)))
+    (λ c. outright (search (range-comma, needs)))
+    (λ c. outright (search (range-other, needs))) in
     tie.close facts

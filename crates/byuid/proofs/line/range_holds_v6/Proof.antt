@@ -2,6 +2,7 @@
 use borrow.Author.Needs.{needs}
 use mathlib.Core.Path.{sym}
 use lib.Seq.{length-take-le}
+use Rattle.text.proofs.Search.{outright}
 use Rattle.byuid.proofs.LineLaws.{range-mark, range-alone}
 use Rattle.byuid.proofs.line.range_holds_v6.Statement.{statement}
 use Rattle.byuid.proofs.line.range_holds_v6.Tie as tie
@@ -19,8 +20,8 @@ range-holds-v6-spec =
     (λ c. search needs)
     (λ c. search needs)
     (λ c κs. search needs)
-    (λ c. search (range-mark, needs))
+    (λ c. outright (search (range-mark, needs)))
     (λ c κs. search needs)
     (λ c κs. search needs)
-    (λ c. search (range-alone, needs)) in
+    (λ c. outright (search (range-alone, needs))) in
     tie.close facts

@@ -1,5 +1,6 @@
 -- A case at a time. Assumes nothing.
 use borrow.Author.Needs.{needs}
+use Rattle.text.proofs.Search.{outright}
 use Rattle.codes.proofs.AnswerLaws.{address-unknown, address-v4, address-v6}
 use Rattle.codes.proofs.answer.address_numbers.Statement.{statement}
 use Rattle.codes.proofs.answer.address_numbers.Tie as tie
@@ -14,7 +15,7 @@ address-numbers-spec =
     (λ c κs. search needs)
     (λ c. search needs)
     (λ c κs. search needs)
-    (λ c. search (address-unknown, needs))
-    (λ c. search (address-v4, needs))
-    (λ c. search (address-v6, needs)) in
+    (λ c. outright (search (address-unknown, needs)))
+    (λ c. outright (search (address-v4, needs)))
+    (λ c. outright (search (address-v6, needs))) in
     tie.close facts

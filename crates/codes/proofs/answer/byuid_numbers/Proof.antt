@@ -1,5 +1,6 @@
 -- A case at a time. Assumes nothing.
 use borrow.Author.Needs.{needs}
+use Rattle.text.proofs.Search.{outright}
 use Rattle.codes.proofs.AnswerLaws.{byuid-refused, byuid-answered}
 use Rattle.codes.proofs.answer.byuid_numbers.Statement.{statement}
 use Rattle.codes.proofs.answer.byuid_numbers.Tie as tie
@@ -12,6 +13,6 @@ byuid-numbers-spec =
     (λ c. search needs)
     (λ c κs. search needs)
     (λ c κs. search needs)
-    (λ c. search (byuid-refused, needs))
-    (λ c. search (byuid-answered, needs)) in
+    (λ c. outright (search (byuid-refused, needs)))
+    (λ c. outright (search (byuid-answered, needs))) in
     tie.close facts

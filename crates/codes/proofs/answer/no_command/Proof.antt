@@ -1,5 +1,6 @@
 -- What the calls answered, together. Assumes nothing.
 use borrow.Author.Needs.{needs}
+use Rattle.text.proofs.Search.{outright}
 use Rattle.codes.proofs.AnswerLaws.{refusal-counted}
 use Rattle.codes.proofs.answer.no_command.Statement.{statement}
 use Rattle.codes.proofs.answer.no_command.Tie as tie
@@ -9,5 +10,5 @@ no-command-spec =
     let facts = tie.spec
     (λ c κs. search needs)
     (λ c κs. search needs)
-    (λ c. search (refusal-counted, needs)) in
+    (λ c. outright (search (refusal-counted, needs))) in
     tie.close facts

@@ -1,5 +1,6 @@
 -- A case at a time. Assumes nothing.
 use borrow.Author.Needs.{needs}
+use Rattle.text.proofs.Search.{outright}
 use Rattle.codes.proofs.AnswerLaws.{parts-refused, parts-found}
 use Rattle.codes.proofs.answer.parts_numbers.Statement.{statement}
 use Rattle.codes.proofs.answer.parts_numbers.Tie as tie
@@ -11,6 +12,6 @@ parts-numbers-spec =
     (λ c κs. search needs)
     (λ c. search needs)
     (λ c κs. search needs)
-    (λ c. search (parts-refused, needs))
-    (λ c. search (parts-found, needs)) in
+    (λ c. outright (search (parts-refused, needs)))
+    (λ c. outright (search (parts-found, needs))) in
     tie.close facts

@@ -1,5 +1,6 @@
 -- A case at a time. Assumes nothing.
 use borrow.Author.Needs.{needs}
+use Rattle.text.proofs.Search.{outright}
 use Rattle.codes.proofs.AnswerLaws.{portacl-refused, portacl-answered}
 use Rattle.codes.proofs.answer.portacl_numbers.Statement.{statement}
 use Rattle.codes.proofs.answer.portacl_numbers.Tie as tie
@@ -12,6 +13,6 @@ portacl-numbers-spec =
     (λ c. search needs)
     (λ c κs. search needs)
     (λ c κs. search needs)
-    (λ c. search (portacl-refused, needs))
-    (λ c. search (portacl-answered, needs)) in
+    (λ c. outright (search (portacl-refused, needs)))
+    (λ c. outright (search (portacl-answered, needs))) in
     tie.close facts

@@ -1,5 +1,6 @@
 -- A case at a time. Assumes nothing.
 use borrow.Author.Needs.{needs}
+use Rattle.text.proofs.Search.{outright}
 use Rattle.codes.proofs.AnswerLaws.{verdict-refused, verdict-answered}
 use Rattle.codes.proofs.answer.verdict_numbers.Statement.{statement}
 use Rattle.codes.proofs.answer.verdict_numbers.Tie as tie
@@ -11,6 +12,6 @@ verdict-numbers-spec =
     (λ c κs. search needs)
     (λ c. search needs)
     (λ c κs. search needs)
-    (λ c. search (verdict-refused, needs))
-    (λ c. search (verdict-answered, needs)) in
+    (λ c. outright (search (verdict-refused, needs)))
+    (λ c. outright (search (verdict-answered, needs))) in
     tie.close facts

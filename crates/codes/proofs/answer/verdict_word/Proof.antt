@@ -1,5 +1,6 @@
 -- The answer as numbers is that of the definition. Assumes nothing.
 use borrow.Author.Needs.{needs}
+use Rattle.text.proofs.Search.{outright}
 use Rattle.codes.proofs.AnswerLaws.{verdict-word}
 use Rattle.codes.proofs.answer.verdict_word.Statement.{statement}
 use Rattle.codes.proofs.answer.verdict_word.Tie as tie
@@ -9,5 +10,5 @@ verdict-word-spec =
     let facts = tie.spec
     (λ c κs. search needs)
     (λ c κs. search needs)
-    (λ c. search (verdict-word, needs)) in
+    (λ c. outright (search (verdict-word, needs))) in
     tie.close facts

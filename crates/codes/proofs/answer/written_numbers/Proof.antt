@@ -1,5 +1,6 @@
 -- A case at a time. Assumes nothing.
 use borrow.Author.Needs.{needs}
+use Rattle.text.proofs.Search.{outright}
 use Rattle.codes.proofs.AnswerLaws.{written-refused, written-count}
 use Rattle.codes.proofs.answer.written_numbers.Statement.{statement}
 use Rattle.codes.proofs.answer.written_numbers.Tie as tie
@@ -10,6 +11,6 @@ written-numbers-spec =
     (λ c. search needs)
     (λ c κs. search needs)
     (λ c. search needs)
-    (λ c. search (written-refused, needs))
-    (λ c. search (written-count, needs)) in
+    (λ c. outright (search (written-refused, needs)))
+    (λ c. outright (search (written-count, needs))) in
     tie.close facts

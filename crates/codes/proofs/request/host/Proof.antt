@@ -1,5 +1,6 @@
 -- What the calls answered, together. Assumes nothing.
 use borrow.Author.Needs.{needs}
+use Rattle.text.proofs.Search.{outright}
 use Rattle.codes.proofs.RequestLaws.{host-read}
 use Rattle.codes.proofs.request.host.Statement.{statement}
 use Rattle.codes.proofs.request.host.Tie as tie
@@ -9,5 +10,5 @@ host-spec =
     let facts = tie.spec
     (λ c κs. search needs)
     (λ c κs. search needs)
-    (λ c. search (host-read, needs)) in
+    (λ c. outright (search (host-read, needs))) in
     tie.close facts

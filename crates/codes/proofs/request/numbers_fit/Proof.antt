@@ -1,5 +1,6 @@
 -- What the calls answered, together. Assumes nothing.
 use borrow.Author.Needs.{needs}
+use Rattle.text.proofs.Search.{outright}
 use Rattle.codes.proofs.RequestLaws.{numbers-fit}
 use Rattle.codes.proofs.request.numbers_fit.Statement.{statement}
 use Rattle.codes.proofs.request.numbers_fit.Tie as tie
@@ -10,5 +11,5 @@ numbers-fit-spec =
     (λ c κs. search needs)
     (λ c κs. search needs)
     (λ c κs. search needs)
-    (λ c. search (numbers-fit, needs)) in
+    (λ c. outright (search (numbers-fit, needs))) in
     tie.close facts

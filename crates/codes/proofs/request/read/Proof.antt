@@ -1,5 +1,6 @@
 -- What was gathered is the request that the numbers stand for. Assumes nothing.
 use borrow.Author.Needs.{needs}
+use Rattle.text.proofs.Search.{outright}
 use Rattle.codes.proofs.RequestLaws.{read-gathered}
 use Rattle.codes.proofs.request.read.Statement.{statement}
 use Rattle.codes.proofs.request.read.Tie as tie
@@ -10,5 +11,5 @@ read-spec =
     (λ c κs. search needs)
     (λ c κs. search needs)
     (λ c. search needs)
-    (λ c. search (read-gathered, needs)) in
+    (λ c. outright (search (read-gathered, needs))) in
     tie.close facts

@@ -1,5 +1,6 @@
 -- What the calls answered, together. Assumes nothing.
 use borrow.Author.Needs.{needs}
+use Rattle.text.proofs.Search.{outright}
 use Rattle.codes.proofs.RequestLaws.{states-read}
 use Rattle.codes.proofs.request.read_states.Statement.{statement}
 use Rattle.codes.proofs.request.read_states.Tie as tie
@@ -11,5 +12,5 @@ read-states-spec =
     (λ c κs. search needs)
     (λ c κs. search needs)
     (λ c κs. search needs)
-    (λ c. search (states-read, needs)) in
+    (λ c. outright (search (states-read, needs))) in
     tie.close facts

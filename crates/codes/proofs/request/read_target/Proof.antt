@@ -1,5 +1,6 @@
 -- What the calls answered, together. Assumes nothing.
 use borrow.Author.Needs.{needs}
+use Rattle.text.proofs.Search.{outright}
 use Rattle.codes.proofs.RequestLaws.{target-read}
 use Rattle.codes.proofs.request.read_target.Statement.{statement}
 use Rattle.codes.proofs.request.read_target.Tie as tie
@@ -10,5 +11,5 @@ read-target-spec =
     (λ c κs. search needs)
     (λ c κs. search needs)
     (λ c κs. search needs)
-    (λ c. search (target-read, needs)) in
+    (λ c. outright (search (target-read, needs))) in
     tie.close facts

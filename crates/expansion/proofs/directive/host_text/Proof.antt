@@ -1,5 +1,6 @@
 -- `directive::host_text` meets its contract, by the state. Assumes nothing.
 use borrow.Author.Needs.{needs}
+use Rattle.text.proofs.Search.{outright}
 use Rattle.expansion.proofs.TextLaws.{host-unknown, host-paranoid, host-name}
 use Rattle.expansion.proofs.directive.host_text.Statement.{statement}
 use Rattle.expansion.proofs.directive.host_text.Tie as tie
@@ -14,6 +15,6 @@ host-text-spec =
     (λ c κs. search needs)
     (λ c. search needs)
     (λ c κs. search needs)
-    (λ c. search (host-unknown, needs))
-    (λ c. search (host-paranoid, needs))
-    (λ c. search (host-name, needs)))
+    (λ c. outright (search (host-unknown, needs)))
+    (λ c. outright (search (host-paranoid, needs)))
+    (λ c. outright (search (host-name, needs))))

@@ -1,5 +1,6 @@
 -- `directive::name_text` meets its contract, by the state. Assumes nothing.
 use borrow.Author.Needs.{needs}
+use Rattle.text.proofs.Search.{outright}
 use Rattle.expansion.proofs.TextLaws.{name-known}
 use Rattle.expansion.proofs.directive.name_text.Statement.{statement}
 use Rattle.expansion.proofs.directive.name_text.Tie as tie
@@ -16,4 +17,4 @@ name-text-spec =
     (λ c κs. search needs)
     (λ c. search needs)
     (λ c. search needs)
-    (λ c. search (name-known, needs)))
+    (λ c. outright (search (name-known, needs))))

@@ -5,6 +5,7 @@ use mathlib.Core.List.{map}
 use borrow.Author.Needs.{needs}
 use lib.ListN.{length}
 use Rattle.text.proofs.PasteLaws.{Pasted, pasted-start}
+use Rattle.text.proofs.Search.{outright}
 use Rattle.expansion.specs.Expand.{safeByte}
 use Rattle.expansion.proofs.TextLaws.{safe-step, safe-room, safe-all}
 use Rattle.expansion.proofs.directive.put_safe.Statement.{statement}
@@ -21,14 +22,14 @@ put-safe-spec =
     let facts = tie.spec
     Inv-loop
     μ-loop
-    (λ c. search (pasted-start, needs))
+    (λ c. outright (search (pasted-start, needs)))
     (λ c. search needs)
     (λ c κs. search needs)
     (λ c. search needs)
-    (λ c. search (safe-room, needs))
+    (λ c. outright (search (safe-room, needs)))
     (λ c. search needs)
     (λ c. search needs)
-    (λ c. search (safe-step, needs))
+    (λ c. outright (search (safe-step, needs)))
     (λ c. search needs)
     (λ c. search needs)
     (λ c. safe-all _ (c .before .before .before .before .args .s .now) _ _ _ (c .before .loop .inv) (c .loop-test .left)) in

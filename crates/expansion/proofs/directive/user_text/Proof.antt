@@ -1,5 +1,6 @@
 -- `directive::user_text` meets its contract, by the state. Assumes nothing.
 use borrow.Author.Needs.{needs}
+use Rattle.text.proofs.Search.{outright}
 use Rattle.expansion.proofs.TextLaws.{user-named}
 use Rattle.expansion.proofs.directive.user_text.Statement.{statement}
 use Rattle.expansion.proofs.directive.user_text.Tie as tie
@@ -16,4 +17,4 @@ user-text-spec =
     (λ c κs. search needs)
     (λ c. search needs)
     (λ c. search needs)
-    (λ c. search (user-named, needs)))
+    (λ c. outright (search (user-named, needs))))

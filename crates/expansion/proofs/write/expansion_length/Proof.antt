@@ -3,6 +3,7 @@
 use Prim.Native.Nat.{_-_, _+_}
 use borrow.Author.Needs.{needs}
 use lib.ListN.{length}
+use Rattle.text.proofs.Search.{outright}
 use Rattle.expansion.specs.Code.{textsAt}
 use Rattle.expansion.proofs.PieceLaws.{Measured, measured-start, measured-literal, measured-directive, measured-end}
 use Rattle.expansion.proofs.write.expansion_length.Statement.{statement}
@@ -20,7 +21,7 @@ expansion-length-spec =
     let facts = tie.spec
     Inv-loop
     μ-loop
-    (λ c. search (measured-start, needs))
+    (λ c. outright (search (measured-start, needs)))
     (λ c. search needs)
     (λ c. search needs)
     (λ c κs. search needs)

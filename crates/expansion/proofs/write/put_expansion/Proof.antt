@@ -4,6 +4,7 @@ use Prim.Native.Nat.{_-_, _+_}
 use borrow.Author.Needs.{needs}
 use native.Mathlib.Omega.{arith}
 use lib.ListN.{length}
+use Rattle.text.proofs.Search.{outright}
 use Rattle.expansion.specs.Code.{textsAt}
 use Rattle.expansion.proofs.PieceLaws.{Expanded, expanded-start, expanded-end, literal-room, expanded-literal, directive-room, expanded-directive}
 use Rattle.expansion.proofs.write.put_expansion.Statement.{statement}
@@ -21,7 +22,7 @@ put-expansion-spec =
     let facts = tie.spec
     Inv-loop
     μ-loop
-    (λ c. search (expanded-start, needs))
+    (λ c. outright (search (expanded-start, needs)))
     (λ c. search needs)
     (λ c. search needs)
     (λ c κs. search needs)

@@ -1,5 +1,6 @@
 -- `answers::found_answer` meets its contract. Assumes nothing.
 use borrow.Author.Needs.{needs}
+use Rattle.text.proofs.Search.{outright}
 use Rattle.index.proofs.AnswerLaws.{found-numbers}
 use Rattle.index.proofs.answers.found_answer.Statement.{statement}
 use Rattle.index.proofs.answers.found_answer.Tie as tie
@@ -10,5 +11,5 @@ found-answer-spec =
     (λ c κs. search needs)
     (λ c κs. search needs)
     (λ c κs. search needs)
-    (λ c. search (found-numbers, needs)) in
+    (λ c. outright (search (found-numbers, needs))) in
     tie.close facts

@@ -1,5 +1,6 @@
 -- `answers::named` meets its contract. Assumes nothing.
 use borrow.Author.Needs.{needs}
+use Rattle.text.proofs.Search.{outright}
 use Rattle.index.proofs.AnswerLaws.{named-is}
 use Rattle.index.proofs.answers.named.Statement.{statement}
 use Rattle.index.proofs.answers.named.Tie as tie
@@ -10,5 +11,5 @@ named-spec =
     (λ c κs. search needs)
     (λ c κs. search needs)
     (λ c κs. search needs)
-    (λ c. search (named-is, needs)) in
+    (λ c. outright (search (named-is, needs))) in
     tie.close facts

@@ -1,6 +1,7 @@
 -- `answers::put_all` meets its contract: the loop's invariant is Answering: the answers to the requests so far stand at the front. Assumes nothing.
 use borrow.Author.Needs.{needs}
 use lib.ListN.{length}
+use Rattle.text.proofs.Search.{outright}
 use Rattle.index.specs.Index.{readRequests}
 use Rattle.index.proofs.AnswerLaws.{Answering, answering-start, answering-cut, answering-cut-text, answering-room, answering-more, answering-end}
 use Rattle.index.proofs.AnswerLaws.{answering-text}
@@ -19,19 +20,19 @@ put-all-spec =
     let facts = tie.spec
     Inv-loop
     μ-loop
-    (λ c. search (answering-start, needs))
+    (λ c. outright (search (answering-start, needs)))
     (λ c κs. search needs)
     (λ c. search needs)
     (λ c. search needs)
     (λ c. (search (answering-cut, needs), search (answering-cut-text, needs)))
     (λ c. search needs)
     (λ c κs. search needs)
-    (λ c κs. search (answering-room, needs))
-    (λ c. search (fields-within, needs))
-    (λ c. search (fields-within, needs))
-    (λ c. search (fields-within, needs))
-    (λ c. search (rest-shorter, needs))
-    (λ c. search (answering-more, needs))
+    (λ c κs. outright (search (answering-room, needs)))
+    (λ c. outright (search (fields-within, needs)))
+    (λ c. outright (search (fields-within, needs)))
+    (λ c. outright (search (fields-within, needs)))
+    (λ c. outright (search (rest-shorter, needs)))
+    (λ c. outright (search (answering-more, needs)))
     (λ c. search needs)
     (λ c. (search (answering-end, needs), search (answering-text, needs))) in
     tie.close facts

@@ -1,5 +1,6 @@
 -- `answers::unfit_answer` meets its contract. Assumes nothing.
 use borrow.Author.Needs.{needs}
+use Rattle.text.proofs.Search.{outright}
 use Rattle.index.proofs.AnswerLaws.{unfit-numbers}
 use Rattle.index.proofs.answers.unfit_answer.Statement.{statement}
 use Rattle.index.proofs.answers.unfit_answer.Tie as tie
@@ -10,5 +11,5 @@ unfit-answer-spec =
     (λ c κs. search needs)
     (λ c κs. search needs)
     (λ c κs. search needs)
-    (λ c. search (unfit-numbers, needs)) in
+    (λ c. outright (search (unfit-numbers, needs))) in
     tie.close facts

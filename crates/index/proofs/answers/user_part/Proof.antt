@@ -1,5 +1,6 @@
 -- `answers::user_part` meets its contract. Assumes nothing.
 use borrow.Author.Needs.{needs}
+use Rattle.text.proofs.Search.{outright}
 use Rattle.index.proofs.AnswerLaws.{user-unfetched, user-unknown, user-some}
 use Rattle.index.proofs.answers.user_part.Statement.{statement}
 use Rattle.index.proofs.answers.user_part.Tie as tie
@@ -10,7 +11,7 @@ user-part-spec =
     (λ c. search needs)
     (λ c. search needs)
     (λ c. search needs)
-    (λ c. search (user-unfetched, user-unknown, user-some, needs))
-    (λ c. search (user-unfetched, user-unknown, user-some, needs))
-    (λ c. search (user-unfetched, user-unknown, user-some, needs)) in
+    (λ c. outright (search (user-unfetched, user-unknown, user-some, needs)))
+    (λ c. outright (search (user-unfetched, user-unknown, user-some, needs)))
+    (λ c. outright (search (user-unfetched, user-unknown, user-some, needs))) in
     tie.close facts

@@ -1,6 +1,7 @@
 -- `requests::count_requests` meets its contract: the loop's invariant is Parting: so many requests stand before the rest. Assumes nothing.
 use borrow.Author.Needs.{needs}
 use Prim.Native.Nat.{_-_}
+use Rattle.text.proofs.Search.{outright}
 use Rattle.index.proofs.RequestLaws.{Parting, parting-start, parting-full, parting-cut, parting-more, parting-end, fields-within, fields-some}
 use Rattle.index.proofs.requests.count_requests.Statement.{statement}
 use Rattle.index.proofs.requests.count_requests.Tie as tie
@@ -17,17 +18,17 @@ count-requests-spec =
     let facts = tie.spec
     Inv-loop
     μ-loop
-    (λ c. search (parting-start, needs))
-    (λ c. search (parting-full, needs))
+    (λ c. outright (search (parting-start, needs)))
+    (λ c. outright (search (parting-full, needs)))
     (λ c κs. search needs)
     (λ c. search needs)
-    (λ c. search (parting-cut, needs))
+    (λ c. outright (search (parting-cut, needs)))
     (λ c. search needs)
-    (λ c. search (fields-within, needs))
-    (λ c. search (fields-within, needs))
-    (λ c. search (fields-within, needs))
+    (λ c. outright (search (fields-within, needs)))
+    (λ c. outright (search (fields-within, needs)))
+    (λ c. outright (search (fields-within, needs)))
     (λ c. search needs)
-    (λ c. search (fields-some, fields-within, needs))
-    (λ c. search (parting-more, needs))
-    (λ c. search (parting-end, needs)) in
+    (λ c. outright (search (fields-some, fields-within, needs)))
+    (λ c. outright (search (parting-more, needs)))
+    (λ c. outright (search (parting-end, needs))) in
     tie.close facts

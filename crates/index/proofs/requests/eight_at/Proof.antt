@@ -1,5 +1,6 @@
 -- `requests::eight_at` meets its contract: two halves. Assumes nothing.
 use borrow.Author.Needs.{needs}
+use Rattle.text.proofs.Search.{outright}
 use Rattle.index.proofs.RequestLaws.{eight-bytes}
 use Rattle.index.proofs.requests.eight_at.Statement.{statement}
 use Rattle.index.proofs.requests.eight_at.Tie as tie
@@ -14,5 +15,5 @@ eight-at-spec =
     (λ c. search needs)
     (λ c. search needs)
     (λ c. search needs)
-    (λ c. search (eight-bytes, needs)) in
+    (λ c. outright (search (eight-bytes, needs))) in
     tie.close facts

@@ -1,5 +1,6 @@
 -- `requests::four_at` meets its contract. Assumes nothing.
 use borrow.Author.Needs.{needs}
+use Rattle.text.proofs.Search.{outright}
 use Rattle.index.proofs.RequestLaws.{four-bytes}
 use Rattle.index.proofs.requests.four_at.Statement.{statement}
 use Rattle.index.proofs.requests.four_at.Tie as tie
@@ -24,5 +25,5 @@ four-at-spec =
     (λ c. search needs)
     (λ c. search needs)
     (λ c. search needs)
-    (λ c. search (four-bytes, needs)) in
+    (λ c. outright (search (four-bytes, needs))) in
     tie.close facts

@@ -1,5 +1,6 @@
 -- `requests::numbers_at` meets its contract. Assumes nothing.
 use borrow.Author.Needs.{needs}
+use Rattle.text.proofs.Search.{outright}
 use Rattle.index.proofs.RequestLaws.{numbers-read}
 use Rattle.index.proofs.requests.numbers_at.Statement.{statement}
 use Rattle.index.proofs.requests.numbers_at.Tie as tie
@@ -16,5 +17,5 @@ numbers-at-spec =
     (λ c κs. search needs)
     (λ c. search needs)
     (λ c κs. search needs)
-    (λ c. search (numbers-read, needs)) in
+    (λ c. outright (search (numbers-read, needs))) in
     tie.close facts

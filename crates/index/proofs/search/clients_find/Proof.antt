@@ -1,5 +1,6 @@
 -- `search::clients_find` meets its contract. Assumes nothing.
 use borrow.Author.Needs.{needs}
+use Rattle.text.proofs.Search.{outright}
 use Rattle.index.proofs.EntryLaws.{buffer-part, clients-joined, clients-plain}
 use Rattle.index.proofs.search.clients_find.Statement.{statement}
 use Rattle.index.proofs.search.clients_find.Tie as tie
@@ -12,9 +13,9 @@ clients-find-spec =
     (λ c. search needs)
     (λ c κs. search needs)
     (λ c. search needs)
-    (λ c. search (buffer-part, needs))
+    (λ c. outright (search (buffer-part, needs)))
     (λ c κs. search needs)
-    (λ c. search (clients-joined, needs))
+    (λ c. outright (search (clients-joined, needs)))
     (λ c κs. search needs)
-    (λ c. search (clients-plain, needs)) in
+    (λ c. outright (search (clients-plain, needs))) in
     tie.close facts

@@ -1,5 +1,6 @@
 -- `search::command_of` meets its contract. Assumes nothing.
 use borrow.Author.Needs.{needs}
+use Rattle.text.proofs.Search.{outright}
 use Rattle.index.proofs.EntryLaws.{command-blank, command-full}
 use Rattle.index.proofs.search.command_of.Statement.{statement}
 use Rattle.index.proofs.search.command_of.Tie as tie
@@ -10,6 +11,6 @@ command-of-spec =
     (λ c κs. search needs)
     (λ c κs. search needs)
     (λ c κs. search needs)
-    (λ c. search (command-blank, needs))
-    (λ c. search (command-full, needs)) in
+    (λ c. outright (search (command-blank, needs)))
+    (λ c. outright (search (command-full, needs))) in
     tie.close facts

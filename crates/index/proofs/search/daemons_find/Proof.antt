@@ -1,5 +1,6 @@
 -- `search::daemons_find` meets its contract. Assumes nothing.
 use borrow.Author.Needs.{needs}
+use Rattle.text.proofs.Search.{outright}
 use Rattle.index.proofs.EntryLaws.{buffer-part, daemons-joined, daemons-plain}
 use Rattle.index.proofs.OtherLaws.{daemons-other}
 use Rattle.index.proofs.search.daemons_find.Statement.{statement}
@@ -13,11 +14,11 @@ daemons-find-spec =
     (λ c. search needs)
     (λ c κs. search needs)
     (λ c. search needs)
-    (λ c. search (buffer-part, needs))
+    (λ c. outright (search (buffer-part, needs)))
     (λ c κs. search needs)
-    (λ c. search (daemons-joined, needs))
+    (λ c. outright (search (daemons-joined, needs)))
     (λ c κs. search needs)
-    (λ c. search (daemons-other, needs))
+    (λ c. outright (search (daemons-other, needs)))
     (λ c κs. search needs)
-    (λ c. search (daemons-plain, needs)) in
+    (λ c. outright (search (daemons-plain, needs))) in
     tie.close facts

@@ -3,6 +3,7 @@
 use borrow.Author.Needs.{needs}
 use Prim.Native.Nat.{_-_}
 use lib.ListN.{length}
+use Rattle.text.proofs.Search.{outright}
 use Rattle.index.proofs.OtherLaws.{Wholes, wholes-start, other-byte, other-more, other-word, other-last}
 use Rattle.index.proofs.search.is_other.Statement.{statement}
 use Rattle.index.proofs.search.is_other.Tie as tie
@@ -18,14 +19,14 @@ is-other-spec =
     let facts = tie.spec
     Inv-loop
     μ-loop
-    (λ c. search (wholes-start, needs))
+    (λ c. outright (search (wholes-start, needs)))
     (λ c. search needs)
     (λ c κs. search needs)
-    (λ c. search (other-byte, needs))
+    (λ c. outright (search (other-byte, needs)))
     (λ c. search needs)
     (λ c. search needs)
-    (λ c. search (other-more, needs))
-    (λ c. search (other-word, needs))
+    (λ c. outright (search (other-more, needs)))
+    (λ c. outright (search (other-word, needs)))
     (λ c κs. search needs)
-    (λ c. search (other-last, needs)) in
+    (λ c. outright (search (other-last, needs))) in
     tie.close facts

@@ -1,5 +1,6 @@
 -- `search::rule_finds` meets its contract. Assumes nothing.
 use borrow.Author.Needs.{needs}
+use Rattle.text.proofs.Search.{outright}
 use Rattle.index.proofs.EntryLaws.{entry-no, entry-ask, entry-yes}
 use Rattle.index.proofs.search.rule_finds.Statement.{statement}
 use Rattle.index.proofs.search.rule_finds.Tie as tie
@@ -15,7 +16,7 @@ rule-finds-spec =
     (λ c κs. search needs)
     (λ c κs. search needs)
     (λ c κs. search needs)
-    (λ c. search (entry-no, entry-ask, needs))
-    (λ c. search (entry-ask, entry-no, needs))
-    (λ c. search (entry-yes, needs)) in
+    (λ c. outright (search (entry-no, entry-ask, needs)))
+    (λ c. outright (search (entry-ask, entry-no, needs)))
+    (λ c. outright (search (entry-yes, needs))) in
     tie.close facts

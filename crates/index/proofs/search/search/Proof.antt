@@ -1,5 +1,6 @@
 -- `search::search` meets its contract. Assumes nothing.
 use borrow.Author.Needs.{needs}
+use Rattle.text.proofs.Search.{outright}
 use Rattle.index.proofs.SearchLaws.{ready-few, searched-plain, searched-same}
 use Rattle.index.proofs.search.search.Statement.{statement}
 use Rattle.index.proofs.search.search.Tie as tie
@@ -10,9 +11,9 @@ search-spec =
     (λ c κs. search needs)
     (λ c. search needs)
     (λ c κs. search needs)
-    (λ c. search (searched-plain, needs))
-    (λ c κs. search (ready-few, needs))
+    (λ c. outright (search (searched-plain, needs)))
+    (λ c κs. outright (search (ready-few, needs)))
     (λ c. search needs)
     (λ c κs. search needs)
-    (λ c. search (searched-same, needs)) in
+    (λ c. outright (search (searched-same, needs))) in
     tie.close facts

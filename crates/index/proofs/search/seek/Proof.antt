@@ -1,6 +1,7 @@
 -- `search::seek` meets its contract: the loop's invariant is Seeks: the entries that are left decide. Assumes nothing.
 use borrow.Author.Needs.{needs}
 use lib.ListN.{length}
+use Rattle.text.proofs.Search.{outright}
 use Rattle.rules.specs.FileCode.{queryAt}
 use Rattle.index.specs.Index.{rulesAt}
 use Rattle.index.proofs.EntryLaws.{Seeks, seeks-start, seeks-found, seeks-more, seeks-end}
@@ -19,18 +20,18 @@ seek-spec =
     let facts = tie.spec
     Inv-loop
     μ-loop
-    (λ c. search (seeks-start, needs))
+    (λ c. outright (search (seeks-start, needs)))
     (λ c κs. search needs)
     (λ c κs. search needs)
     (λ c κs. search needs)
     (λ c κs. search needs)
     (λ c. search needs)
     (λ c. search needs)
-    (λ c. search (seeks-found, needs))
+    (λ c. outright (search (seeks-found, needs)))
     (λ c. search needs)
     (λ c. search needs)
     (λ c. search needs)
     (λ c. search needs)
-    (λ c. search (seeks-more, needs))
-    (λ c. search (seeks-end, needs)) in
+    (λ c. outright (search (seeks-more, needs)))
+    (λ c. outright (search (seeks-end, needs))) in
     tie.close facts

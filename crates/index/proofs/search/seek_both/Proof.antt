@@ -1,5 +1,6 @@
 -- `search::seek_both` meets its contract. Assumes nothing.
 use borrow.Author.Needs.{needs}
+use Rattle.text.proofs.Search.{outright}
 use Rattle.index.proofs.EntryLaws.{both-answer, both-ended}
 use Rattle.index.proofs.search.seek_both.Statement.{statement}
 use Rattle.index.proofs.search.seek_both.Tie as tie
@@ -12,6 +13,6 @@ seek-both-spec =
     (λ c. search needs)
     (λ c κs. search needs)
     (λ c κs. search needs)
-    (λ c. search (both-answer, needs))
-    (λ c. search (both-ended, needs)) in
+    (λ c. outright (search (both-answer, needs)))
+    (λ c. outright (search (both-ended, needs))) in
     tie.close facts

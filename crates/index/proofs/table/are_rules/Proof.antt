@@ -3,6 +3,7 @@
 use borrow.Author.Needs.{needs}
 use Prim.Native.Nat.{_-_}
 use lib.ListN.{length}
+use Rattle.text.proofs.Search.{outright}
 use Rattle.index.proofs.TableLaws.{Comparing, comparing-start, comparing-short, comparing-differs, comparing-more, comparing-end, part-length, next-less}
 use Rattle.index.proofs.table.are_rules.Statement.{statement}
 use Rattle.index.proofs.table.are_rules.Tie as tie
@@ -19,18 +20,18 @@ are-rules-spec =
     let facts = tie.spec
     Inv-loop
     μ-loop
-    (λ c. search (comparing-start, needs))
+    (λ c. outright (search (comparing-start, needs)))
     (λ c κs. search needs)
     (λ c κs. search needs)
     (λ c. search needs)
-    (λ c. search (comparing-short, needs))
-    (λ c. search (part-length, needs))
+    (λ c. outright (search (comparing-short, needs)))
+    (λ c. outright (search (part-length, needs)))
     (λ c κs. search needs)
-    (λ c. search (comparing-differs, needs))
+    (λ c. outright (search (comparing-differs, needs)))
     (λ c. search needs)
     (λ c. search needs)
     (λ c. search needs)
-    (λ c. search (next-less, needs))
-    (λ c. search (comparing-more, needs))
-    (λ c. search (comparing-end, needs)) in
+    (λ c. outright (search (next-less, needs)))
+    (λ c. outright (search (comparing-more, needs)))
+    (λ c. outright (search (comparing-end, needs))) in
     tie.close facts

@@ -2,6 +2,7 @@
 use borrow.Author.Needs.{needs}
 use Prim.Native.Nat.{_-_}
 use lib.ListN.{length}
+use Rattle.text.proofs.Search.{outright}
 use Rattle.index.proofs.TableLaws.{Counting, counting-start, counting-more, counting-end, counting-few, next-less}
 use Rattle.index.proofs.table.count_rules.Statement.{statement}
 use Rattle.index.proofs.table.count_rules.Tie as tie
@@ -18,11 +19,11 @@ count-rules-spec =
     let facts = tie.spec
     Inv-loop
     μ-loop
-    (λ c. search (counting-start, needs))
+    (λ c. outright (search (counting-start, needs)))
     (λ c κs. search needs)
     (λ c κs. search needs)
     (λ c. search needs)
-    (λ c. search (next-less, needs))
-    (λ c. search (counting-more, needs))
+    (λ c. outright (search (next-less, needs)))
+    (λ c. outright (search (counting-more, needs)))
     (λ c. (search (counting-end, needs), search (counting-few, needs))) in
     tie.close facts

@@ -1,5 +1,6 @@
 -- `table::entry_of` meets its contract. Assumes nothing.
 use borrow.Author.Needs.{needs}
+use Rattle.text.proofs.Search.{outright}
 use Rattle.index.proofs.TableLaws.{clients-fit, entry-is}
 use Rattle.index.proofs.table.entry_of.Statement.{statement}
 use Rattle.index.proofs.table.entry_of.Tie as tie
@@ -12,9 +13,9 @@ entry-of-spec =
     (λ c. search needs)
     (λ c. search needs)
     (λ c κs. search needs)
-    (λ c. search (clients-fit, needs))
+    (λ c. outright (search (clients-fit, needs)))
     (λ c. search needs)
     (λ c. search needs)
     (λ c. search needs)
-    (λ c. search (entry-is, needs)) in
+    (λ c. outright (search (entry-is, needs))) in
     tie.close facts

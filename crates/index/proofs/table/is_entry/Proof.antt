@@ -1,5 +1,6 @@
 -- `table::is_entry` meets its contract. Assumes nothing.
 use borrow.Author.Needs.{needs}
+use Rattle.text.proofs.Search.{outright}
 use Rattle.index.proofs.TableLaws.{entry-same}
 use Rattle.index.proofs.table.is_entry.Statement.{statement}
 use Rattle.index.proofs.table.is_entry.Tie as tie
@@ -11,5 +12,5 @@ is-entry-spec =
     (λ c κs. search needs)
     (λ c. search needs)
     (λ c κs. search needs)
-    (λ c. search (entry-same, needs)) in
+    (λ c. outright (search (entry-same, needs))) in
     tie.close facts

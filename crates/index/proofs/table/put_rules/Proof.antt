@@ -2,6 +2,7 @@
 use borrow.Author.Needs.{needs}
 use Prim.Native.Nat.{_-_}
 use lib.ListN.{length}
+use Rattle.text.proofs.Search.{outright}
 use Rattle.index.proofs.TableLaws.{Writing, writing-start, writing-room, writing-more, writing-end, writing-text, next-less}
 use Rattle.index.proofs.table.put_rules.Statement.{statement}
 use Rattle.index.proofs.table.put_rules.Tie as tie
@@ -18,11 +19,11 @@ put-rules-spec =
     let facts = tie.spec
     Inv-loop
     μ-loop
-    (λ c. search (writing-start, needs))
+    (λ c. outright (search (writing-start, needs)))
     (λ c κs. search needs)
-    (λ c κs. search (writing-room, needs))
-    (λ c. search (next-less, needs))
-    (λ c. search (writing-more, needs))
+    (λ c κs. outright (search (writing-room, needs)))
+    (λ c. outright (search (next-less, needs)))
+    (λ c. outright (search (writing-more, needs)))
     (λ c. search needs)
     (λ c. (search (writing-end, needs), search (writing-text, needs))) in
     tie.close facts

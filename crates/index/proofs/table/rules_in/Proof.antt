@@ -1,5 +1,6 @@
 -- `table::rules_in` meets its contract. Assumes nothing.
 use borrow.Author.Needs.{needs}
+use Rattle.text.proofs.Search.{outright}
 use Rattle.index.proofs.TableLaws.{rules-one, rules-none}
 use Rattle.index.proofs.table.rules_in.Statement.{statement}
 use Rattle.index.proofs.table.rules_in.Tie as tie
@@ -7,6 +8,6 @@ use Rattle.index.proofs.table.rules_in.Tie as tie
 pub rules-in-spec : {M : Type 1} → statement M
 rules-in-spec =
     let facts = tie.spec
-    (λ c. search (rules-one, needs))
-    (λ c. search (rules-none, needs)) in
+    (λ c. outright (search (rules-one, needs)))
+    (λ c. outright (search (rules-none, needs))) in
     tie.close facts

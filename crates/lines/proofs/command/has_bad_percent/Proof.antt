@@ -3,6 +3,7 @@
 use Prim.Native.Nat.{_-_}
 use borrow.Author.Needs.{needs}
 use lib.ListN.{length}
+use Rattle.text.proofs.Search.{outright}
 use Rattle.lines.proofs.CommandLaws.{Checked, checked-none, checked-other, checked-pair, checked-end, bad-end, bad-byte}
 use Rattle.lines.proofs.command.has_bad_percent.Statement.{statement}
 use Rattle.lines.proofs.command.has_bad_percent.Tie as tie
@@ -18,19 +19,19 @@ has-bad-percent-spec =
     let facts = tie.spec
     Inv-loop
     μ-loop
-    (λ c. search (checked-none, needs))
+    (λ c. outright (search (checked-none, needs)))
     (λ c. search needs)
     (λ c. search needs)
-    (λ c. search (bad-end, needs))
+    (λ c. outright (search (bad-end, needs)))
     (λ c. search needs)
     (λ c κs. search needs)
     (λ c. search needs)
     (λ c. search needs)
     (λ c. let b = c .before .before .before .before .before .before in
     checked-pair _ _ (b .before .loop .inv) (b .loop-test .taken) (search needs) (search needs) _ (c .before .is-directive .ensures) (c .if3 .taken))
-    (λ c. search (bad-byte, needs))
+    (λ c. outright (search (bad-byte, needs)))
     (λ c. search needs)
     (λ c. search needs)
-    (λ c. search (checked-other, needs))
-    (λ c. search (checked-end, needs)) in
+    (λ c. outright (search (checked-other, needs)))
+    (λ c. outright (search (checked-end, needs))) in
     tie.close facts

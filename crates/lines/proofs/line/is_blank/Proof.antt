@@ -6,6 +6,7 @@ use lib.ListN.{length, drop}
 use borrow.Author.Needs.{needs}
 use Rattle.text.specs.Basics.{all}
 use Rattle.text.specs.Text.{among}
+use Rattle.text.proofs.Search.{outright}
 use Rattle.lines.specs.Line.{join}
 use Rattle.lines.proofs.LineLaws.{pairAt-within, blank-byte, blank-pair, blank-stop, blank-end}
 use Rattle.lines.proofs.line.is_blank.Statement.{statement}
@@ -30,7 +31,7 @@ is-blank-spec =
     (λ c κs. search needs)
     (λ c. search needs)
     (λ c. search needs)
-    (λ c. search (pairAt-within, blank-pair, needs))
-    (λ c. search (blank-stop, needs))
-    (λ c. search (blank-end, needs)) in
+    (λ c. outright (search (pairAt-within, blank-pair, needs)))
+    (λ c. outright (search (blank-stop, needs)))
+    (λ c. outright (search (blank-end, needs))) in
     tie.close facts

@@ -4,6 +4,7 @@ use Prim.Native.Nat.{_≤_, _-_}
 use mathlib.Core.Path.{_≡_}
 use lib.ListN.{length, drop}
 use borrow.Author.Needs.{needs}
+use Rattle.text.proofs.Search.{outright}
 use Rattle.lines.specs.Line.{join}
 use Rattle.lines.proofs.LineLaws.{pairAt-within, comment-skip, comment-here, comment-none}
 use Rattle.lines.proofs.line.is_comment.Statement.{statement}
@@ -24,8 +25,8 @@ is-comment-spec =
     (λ c κs. search needs)
     (λ c. search needs)
     (λ c. search needs)
-    (λ c. search (pairAt-within, comment-skip, needs))
+    (λ c. outright (search (pairAt-within, comment-skip, needs)))
     (λ c. search needs)
-    (λ c. search (comment-here, needs))
-    (λ c. search (comment-none, needs)) in
+    (λ c. outright (search (comment-here, needs)))
+    (λ c. outright (search (comment-none, needs))) in
     tie.close facts

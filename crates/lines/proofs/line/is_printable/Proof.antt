@@ -3,6 +3,7 @@
 use Prim.Native.Nat.{_-_}
 use lib.ListN.{length}
 use borrow.Author.Needs.{needs}
+use Rattle.text.proofs.Search.{outright}
 use Rattle.lines.specs.Block.{printable}
 use Rattle.lines.proofs.BlockLaws.{Passing, passing-start, passing-more, passing-end}
 use Rattle.lines.proofs.line.is_printable.Statement.{statement}
@@ -20,9 +21,9 @@ is-printable-spec =
     (tie.spec
     Inv-loop
     μ-loop
-    (λ c. search (passing-start printable, needs))
+    (λ c. outright (search (passing-start printable, needs)))
     (λ c. search needs)
     (λ c. search needs)
     (λ c. search needs)
-    (λ c. search (passing-more printable, needs))
-    (λ c. search (passing-end printable, needs)))
+    (λ c. outright (search (passing-more printable, needs)))
+    (λ c. outright (search (passing-end printable, needs))))

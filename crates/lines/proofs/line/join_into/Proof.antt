@@ -3,6 +3,7 @@
 use Prim.Native.Nat.{_≤_, _-_}
 use lib.ListN.{length}
 use borrow.Author.Needs.{needs}
+use Rattle.text.proofs.Search.{outright}
 use Rattle.lines.specs.Line.{join}
 use Rattle.lines.proofs.LineLaws.{Joining, joining-pair, joining-room, joining-byte, joining-end}
 use Rattle.lines.proofs.line.join_into.Statement.{statement}
@@ -23,13 +24,13 @@ join-into-spec =
     (λ c κs. search needs)
     (λ c. search needs)
     (λ c. search needs)
-    (λ c. search (joining-pair, needs))
+    (λ c. outright (search (joining-pair, needs)))
     (λ c. search needs)
-    (λ c. search (joining-room, needs))
+    (λ c. outright (search (joining-room, needs)))
     (λ c. search needs)
     (λ c. search needs)
     (λ c. search needs)
-    (λ c. search (joining-byte, needs))
+    (λ c. outright (search (joining-byte, needs)))
     (λ c. search needs)
     (λ c. joining-end (c .before .loop .inv .0) (c .loop-test .left)) in
     tie.close facts

@@ -3,6 +3,7 @@
 use Prim.Native.Nat.{_-_}
 use lib.ListN.{length}
 use borrow.Author.Needs.{needs}
+use Rattle.text.proofs.Search.{outright}
 use Rattle.lines.proofs.LineLaws.{Measuring, measuring-start, measuring-pair, measuring-byte, measuring-end}
 use Rattle.lines.proofs.line.joined.Statement.{statement}
 use Rattle.lines.proofs.line.joined.Tie as tie
@@ -18,15 +19,15 @@ joined-spec =
     let facts = tie.spec
     Inv-loop
     μ-loop
-    (λ c. search (measuring-start, needs))
+    (λ c. outright (search (measuring-start, needs)))
     (λ c κs. search needs)
     (λ c. search needs)
     (λ c. search needs)
-    (λ c. search (measuring-pair, needs))
+    (λ c. outright (search (measuring-pair, needs)))
     (λ c. search needs)
     (λ c. search needs)
     (λ c. search needs)
     (λ c. search needs)
-    (λ c. search (measuring-byte, needs))
-    (λ c. search (measuring-end, needs)) in
+    (λ c. outright (search (measuring-byte, needs)))
+    (λ c. outright (search (measuring-end, needs))) in
     tie.close facts

@@ -3,6 +3,7 @@
 use Prim.Native.Nat.{_-_}
 use lib.ListN.{length}
 use borrow.Author.Needs.{needs}
+use Rattle.text.proofs.Search.{outright}
 use Rattle.lines.specs.Block.{printable, PassedTo}
 use Rattle.lines.proofs.BlockLaws.{block-fits, block-less, passed-start, passed-more}
 use Rattle.lines.proofs.line.printable_end.Statement.{statement}
@@ -20,9 +21,9 @@ printable-end-spec =
     (tie.spec
     Inv-loop
     μ-loop
-    (λ c. search (passed-start printable, needs))
+    (λ c. outright (search (passed-start printable, needs)))
     (λ c κs. search needs)
     (λ c. record { fits = search (block-fits printable, needs) })
-    (λ c. search (block-less printable, needs))
-    (λ c. search (passed-more printable, needs))
+    (λ c. outright (search (block-less printable, needs)))
+    (λ c. outright (search (passed-more printable, needs)))
     (λ c. search needs))

@@ -3,6 +3,7 @@
 use Prim.Native.Nat.{_-_}
 use lib.ListN.{length}
 use borrow.Author.Needs.{needs}
+use Rattle.text.proofs.Search.{outright}
 use Rattle.lines.proofs.LineLaws.{Scanning, scanning-after, scanning-plain, scanning-pair, scanning-stop, scanning-other, scanning-end, scanLine-bounds}
 use Rattle.lines.proofs.line.scan_line.Statement.{statement}
 use Rattle.lines.proofs.line.scan_line.Tie as tie
@@ -19,19 +20,19 @@ scan-line-spec =
     Inv-loop
     μ-loop
     (λ c κs. search needs)
-    (λ c. search (scanning-after, needs))
+    (λ c. outright (search (scanning-after, needs)))
     (λ c. search needs)
     (λ c. search needs)
     (λ c. search needs)
-    (λ c. search (scanning-plain, needs))
+    (λ c. outright (search (scanning-plain, needs)))
     (λ c κs. search needs)
     (λ c. search needs)
     (λ c. search needs)
     (λ c. search needs)
-    (λ c. search (scanning-pair, needs))
-    (λ c. search (scanning-stop, scanLine-bounds, needs))
+    (λ c. outright (search (scanning-pair, needs)))
+    (λ c. outright (search (scanning-stop, scanLine-bounds, needs)))
     (λ c. search needs)
     (λ c. search needs)
-    (λ c. search (scanning-other, needs))
-    (λ c. search (scanning-end, scanLine-bounds, needs)) in
+    (λ c. outright (search (scanning-other, needs)))
+    (λ c. outright (search (scanning-end, scanLine-bounds, needs))) in
     tie.close facts

@@ -1,5 +1,6 @@
 -- `rule::after_element` meets its contract, by the laws of a span. Assumes nothing.
 use borrow.Author.Needs.{needs}
+use Rattle.text.proofs.Search.{outright}
 use Rattle.lines.proofs.RuleLaws.{element-end, after-part}
 use Rattle.lines.proofs.rule.after_element.Statement.{statement}
 use Rattle.lines.proofs.rule.after_element.Tie as tie
@@ -8,7 +9,7 @@ pub after-element-spec : {M : Type 1} → statement M
 after-element-spec =
     tie.close
     (tie.spec
-    (λ c. search (element-end, needs))
-    (λ c. search (element-end, needs))
+    (λ c. outright (search (element-end, needs)))
+    (λ c. outright (search (element-end, needs)))
     (λ c. search needs)
-    (λ c. search (after-part, needs)))
+    (λ c. outright (search (after-part, needs))))

@@ -1,5 +1,6 @@
 -- `rule::after_separator` meets its contract: at the end nothing follows, else what stands from i + 1 on. Assumes nothing.
 use borrow.Author.Needs.{needs}
+use Rattle.text.proofs.Search.{outright}
 use Rattle.lines.proofs.RuleLaws.{afterSeparator-end, afterSeparator-part}
 use Rattle.lines.proofs.rule.after_separator.Statement.{statement}
 use Rattle.lines.proofs.rule.after_separator.Tie as tie
@@ -11,9 +12,9 @@ after-separator-spec =
     (λ c. search needs)
     (λ c. search needs)
     (λ c. search needs)
-    (λ c. search (afterSeparator-end, needs))
+    (λ c. outright (search (afterSeparator-end, needs)))
     (λ c. search needs)
     (λ c. search needs)
     (λ c. search needs)
     (λ c. search needs)
-    (λ c. search (afterSeparator-part, needs)))
+    (λ c. outright (search (afterSeparator-part, needs))))

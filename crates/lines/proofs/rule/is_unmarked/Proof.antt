@@ -3,6 +3,7 @@
 use Prim.Native.Nat.{_-_}
 use lib.ListN.{length}
 use borrow.Author.Needs.{needs}
+use Rattle.text.proofs.Search.{outright}
 use Rattle.lines.specs.Block.{unmarked}
 use Rattle.lines.proofs.BlockLaws.{Passing, passing-start, passing-more, passing-end}
 use Rattle.lines.proofs.rule.is_unmarked.Statement.{statement}
@@ -20,9 +21,9 @@ is-unmarked-spec =
     (tie.spec
     Inv-loop
     μ-loop
-    (λ c. search (passing-start unmarked, needs))
+    (λ c. outright (search (passing-start unmarked, needs)))
     (λ c. search needs)
     (λ c. search needs)
     (λ c. search needs)
-    (λ c. search (passing-more unmarked, needs))
-    (λ c. search (passing-end unmarked, needs)))
+    (λ c. outright (search (passing-more unmarked, needs)))
+    (λ c. outright (search (passing-end unmarked, needs))))

@@ -3,6 +3,7 @@
 use Prim.Native.Nat.{_-_}
 use borrow.Author.Needs.{needs}
 use lib.ListN.{length}
+use Rattle.text.proofs.Search.{outright}
 use Rattle.lines.proofs.RuleLaws.{Searched, searched-after, searched-byte, searched-bracket, separator-here, separator-end}
 use Rattle.lines.proofs.rule.separator.Statement.{statement}
 use Rattle.lines.proofs.rule.separator.Tie as tie
@@ -19,9 +20,9 @@ separator-spec =
     Inv-loop
     μ-loop
     (λ c κs. search needs)
-    (λ c. search (searched-after, needs))
+    (λ c. outright (search (searched-after, needs)))
     (λ c. search needs)
-    (λ c. search (separator-here, needs))
+    (λ c. outright (search (separator-here, needs)))
     (λ c. search needs)
     (λ c. search needs)
     (λ c. search needs)
@@ -29,8 +30,8 @@ separator-spec =
     (λ c κs. search needs)
     (λ c. search needs)
     (λ c. search needs)
-    (λ c. search (searched-bracket, needs))
+    (λ c. outright (search (searched-bracket, needs)))
     (λ c. search needs)
-    (λ c. search (searched-byte, needs))
-    (λ c. search (separator-end, needs)) in
+    (λ c. outright (search (searched-byte, needs)))
+    (λ c. outright (search (separator-end, needs))) in
     tie.close facts

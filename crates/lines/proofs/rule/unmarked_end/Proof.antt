@@ -3,6 +3,7 @@
 use Prim.Native.Nat.{_-_}
 use lib.ListN.{length}
 use borrow.Author.Needs.{needs}
+use Rattle.text.proofs.Search.{outright}
 use Rattle.lines.specs.Block.{unmarked, PassedTo}
 use Rattle.lines.proofs.BlockLaws.{block-fits, block-less, passed-start, passed-more}
 use Rattle.lines.proofs.rule.unmarked_end.Statement.{statement}
@@ -19,10 +20,10 @@ unmarked-end-spec =
     let facts = tie.spec
     Inv-loop
     μ-loop
-    (λ c. search (passed-start unmarked, needs))
+    (λ c. outright (search (passed-start unmarked, needs)))
     (λ c κs. search needs)
     (λ c. record { fits = search (block-fits unmarked, needs) })
-    (λ c. search (block-less unmarked, needs))
-    (λ c. search (passed-more unmarked, needs))
+    (λ c. outright (search (block-less unmarked, needs)))
+    (λ c. outright (search (passed-more unmarked, needs)))
     (λ c. search needs) in
     tie.close facts

@@ -2,6 +2,7 @@
 use borrow.Author.Needs.{needs}
 use mathlib.Core.Path.{sym}
 use lib.Seq.{length-take-le}
+use Rattle.text.proofs.Search.{outright}
 use Rattle.matters.proofs.HalfLaws.{asked-quiet, asked-none, asked-some}
 use Rattle.matters.proofs.tell.asked_half.Statement.{statement}
 use Rattle.matters.proofs.tell.asked_half.Tie as tie
@@ -11,10 +12,10 @@ asked-half-spec =
     let facts = tie.spec
     (λ c κs. search needs)
     (λ c. search needs)
-    (λ c. search (asked-quiet, needs))
+    (λ c. outright (search (asked-quiet, needs)))
     (λ c κs. search needs)
     (λ c. search needs)
-    (λ c. search (asked-none, needs))
+    (λ c. outright (search (asked-none, needs)))
     (λ c. sym (length-take-le _ _ (c .before .before .sign-place .ensures .1)))
-    (λ c. search (asked-some, needs)) in
+    (λ c. outright (search (asked-some, needs))) in
     tie.close facts

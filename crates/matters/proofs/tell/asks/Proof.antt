@@ -1,5 +1,6 @@
 -- `tell::asks` meets its contract. Assumes nothing.
 use borrow.Author.Needs.{needs}
+use Rattle.text.proofs.Search.{outright}
 use Rattle.matters.proofs.TellLaws.{asks-at}
 use Rattle.matters.proofs.tell.asks.Statement.{statement}
 use Rattle.matters.proofs.tell.asks.Tie as tie
@@ -11,5 +12,5 @@ asks-spec =
     (λ c. search needs)
     (λ c κs. search needs)
     (λ c κs. search needs)
-    (λ c. search (asks-at, needs)) in
+    (λ c. outright (search (asks-at, needs))) in
     tie.close facts

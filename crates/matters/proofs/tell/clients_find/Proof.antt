@@ -1,5 +1,6 @@
 -- `tell::clients_find` meets its contract. Assumes nothing.
 use borrow.Author.Needs.{needs}
+use Rattle.text.proofs.Search.{outright}
 use Rattle.matters.proofs.TellLaws.{clients-at}
 use Rattle.matters.proofs.tell.clients_find.Statement.{statement}
 use Rattle.matters.proofs.tell.clients_find.Tie as tie
@@ -9,5 +10,5 @@ clients-find-spec =
     let facts = tie.spec
     (λ c κs. search needs)
     (λ c κs. search needs)
-    (λ c. search (clients-at, needs)) in
+    (λ c. outright (search (clients-at, needs))) in
     tie.close facts

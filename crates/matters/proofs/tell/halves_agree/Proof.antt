@@ -3,6 +3,7 @@
 use borrow.Author.Needs.{needs}
 use mathlib.Core.Path.{refl}
 use lib.ListN.{length}
+use Rattle.text.proofs.Search.{outright}
 use Rattle.lines.proofs.RuleLaws.{rest-shorter}
 use Rattle.classes.proofs.ClassLaws.{element-place, element-described}
 use Rattle.elements.specs.Code.{viewOf}
@@ -58,16 +59,16 @@ halves-agree-spec =
     let facts = tie.spec
     Inv-loop
     μ-loop
-    (λ c. search (trying-start, needs))
+    (λ c. outright (search (trying-start, needs)))
     (λ c κs. search needs)
-    (λ c κs. search (element-place, needs))
-    (λ c. search (trying-end, needs))
-    (λ c κs. search (element-place, needs))
-    (λ c. search (trying-shorter, needs))
-    (λ c. search (trying-fits, needs))
-    (λ c κs. search (element-described, needs))
+    (λ c κs. outright (search (element-place, needs)))
+    (λ c. outright (search (trying-end, needs)))
+    (λ c κs. outright (search (element-place, needs)))
+    (λ c. outright (search (trying-shorter, needs)))
+    (λ c. outright (search (trying-fits, needs)))
+    (λ c κs. outright (search (element-described, needs)))
     (λ c. search needs)
-    (λ c κs. search (trying-within, needs))
+    (λ c κs. outright (search (trying-within, needs)))
     (λ c. search needs)
     returns-2
     (λ c. search needs)

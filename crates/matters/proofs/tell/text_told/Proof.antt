@@ -3,6 +3,7 @@
 use borrow.Author.Needs.{needs}
 use Prim.Native.Nat.{_-_}
 use lib.ListN.{length}
+use Rattle.text.proofs.Search.{outright}
 use Rattle.rules.proofs.FileLaws.{scanned-line}
 use Rattle.matters.specs.Code.{finderAt}
 use Rattle.matters.proofs.TellLaws.{Telling-from, telling-start, telling-end, telling-less, next-fits, number-fits, telling-decides, telling-differs}
@@ -21,21 +22,21 @@ text-told-spec =
     let facts = tie.spec
     Inv-loop
     μ-loop
-    (λ c. search (telling-start, needs))
+    (λ c. outright (search (telling-start, needs)))
     (λ c κs. search needs)
     (λ c. search needs)
     (λ c. search needs)
     (λ c. search needs)
-    (λ c κs. search (scanned-line, needs))
+    (λ c κs. outright (search (scanned-line, needs)))
     (λ c. search needs)
     (λ c. search needs)
-    (λ c. search (telling-decides, needs))
+    (λ c. outright (search (telling-decides, needs)))
     (λ c. search needs)
-    (λ c. search (telling-differs, needs))
+    (λ c. outright (search (telling-differs, needs)))
     (λ c. search needs)
-    (λ c. search (number-fits, needs))
-    (λ c. search (number-fits, needs))
-    (λ c. search (telling-less, needs))
-    (λ c. search (telling-more, needs))
-    (λ c. search (telling-end, needs)) in
+    (λ c. outright (search (number-fits, needs)))
+    (λ c. outright (search (number-fits, needs)))
+    (λ c. outright (search (telling-less, needs)))
+    (λ c. outright (search (telling-more, needs)))
+    (λ c. outright (search (telling-end, needs))) in
     tie.close facts

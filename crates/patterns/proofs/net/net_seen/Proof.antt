@@ -1,5 +1,6 @@
 -- `patterns::net::net_seen` meets its contract. By what was read. Assumes nothing.
 use borrow.Author.Needs.{needs}
+use Rattle.text.proofs.Search.{outright}
 use Rattle.patterns.proofs.SeenLaws.{net-unread, net-read}
 use Rattle.patterns.proofs.net.net_seen.Statement.{statement}
 use Rattle.patterns.proofs.net.net_seen.Tie as tie
@@ -11,5 +12,5 @@ net-seen-spec =
     (λ c. search needs)
     (λ c. search needs)
     (λ c κs. search needs)
-    (λ c. search (net-unread, needs))
-    (λ c. search (net-read, needs)))
+    (λ c. outright (search (net-unread, needs)))
+    (λ c. outright (search (net-read, needs))))

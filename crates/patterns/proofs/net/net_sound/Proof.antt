@@ -1,5 +1,6 @@
 -- `patterns::net::net_sound` meets its contract. By what was read. Assumes nothing.
 use borrow.Author.Needs.{needs}
+use Rattle.text.proofs.Search.{outright}
 use Rattle.patterns.proofs.SeenLaws.{net-none, net-some}
 use Rattle.patterns.proofs.net.net_sound.Statement.{statement}
 use Rattle.patterns.proofs.net.net_sound.Tie as tie
@@ -10,5 +11,5 @@ net-sound-spec =
     (tie.spec
     (λ c. search needs)
     (λ c. search needs)
-    (λ c. search (net-none, needs))
+    (λ c. outright (search (net-none, needs)))
     (λ c. net-some _ _ _ (c .enum-told2 .given .1)))

@@ -1,5 +1,6 @@
 -- `net::read_dotted` meets its contract: the pass over the fields ends the pattern, or stops at its slash. Assumes nothing.
 use borrow.Author.Needs.{needs}
+use Rattle.text.proofs.Search.{outright}
 use Rattle.patterns.proofs.DottedLaws.{dotted-failed, dotted-number, dotted-field, dotted-few, dotted-small, dotted-ended, dotted-stopped, dotted-slash}
 use Rattle.patterns.proofs.net.read_dotted.Statement.{statement}
 use Rattle.patterns.proofs.net.read_dotted.Tie as tie
@@ -10,17 +11,17 @@ read-dotted-spec =
     (λ c κs. search needs)
     (λ c. search needs)
     (λ c. search needs)
-    (λ c κs. search (dotted-number, dotted-field, dotted-few, dotted-small, needs))
-    (λ c. search (dotted-ended, needs))
+    (λ c κs. outright (search (dotted-number, dotted-field, dotted-few, dotted-small, needs)))
+    (λ c. outright (search (dotted-ended, needs)))
     (λ c. search needs)
-    (λ c. search (dotted-stopped, needs))
+    (λ c. outright (search (dotted-stopped, needs)))
     (λ c. search needs)
-    (λ c κs. search (dotted-number, dotted-field, needs))
+    (λ c κs. outright (search (dotted-number, dotted-field, needs)))
     (λ c. search needs)
     (λ c. search needs)
     (λ c. search needs)
     (λ c κs. search needs)
     (λ c κs. search needs)
-    (λ c. search (dotted-failed, needs))
-    (λ c. search (dotted-slash, needs)) in
+    (λ c. outright (search (dotted-failed, needs)))
+    (λ c. outright (search (dotted-slash, needs))) in
     tie.close facts

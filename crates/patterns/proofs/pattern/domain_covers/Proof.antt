@@ -1,5 +1,6 @@
 -- `patterns::pattern::domain_covers` meets its contract. What covers is tried first, and the pattern checked only then. Assumes nothing.
 use borrow.Author.Needs.{needs}
+use Rattle.text.proofs.Search.{outright}
 use Rattle.patterns.proofs.PatternLaws.{domainCovers-ends, domainCovers-differs}
 use Rattle.patterns.proofs.pattern.domain_covers.Statement.{statement}
 use Rattle.patterns.proofs.pattern.domain_covers.Tie as tie
@@ -10,6 +11,6 @@ domain-covers-spec =
     (λ c κs. search needs)
     (λ c κs. search needs)
     (λ c κs. search needs)
-    (λ c. search (domainCovers-ends, needs))
-    (λ c. search (domainCovers-differs, needs)) in
+    (λ c. outright (search (domainCovers-ends, needs)))
+    (λ c. outright (search (domainCovers-differs, needs))) in
     tie.close facts

@@ -1,5 +1,6 @@
 -- `patterns::pattern::form_seen` meets its contract. By the form that was read. Assumes nothing.
 use borrow.Author.Needs.{needs}
+use Rattle.text.proofs.Search.{outright}
 use Rattle.patterns.proofs.SeenLaws.{seen-domain, seen-plain, seen-bracket, seen-dotted}
 use Rattle.patterns.proofs.pattern.form_seen.Statement.{statement}
 use Rattle.patterns.proofs.pattern.form_seen.Tie as tie
@@ -18,8 +19,8 @@ form-seen-spec =
     (λ c. search needs)
     (λ c κs. search needs)
     (λ c κs. search needs)
-    (λ c. search (seen-domain, needs))
-    (λ c. search (seen-bracket, needs))
-    (λ c. search (seen-dotted, needs))
-    (λ c. search (seen-plain, needs)) in
+    (λ c. outright (search (seen-domain, needs)))
+    (λ c. outright (search (seen-bracket, needs)))
+    (λ c. outright (search (seen-dotted, needs)))
+    (λ c. outright (search (seen-plain, needs))) in
     tie.close facts

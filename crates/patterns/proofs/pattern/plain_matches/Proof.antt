@@ -1,5 +1,6 @@
 -- `patterns::pattern::plain_matches` meets its contract. A known name that is covered. Assumes nothing.
 use borrow.Author.Needs.{needs}
+use Rattle.text.proofs.Search.{outright}
 use Rattle.patterns.proofs.SeenLaws.{plain-known, plain-unknown}
 use Rattle.patterns.proofs.pattern.plain_matches.Statement.{statement}
 use Rattle.patterns.proofs.pattern.plain_matches.Tie as tie
@@ -10,5 +11,5 @@ plain-matches-spec =
     (tie.spec
     (λ c κs. search needs)
     (λ c κs. search needs)
-    (λ c. search (plain-known, needs))
-    (λ c. search (plain-unknown, needs)))
+    (λ c. outright (search (plain-known, needs)))
+    (λ c. outright (search (plain-unknown, needs))))

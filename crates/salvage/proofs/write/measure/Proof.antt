@@ -2,6 +2,7 @@
 use borrow.Author.Needs.{needs}
 use Prim.Native.Nat.{_-_}
 use lib.ListN.{length}
+use Rattle.text.proofs.Search.{outright}
 use Rattle.elements.specs.Code.{viewOf}
 use Rattle.salvage.proofs.MadeLaws.{Measuring, measuring-start, measuring-on, measuring-fits, measuring-end, measuring-few}
 use Rattle.salvage.proofs.write.measure.Statement.{statement}
@@ -22,15 +23,15 @@ measure-spec =
     μ-loop
     (λ c κs. search needs)
     (λ c κs. search needs)
-    (λ c. search (measuring-start, needs))
+    (λ c. outright (search (measuring-start, needs)))
     (λ c κs. search needs)
     (λ c. search needs)
     (λ c. search needs)
     (λ c. search needs)
     (λ c κs. search needs)
-    (λ c. search (measuring-fits, needs))
+    (λ c. outright (search (measuring-fits, needs)))
     (λ c. search needs)
     (λ c. search needs)
-    (λ c. search (measuring-on, needs))
+    (λ c. outright (search (measuring-on, needs)))
     (λ c. (search (measuring-end, needs), search (measuring-few, needs))) in
     tie.close facts

@@ -2,6 +2,7 @@
 use borrow.Author.Needs.{needs}
 use Prim.Native.Nat.{_-_}
 use lib.ListN.{length}
+use Rattle.text.proofs.Search.{outright}
 use Rattle.elements.specs.Code.{viewOf}
 use Rattle.salvage.proofs.MadeLaws.{Putting, putting-start, putting-room, putting-on, putting-end}
 use Rattle.salvage.proofs.write.put_made.Statement.{statement}
@@ -22,15 +23,15 @@ put-made-spec =
     μ-loop
     (λ c κs. search needs)
     (λ c κs. search needs)
-    (λ c. search (putting-start, needs))
+    (λ c. outright (search (putting-start, needs)))
     (λ c κs. ((c .before .before .before .before .classes .ensures), search needs))
     (λ c. search needs)
     (λ c. search needs)
     (λ c. search needs)
-    (λ c κs. search (putting-room, needs))
+    (λ c κs. outright (search (putting-room, needs)))
     (λ c. search needs)
     (λ c. search needs)
-    (λ c. search (putting-on, needs))
+    (λ c. outright (search (putting-on, needs)))
     (λ c. search needs)
     (λ c. putting-end _ _ _ _ _ _ (c .before .before .before .before .before .before .before .before .pre .1) _ _ _ _ _ (c .before .loop .inv) _
     (c .before .before .stop-of .ensures) (c .loop-test .left)) in

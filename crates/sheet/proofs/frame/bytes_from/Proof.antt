@@ -1,6 +1,7 @@
 -- `sheet::frame::bytes_from` meets its contract.
 -- Assumes nothing.
 use borrow.Author.Needs.{needs}
+use Rattle.text.proofs.Search.{outright}
 use Rattle.sheet.proofs.ReadLaws.{past-end, from-place}
 use Rattle.sheet.proofs.frame.bytes_from.Statement.{statement}
 use Rattle.sheet.proofs.frame.bytes_from.Tie as tie
@@ -10,8 +11,8 @@ bytes-from-spec =
     tie.close
     (tie.spec
     (λ c. search needs)
-    (λ c. search (past-end, needs))
+    (λ c. outright (search (past-end, needs)))
     (λ c. search needs)
     (λ c. search needs)
     (λ c. search needs)
-    (λ c. search (from-place, needs)))
+    (λ c. outright (search (from-place, needs))))

@@ -1,6 +1,7 @@
 -- `sheet::frame::from_byuid` meets its contract.
 -- Assumes nothing.
 use borrow.Author.Needs.{needs}
+use Rattle.text.proofs.Search.{outright}
 use Rattle.sheet.proofs.ReadLaws.{found-within, byuid-refused, byuid-found}
 use Rattle.sheet.proofs.frame.from_byuid.Statement.{statement}
 use Rattle.sheet.proofs.frame.from_byuid.Tie as tie
@@ -13,7 +14,7 @@ from-byuid-spec =
     (λ c κs. search needs)
     (λ c. search needs)
     (λ c. search needs)
-    (λ c κs. search (found-within, needs))
-    (λ c. search (byuid-refused, needs))
-    (λ c. search (byuid-found, needs)) in
+    (λ c κs. outright (search (found-within, needs)))
+    (λ c. outright (search (byuid-refused, needs)))
+    (λ c. outright (search (byuid-found, needs))) in
     tie.close facts

@@ -1,6 +1,7 @@
 -- `sheet::frame::from_deny` meets its contract.
 -- Assumes nothing.
 use borrow.Author.Needs.{needs}
+use Rattle.text.proofs.Search.{outright}
 use Rattle.sheet.proofs.ReadLaws.{found-within, deny-refused, deny-found}
 use Rattle.sheet.proofs.frame.from_deny.Statement.{statement}
 use Rattle.sheet.proofs.frame.from_deny.Tie as tie
@@ -13,7 +14,7 @@ from-deny-spec =
     (λ c κs. search needs)
     (λ c. search needs)
     (λ c. search needs)
-    (λ c κs. search (found-within, needs))
-    (λ c. search (deny-refused, needs))
-    (λ c. search (deny-found, needs)) in
+    (λ c κs. outright (search (found-within, needs)))
+    (λ c. outright (search (deny-refused, needs)))
+    (λ c. outright (search (deny-found, needs))) in
     tie.close facts

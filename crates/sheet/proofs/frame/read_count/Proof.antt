@@ -2,6 +2,7 @@
 -- Assumes nothing.
 use native.Mathlib.Omega.{arith}
 use borrow.Author.Needs.{needs}
+use Rattle.text.proofs.Search.{outright}
 use Rattle.sheet.proofs.ReadLaws.{count-of-four}
 use Rattle.sheet.proofs.frame.read_count.Statement.{statement}
 use Rattle.sheet.proofs.frame.read_count.Tie as tie
@@ -24,4 +25,4 @@ read-count-spec =
     (λ c. omega (arith, c .shared-slice-known4 .given 0, c .shared-slice-known4 .given 1, c .shared-slice-known4 .given 2, c .shared-slice-known4 .given 3))
     (λ c. omega (arith, c .shared-slice-known4 .given 0, c .shared-slice-known4 .given 1, c .shared-slice-known4 .given 2, c .shared-slice-known4 .given 3))
     (λ c. omega (arith, c .shared-slice-known4 .given 0, c .shared-slice-known4 .given 1, c .shared-slice-known4 .given 2, c .shared-slice-known4 .given 3))
-    (λ c. search (count-of-four, needs)))
+    (λ c. outright (search (count-of-four, needs))))

@@ -1,6 +1,7 @@
 -- `sheet::texts::check_portacl` meets its contract.
 -- Assumes nothing.
 use borrow.Author.Needs.{needs}
+use Rattle.text.proofs.Search.{outright}
 use Rattle.sheet.proofs.TextsLaws.{entries-refused, entries-sound}
 use Rattle.sheet.proofs.texts.check_portacl.Statement.{statement}
 use Rattle.sheet.proofs.texts.check_portacl.Tie as tie
@@ -12,5 +13,5 @@ check-portacl-spec =
     (λ c κs. search needs)
     (λ c. search needs)
     (λ c. search needs)
-    (λ c. search (entries-refused, needs))
-    (λ c. search (entries-sound, needs)))
+    (λ c. outright (search (entries-refused, needs)))
+    (λ c. outright (search (entries-sound, needs))))

@@ -1,6 +1,7 @@
 -- `sheet::texts::checked_by` meets its contract: where nothing is looked for, nothing is matched.
 -- Assumes nothing.
 use borrow.Author.Needs.{needs}
+use Rattle.text.proofs.Search.{outright}
 use Rattle.sheet.proofs.TextsLaws.{by-faulty, by-unmatched, by-matched}
 use Rattle.sheet.proofs.texts.checked_by.Statement.{statement}
 use Rattle.sheet.proofs.texts.checked_by.Tie as tie
@@ -12,6 +13,6 @@ checked-by-spec =
     (λ c. search needs)
     (λ c. search needs)
     (λ c. search needs)
-    (λ c. search (by-faulty, needs))
-    (λ c. search (by-unmatched, needs))
-    (λ c. search (by-matched, needs)))
+    (λ c. outright (search (by-faulty, needs)))
+    (λ c. outright (search (by-unmatched, needs)))
+    (λ c. outright (search (by-matched, needs))))

@@ -1,6 +1,7 @@
 -- `sheet::unpack::unpack` meets its contract: the frame, then the texts.
 -- Assumes nothing.
 use borrow.Author.Needs.{needs}
+use Rattle.text.proofs.Search.{outright}
 use Rattle.sheet.proofs.UnpackLaws.{unframed, unpack-refused, unpack-parts}
 use Rattle.sheet.proofs.unpack.unpack.Statement.{statement}
 use Rattle.sheet.proofs.unpack.unpack.Tie as tie
@@ -14,7 +15,7 @@ unpack-spec =
     (λ c κs. search needs)
     (λ c. search needs)
     (λ c. search needs)
-    (λ c. search (unframed, needs))
-    (λ c. search (unpack-refused, needs))
-    (λ c. search (unpack-parts, needs)) in
+    (λ c. outright (search (unframed, needs)))
+    (λ c. outright (search (unpack-refused, needs)))
+    (λ c. outright (search (unpack-parts, needs))) in
     tie.close facts
