@@ -1,0 +1,16 @@
+-- `walk::bytes_from` meets its contract. Assumes nothing.
+use borrow.Author.Needs.{needs}
+use Rattle.lists.proofs.WalkLaws.{past-end, from-place}
+use Rattle.lists.proofs.walk.bytes_from.Statement.{statement}
+use Rattle.lists.proofs.walk.bytes_from.Tie as tie
+
+pub bytes-from-spec : {M : Type 1} → statement M
+bytes-from-spec =
+    let facts = tie.spec
+    (λ c. search needs)
+    (λ c. search (past-end, needs))
+    (λ c. search needs)
+    (λ c. search needs)
+    (λ c. search needs)
+    (λ c. search (from-place, needs)) in
+    tie.close facts

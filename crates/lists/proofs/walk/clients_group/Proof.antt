@@ -1,0 +1,46 @@
+-- `walk::clients_group` meets its contract, by the laws of the walk at what a client element finds. The invariant of its loop: the list finds
+-- what its rest finds, and counts what was looked at besides. Assumes nothing.
+use borrow.Author.Needs.{needs}
+use lib.ListN.{length}
+use Rattle.lines.proofs.RuleLaws.{rest-shorter}
+use Rattle.patterns.specs.Host.{endpoint}
+use Rattle.classes.proofs.ClassLaws.{element-place, element-described}
+use Rattle.elements.specs.Code.{viewOf}
+use Rattle.lists.specs.ListCode.{clientFinds, clientCounts, listLooked}
+use Rattle.lists.proofs.WalkLaws.{Walked, walked-none, group-none, group-except, group-yes, group-ask, included-no}
+use Rattle.lists.proofs.walk.clients_group.Statement.{statement}
+use Rattle.lists.proofs.walk.clients_group.Tie as tie
+
+abbrev Inv-loop : tie.InvT-loop
+Inv-loop class tables notes s client client-name user user-name looked₀ rest₀ looked rest =
+    Walked (listLooked (clientFinds (viewOf tables notes) (endpoint client client-name) user user-name) (clientCounts (viewOf tables notes))) s rest looked
+
+abbrev μ-loop : tie.MeasureT-loop
+μ-loop class tables notes s client client-name user user-name looked₀ rest₀ looked rest = length rest
+
+pub clients-group-spec : {M : Type 1} → statement M
+clients-group-spec =
+    let facts = tie.spec
+    Inv-loop
+    μ-loop
+    (λ c. search (walked-none, needs))
+    (λ c κs. search needs)
+    (λ c κs. search (element-place, needs))
+    (λ c κs. search needs)
+    (λ c. search (group-none, needs))
+    (λ c κs. search needs)
+    (λ c κs. search needs)
+    (λ c. search (group-except, needs))
+    (λ c κs. search (element-place, needs))
+    (λ c κs. search (element-described, needs))
+    (λ c κs. search needs)
+    (λ c. search needs)
+    (λ c κs. search needs)
+    (λ c. search (group-yes, needs))
+    (λ c. search needs)
+    (λ c. search needs)
+    (λ c κs. search needs)
+    (λ c. search (group-ask, needs))
+    (λ c. search (rest-shorter, needs))
+    (λ c. search (included-no, needs)) in
+    tie.close facts
