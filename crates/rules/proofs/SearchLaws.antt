@@ -212,14 +212,14 @@ short-none t h = rw (drop-of-length-le t h) (entries-none (tableCount t))
 
 pub noted-none : (t : List ℕ) (r : Request) → tablesIn t ≡ [] → Noted t r (0 ∷ 0 ∷ 0 ∷ [])
 unfolding notedMatch notedTried notedPlace placeNamed inTable triedIn leadsPast tableNamed first any sumUntil namingOf capped
-noted-none t r e = rw e (record {
-  noted-client = λ n. refl;
-  noted-server = λ n. refl;
-  noted-client-tried = λ n. refl;
-  noted-server-tried = λ n. refl;
-  noted-missing = λ n. refl;
-  noted-deep = λ k n. refl;
-})
+noted-none t r e = record {
+  noted-client = λ n. rw e;
+  noted-server = λ n. rw e;
+  noted-client-tried = λ n. rw e;
+  noted-server-tried = λ n. rw e;
+  noted-missing = λ n. rw e;
+  noted-deep = λ k n. rw e;
+}
 
 -- where there are no tables, and what notes_on gives
 module _ (t : List ℕ) (r : Request) where
