@@ -64,12 +64,17 @@ static const struct recipe passed_daemons = {.form = DAEMONS, .lines = 299};
 
 static const struct recipe naming = {.form = NAMING, .size = GATE_ALLOW_LIMIT};
 static const struct recipe naming_once = {.first = "sshd: /a\n"};
+static const struct recipe naming_shortly = {.form = "a:/d\n", .size = GATE_ALLOW_LIMIT};
+static const struct recipe naming_last = {.form = "a:/_\n", .size = GATE_ALLOW_LIMIT};
+static const struct recipe naming_last_once = {.first = "sshd: /_\n"};
+static const struct recipe naming_alike = {.form = "a:/aaaahhaaa\n", .size = GATE_ALLOW_LIMIT};
 
 enum call { VERDICT, TABLES_VERDICT, SHEET_VERDICT, NAME_MATTERS, BYUID, PORTACL, CHECK, EXPAND, PROPOSE, DROP, LONE_CALLS, ONE_CALL };
 
-/* Tables by their kind: none; the four of 12,288 bytes that make most patterns to try; 64 that each name the last; those that are refused
- * only when all are read: a ring of 20,000, and 65,535 that hold nothing. */
-enum tables { NO_TABLES, NEST, STAR, RING, SMALL };
+/* Tables by their kind: none; the four of 12,288 bytes that make most patterns to try; 64 that each name the last; as many full of the last's
+ * name, which is of one byte, or of nine, where the names differ in their midst alone; those that are refused only when all are read: a ring of
+ * 20,000, and 65,535 that hold nothing. */
+enum tables { NO_TABLES, NEST, STAR, LAST, ALIKE, RING, SMALL };
 
 enum client { V4, V6 };
 
@@ -124,6 +129,10 @@ static const struct test_case cases[] = {
     {"nest: files full of it", TABLES_VERDICT, .allow = &naming, .deny = &naming, .tables = NEST, .expected = {0, GATE_GRANTED, 0}},
     {"nest: full sheet", SHEET_VERDICT, .allow = &naming, .deny = &naming, .byuid = &byuid_lines, .portacl = &portacl_entries, .tables = NEST,
      .expected = {0, GATE_GRANTED, 0}},
+    {"nest: short rules", TABLES_VERDICT, .allow = &naming_shortly, .deny = &naming_shortly, .tables = NEST, .expected = {0, GATE_GRANTED, 0}},
+    {"nest: last of 64, one rule", TABLES_VERDICT, .allow = &naming_last_once, .tables = LAST, .expected = {0, GATE_GRANTED, 0}},
+    {"nest: last of 64", TABLES_VERDICT, .allow = &naming_last, .deny = &naming_last, .tables = LAST, .expected = {0, GATE_GRANTED, 0}},
+    {"nest: last of 64 alike", TABLES_VERDICT, .allow = &naming_alike, .deny = &naming_alike, .tables = ALIKE, .expected = {0, GATE_GRANTED, 0}},
     {"64 tables, one rule", TABLES_VERDICT, .allow = &naming_once, .tables = STAR, .expected = {0, GATE_GRANTED, 0}},
     {"64 tables, files full", TABLES_VERDICT, .allow = &naming, .deny = &naming, .tables = STAR, .expected = {0, GATE_GRANTED, 0}},
     {"tables, and plain rules", TABLES_VERDICT, .deny = &rules, .tables = NEST, .expected = {0, GATE_GRANTED, 0}},
@@ -435,10 +444,42 @@ static void add_tables(unsigned count, enum tables kind) {
     }
 }
 
+/* The name of one of 64 tables: of two bytes, then of one; or of nine, two of them its own. */
+static void name_table(char *name, unsigned i, enum tables kind) {
+    static const char own[] = "abcdefghijklmnopqrstuvwxyz0123456789-._";
+    enum { single = sizeof own - 1, pairs = 64 - single };
+    if (kind == ALIKE)
+        sprintf(name, "aaaa%c%caaa", own[i / 8], own[i % 8]);
+    else if (i < pairs)
+        sprintf(name, "a%c", own[i]);
+    else
+        sprintf(name, "%c", own[i - pairs]);
+}
+
+/* 64 tables, all but the last as full of its name as fits. */
+static void add_full_tables(enum tables kind) {
+    enum { last = 63 };
+    char name[16], word[16] = "/";
+    size_t room = GATE_TABLES_LIMIT - 2;
+    for (unsigned i = 0; i <= last; i++) {
+        name_table(name, i, kind);
+        room -= strlen(name) + 5;
+    }
+    strcat(word, name);
+    for (unsigned i = 0; i <= last; i++) {
+        name_table(name, i, kind);
+        add_table(name, word, i < last ? room / last / (strlen(word) + 1) : 0);
+    }
+}
+
 static void make_tables(enum tables kind) {
-    static const unsigned counts[] = {[NO_TABLES] = 0, [NEST] = 4, [STAR] = 64, [RING] = 20000, [SMALL] = 65535};
+    static const unsigned counts[] = {[NO_TABLES] = 0, [NEST] = 4, [STAR] = 64, [LAST] = 64, [ALIKE] = 64, [RING] = 20000, [SMALL] = 65535};
     tables.len = 0;
     add_number(counts[kind], 2);
+    if (kind == LAST || kind == ALIKE) {
+        add_full_tables(kind);
+        return;
+    }
     if (kind != NEST) {
         add_tables(counts[kind], kind);
         return;

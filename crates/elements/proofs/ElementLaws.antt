@@ -23,7 +23,6 @@ use Rattle.patterns.specs.Host.{Endpoint, nameCase}
 use Rattle.patterns.specs.Pattern.{Pattern, isNameByte, hostPattern}
 use Rattle.tables.specs.Table.{Matcher, isTableName, tableName, patternWith}
 use Rattle.tables.specs.Tried.{lookedWith}
-use Rattle.tables.specs.Code.{tablesIn}
 use Rattle.views.specs.declared.Naming.{Naming}
 use Rattle.views.specs.declared.Naming.the-variants as N
 use Rattle.views.specs.declared.Reference.{Reference}
@@ -122,7 +121,7 @@ module _ (k : ℕ) (tables notes t : List ℕ) (r : Reference) where
   reference-slash x is-x q n is-n is-r = rw (← is-x, q, ← (take-rest t 1), ← is-n) is-r
 
 module _ (k : ℕ) (tables notes n : List ℕ) (y : Bool) (is-y : y ≡ isTableName n) (r : Reference) where
-  pub reference-named : y ≡ true → r ≡ referenceOf k (tablesIn tables) notes n → r ≡ referenceWith k tables notes (given (isTableName n) n)
+  pub reference-named : y ≡ true → r ≡ referenceOf k tables notes n → r ≡ referenceWith k tables notes (given (isTableName n) n)
   reference-named q is-r = rw (← is-y, q) is-r
 
   pub reference-unnamed : y ≡ false → r ≡ noReference → r ≡ referenceWith k tables notes (given (isTableName n) n)
@@ -140,11 +139,11 @@ module _ (k : ℕ) (tables notes e : List ℕ) (at : ℕ) (is-at : at ≡ atSign
 
 -- what a reference tells of the element that it was found for
 module _ (k : ℕ) (tables notes e : List ℕ) (r : Reference) (is-r : r ≡ elementReference k tables notes e) where
-  pub reference-naming : r .naming ≡ elementNaming (namingOf (tablesIn tables) notes) e
+  pub reference-naming : r .naming ≡ elementNaming (namingOf tables notes) e
   unfolding elementReference elementNaming referenceOf
   reference-naming = ap (λ (x : Reference). x .naming) is-r ∙ by (namedTable e)
     where
-      by : (o : Option (List ℕ)) → referenceWith k tables notes o .naming ≡ namingWith (namingOf (tablesIn tables) notes) o
+      by : (o : Option (List ℕ)) → referenceWith k tables notes o .naming ≡ namingWith (namingOf tables notes) o
       by none = refl
       by (some n) = refl
 
@@ -156,11 +155,11 @@ module _ (k : ℕ) (tables notes e : List ℕ) (r : Reference) (is-r : r ≡ ele
       by none = refl
       by (some n) = refl
 
-  pub reference-looked : 1 + r .tried ≡ elementLooked (notedTried k (tablesIn tables) notes) e
+  pub reference-looked : 1 + r .tried ≡ elementLooked (notedTried k tables notes) e
   unfolding elementReference elementLooked referenceOf
   reference-looked = ap (λ (x : Reference). 1 + x .tried) is-r ∙ by (namedTable e)
     where
-      by : (o : Option (List ℕ)) → 1 + referenceWith k tables notes o .tried ≡ lookedWith (notedTried k (tablesIn tables) notes) o
+      by : (o : Option (List ℕ)) → 1 + referenceWith k tables notes o .tried ≡ lookedWith (notedTried k tables notes) o
       by none = refl
       by (some n) = refl
 

@@ -27,7 +27,6 @@ use Rattle.patterns.specs.declared.HostSeen.{HostSeen}
 use Rattle.patterns.specs.Code.{hostSeen}
 use Rattle.tables.specs.Table.{Matcher, isTableName}
 use Rattle.tables.specs.Tried.{capped}
-use Rattle.tables.specs.Code.{tablesIn}
 use Rattle.views.specs.declared.Naming.{Naming}
 use Rattle.views.specs.declared.Naming.the-variants as N
 use Rattle.views.specs.declared.Reference.{Reference}
@@ -47,7 +46,7 @@ use Rattle.elements.specs.Element.{Element, foundIf, clientReserved, dae
 
 -- what a named table matches by the word k of the notes
 unfoldable pub noted : ℕ → List ℕ → List ℕ → Matcher
-noted k tables notes n h = notedMatch k (tablesIn tables) notes n
+noted k tables notes n h = notedMatch k tables notes n
 
 pub record View : Type 0 where
   pub server : Matcher
@@ -60,9 +59,9 @@ abbrev pub viewOf : List ℕ → List ℕ → View
 viewOf tables notes = record {
   server = noted 1 tables notes;
   client = noted 0 tables notes;
-  serverTried = notedTried 1 (tablesIn tables) notes;
-  clientTried = notedTried 0 (tablesIn tables) notes;
-  naming = namingOf (tablesIn tables) notes;
+  serverTried = notedTried 1 tables notes;
+  clientTried = notedTried 0 tables notes;
+  naming = namingOf tables notes;
 }
 
 -- what is known of a table that is not named at all
@@ -72,7 +71,7 @@ noReference = record { naming = N.Sound; matches = false; tried = 0 }
 -- what the notes say of the table that an element names
 abbrev pub referenceWith : ℕ → List ℕ → List ℕ → Option (List ℕ) → Reference
 referenceWith k tables notes none = noReference
-referenceWith k tables notes (some n) = referenceOf k (tablesIn tables) notes n
+referenceWith k tables notes (some n) = referenceOf k tables notes n
 
 unfoldable pub elementReference : ℕ → List ℕ → List ℕ → List ℕ → Reference
 elementReference k tables notes e = referenceWith k tables notes (namedTable e)

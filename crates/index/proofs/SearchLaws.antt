@@ -197,7 +197,7 @@ module _ (sheet : List ℕ) (p : Parts) (ok : unpack sheet ≡ answered p) where
 
   -- ## By notes on the tables
 
-  module _ (r : Request) (notes : List ℕ) (is-noted : Noted (tablesIn ta) r notes) where
+  module _ (r : Request) (notes : List ℕ) (is-noted : Noted ta r notes) where
     abbrev ts : List PatternTable
     ts = tablesOf ta
 
@@ -246,7 +246,7 @@ module _ (sheet : List ℕ) (p : Parts) (allow deny : List ℕ) (ready : Ready s
   pub ready-few : length (tablesIn t) ≤ 64
   ready-few = rw is-t (few-tables sheet p (ready .accepted))
 
-  pub searched-same : (r : Request) (notes : List ℕ) → Noted (tablesIn t) r notes
+  pub searched-same : (r : Request) (notes : List ℕ) → Noted t r notes
       → (x : Searched) → x ≡ seekBoth sheet p (record { view = viewOf t notes; request = r }) → x ≡ searchedAt sheet p r
   searched-same r notes h x is-x =
       is-x ∙ ap (λ (u : List ℕ). seekBoth sheet p (record { view = viewOf u notes; request = r })) is-t

@@ -193,7 +193,7 @@ module _ (allow deny t : List ℕ) (sound : contentsFault allow deny t ≡ none)
       by false e h = refl
       by true e h = absurd (true≢false (ap (λ (o : Option Refusal). elim o [ none ↦ false | some x ↦ true ]) h))
 
-  settled-noted : tablesIn t ≡ tablesOf t → (r : Request) (notes : List ℕ) → Noted (tablesIn t) r notes
+  settled-noted : tablesIn t ≡ tablesOf t → (r : Request) (notes : List ℕ) → Noted t r notes
       → settledBy (finderBy (viewOf t notes) r) allow deny ≡ settled (matchOf (tablesOf t)) allow deny r
   unfolding noted
   settled-noted whole r notes h =
@@ -202,7 +202,7 @@ module _ (allow deny t : List ℕ) (sound : contentsFault allow deny t ≡ none)
       (λ n. h .noted-client n ∙ ap (λ (y : List Table). matchOf y n (r .client)) whole)
       allow deny (files .0) (files .1)
 
-  pub settle-is : tablesIn t ≡ tablesOf t → (r : Request) (notes : List ℕ) → Noted (tablesIn t) r notes
+  pub settle-is : tablesIn t ≡ tablesOf t → (r : Request) (notes : List ℕ) → Noted t r notes
       → (x : Matter) → x ≡ matterBy (settledBy (finderBy (viewOf t notes) r) allow deny) → x ≡ matterBy (settled (matchOf (tablesOf t)) allow deny r)
   settle-is whole r notes h x is-x = is-x ∙ ap matterBy (settled-noted whole r notes h)
 

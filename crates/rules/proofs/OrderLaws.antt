@@ -21,6 +21,7 @@ use Rattle.tables.proofs.TableLaws.{names-none, names-some, bad-told}
 use Rattle.views.specs.declared.Naming.{Naming}
 use Rattle.views.specs.declared.Naming.the-variants as Naming
 use Rattle.views.specs.View.{namingOf, Deep}
+use Rattle.views.proofs.NamesLaws.{other-place}
 use Rattle.views.proofs.ViewLaws.{closed, naming-right, names-only, unjudged}
 use Rattle.elements.specs.Code.{View, viewOf}
 use Rattle.lists.specs.Code.{missingBy, deepBy, isMissingName, isDeepName}
@@ -79,7 +80,7 @@ lines-plain x allow deny p is-p =
     is-p ∙ ap₂ (λ (a b : Option Refusal). passOf (a orElse b) none) (text S.allow allow) (text S.deny deny)
   where
     text : (s : S.Section) (t : List ℕ) → hostsFaultAt (s .order) (viewOf x []) t ≡ hostsFault s t
-    text s t = judged-plain s (viewOf x []) t (λ n. ap isDeepName (unjudged (tablesIn x) n)) (λ n. ap isMissingName (unjudged (tablesIn x) n))
+    text s t = judged-plain s (viewOf x []) t (λ n. ap isDeepName (unjudged x n)) (λ n. ap isMissingName (unjudged x n))
 
 -- ## Names that are missing
 
@@ -93,14 +94,14 @@ module _ (allow deny t : List ℕ) (sound : linesFault allow deny ≡ none) wher
     names = viewOf t (0 ∷ 0 ∷ [])
 
     shallow : (n : List ℕ) → deepBy names n ≡ false
-    shallow n = ap isDeepName (names-only (tablesIn t) n) ∙ by (isMissing (tablesIn t) n)
+    shallow n = ap isDeepName (names-only t n) ∙ by (isMissing (tablesIn t) n)
       where
         by : (b : Bool) → isDeepName (if b then Naming.Missing else Naming.Sound) ≡ false
         by true = refl
         by false = refl
 
     missing : (n : List ℕ) → missingBy names n ≡ isMissing (tablesOf t) n
-    missing n = missing-of (tablesIn t) (0 ∷ 0 ∷ []) n (λ e. omega arith) ∙ ap (λ (y : List Table). isMissing y n) whole
+    missing n = missing-of t (0 ∷ 0 ∷ []) n (other-place t (0 ∷ 0 ∷ []) n (λ e. omega arith)) (λ e. omega arith) ∙ ap (λ (y : List Table). isMissing y n) whole
 
     lines-missing : linesFaultBy names allow deny ≡ missingBoth (tablesOf t) allow deny
     unfolding linesFaultBy missingBoth
@@ -168,12 +169,15 @@ module _ (allow deny t : List ℕ) (named : Named allow deny t) where
     filled : length notes ≡ 0 → ⊥
     filled e = omega arith
 
+    many : length notes ≡ 259 → ⊥
+    many e = omega arith
+
     missing-v : (n : List ℕ) → missingBy v n ≡ isMissing (tablesOf t) n
-    missing-v n = missing-of (tablesIn t) notes n filled ∙ ap (λ (y : List Table). isMissing y n) (named .named-whole)
+    missing-v n = missing-of t notes n (other-place t notes n many) filled ∙ ap (λ (y : List Table). isMissing y n) (named .named-whole)
 
     deep-v : (n : List ℕ) → deepBy v n ≡ leadsPast (tablesOf t) 4 n
     deep-v n =
-        ap isDeepName (naming-right (tablesIn t) (closed (tablesIn t) (rw (named .named-whole) closing)) notes deep filled n)
+        ap isDeepName (naming-right (tablesIn t) (closed (tablesIn t) (rw (named .named-whole) closing)) notes deep t n (other-place t notes n many) filled)
         ∙ noted-deep-of (tablesIn t) n ∙ ap (λ (y : List Table). leadsPast y 4 n) (named .named-whole)
 
     none-missing : (missingFault (tablesOf t) S.allow allow ≡ none) × (missingFault (tablesOf t) S.deny deny ≡ none)

@@ -33,9 +33,10 @@ use Rattle.tables.proofs.TableLaws.{missing-place, refusedBy, names-told, bad-t
 use Rattle.views.specs.declared.Naming.{Naming}
 use Rattle.views.specs.declared.Naming.the-variants as Naming
 use Rattle.views.specs.View.{namingOf, notedMatch, notedTried, placedNaming, isDeep}
+use Rattle.views.specs.Names.{notedPlace}
 use Rattle.views.specs.Level.{Viewed, ViewedBy}
 use Rattle.views.specs.declared.Viewing.{Viewing}
-use Rattle.views.proofs.ViewLaws.{match-client, match-server, tried-client, tried-server, view-notes, closed, naming-right}
+use Rattle.views.proofs.ViewLaws.{view-place, match-client, match-server, tried-client, tried-server, view-notes, closed, naming-right}
 use Rattle.elements.specs.declared.Found.{Found}
 use Rattle.elements.specs.declared.Found.the-variants.{No, Ask}
 use Rattle.elements.specs.declared.request.Request.{Request as Places}
@@ -148,10 +149,12 @@ view-looked s c m x y r server client =
 
 -- ## Notes
 
-pub missing-of : (ts : List Table) (notes n : List ℕ) → (length notes ≡ 0 → ⊥) → isMissingName (namingOf ts notes n) ≡ isMissing ts n
+pub missing-of : (t notes n : List ℕ) → notedPlace t notes n ≡ placeNamed (tablesIn t) n → (length notes ≡ 0 → ⊥)
+    → isMissingName (namingOf t notes n) ≡ isMissing (tablesIn t) n
 unfolding namingOf
-missing-of ts [] n full = absurd (full refl)
-missing-of ts (x ∷ notes) n full = by (placeNamed ts n) ∙ sym (missing-place ts n)
+missing-of t [] n e full = absurd (full refl)
+missing-of t (x ∷ notes) n e full =
+    by (notedPlace t (x ∷ notes) n) ∙ ap (λ (o : Option ℕ). not (isSome o)) e ∙ sym (missing-place (tablesIn t) n)
   where
     by : (o : Option ℕ) → isMissingName (placedNaming (x ∷ notes) o) ≡ not (isSome o)
     by none = refl
@@ -182,17 +185,21 @@ noted-deep-of ts n = by (isMissing ts n) refl
         sound true = refl
         sound false = refl
 
-pub noted-view : (ts : List Table) (r : Request) (notes : List ℕ) → Viewed ts (r .client) (r .server) notes → length ts ≤ 64 → (length notes ≡ 0 → ⊥)
-    → Noted ts r notes
-noted-view ts r notes is-v few full = record {
-  noted-client = match-client ts (r .client) (r .server) notes is-v few;
-  noted-server = match-server ts (r .client) (r .server) notes is-v few;
-  noted-client-tried = tried-client ts (r .client) (r .server) notes is-v few;
-  noted-server-tried = tried-server ts (r .client) (r .server) notes is-v few;
-  noted-missing = λ n. missing-of ts notes n full;
-  noted-deep = λ e n. ap isDeepName (naming-right ts (closed ts e) notes (view-notes ts (r .client) (r .server) notes is-v few) full n)
-      ∙ noted-deep-of ts n;
+pub noted-view : (t : List ℕ) (r : Request) (notes : List ℕ) → Viewed t (r .client) (r .server) notes → (length notes ≡ 0 → ⊥) → Noted t r notes
+noted-view t r notes is-v full = record {
+  noted-client = match-client t (r .client) (r .server) notes is-v;
+  noted-server = match-server t (r .client) (r .server) notes is-v;
+  noted-client-tried = tried-client t (r .client) (r .server) notes is-v;
+  noted-server-tried = tried-server t (r .client) (r .server) notes is-v;
+  noted-missing = λ n. missing-of t notes n (found n) full;
+  noted-deep = λ e n.
+      ap isDeepName
+      (naming-right (tablesIn t) (closed (tablesIn t) e) notes (view-notes t (r .client) (r .server) notes is-v) t n (found n) full)
+      ∙ noted-deep-of (tablesIn t) n;
 }
+  where
+    found : (n : List ℕ) → notedPlace t notes n ≡ placeNamed (tablesIn t) n
+    found n = view-place t (r .client) (r .server) notes is-v n
 
 entries-none : (k : ℕ) → entries k [] ≡ []
 unfolding entries readTable afterCount fromDigits
@@ -203,40 +210,40 @@ pub short-none : (t : List ℕ) → length t ≤ 2 → tablesIn t ≡ []
 unfolding tablesIn
 short-none t h = rw (drop-of-length-le t h) (entries-none (tableCount t))
 
-pub noted-none : (ts : List Table) (r : Request) → ts ≡ [] → Noted ts r (0 ∷ 0 ∷ 0 ∷ [])
-unfolding notedMatch notedTried placeNamed inTable triedIn leadsPast tableNamed first any sumUntil namingOf capped
-noted-none ts r e = rw e (record {
-  noted-client = λ n. refl;
-  noted-server = λ n. refl;
-  noted-client-tried = λ n. refl;
-  noted-server-tried = λ n. refl;
-  noted-missing = λ n. refl;
-  noted-deep = λ k n. refl;
-})
+pub noted-none : (t : List ℕ) (r : Request) → tablesIn t ≡ [] → Noted t r (0 ∷ 0 ∷ 0 ∷ [])
+unfolding notedMatch notedTried notedPlace placeNamed inTable triedIn leadsPast tableNamed first any sumUntil namingOf capped
+noted-none t r e = record {
+  noted-client = λ n. rw e;
+  noted-server = λ n. rw e;
+  noted-client-tried = λ n. rw e;
+  noted-server-tried = λ n. rw e;
+  noted-missing = λ n. rw e;
+  noted-deep = λ k n. rw e;
+}
 
 -- where there are no tables, and what notes_on gives
 module _ (t : List ℕ) (r : Request) where
-  pub notes-none : length t ≤ 2 → Noted (tablesIn t) r (0 ∷ 0 ∷ 0 ∷ [])
-  notes-none h = noted-none (tablesIn t) r (short-none t h)
+  pub notes-none : length t ≤ 2 → Noted t r (0 ∷ 0 ∷ 0 ∷ [])
+  notes-none h = noted-none t r (short-none t h)
 
-notes-view : (t names : List ℕ) (q : Places) (a b notes : List ℕ) → length (tablesIn t) ≤ 64 → length notes ≡ 131 → a ≡ bytesAt names (q .«client_name»)
-    → b ≡ bytesAt names (q .«server_name») → Viewed (tablesIn t) (endpoint (q .client) a) (endpoint (q .server) b) notes
-    → Noted (tablesIn t) (requestAt names q) notes
-notes-view t names q a b notes few long is-a is-b is-v =
-    noted-view (tablesIn t) (requestAt names q) notes
-    (subst (λ (x : List ℕ). Viewed (tablesIn t) (endpoint (q .client) x) (endpoint (q .server) (bytesAt names (q .«server_name»))) notes) is-a
-    (subst (λ (y : List ℕ). Viewed (tablesIn t) (endpoint (q .client) a) (endpoint (q .server) y) notes) is-b is-v)) few (λ e. omega arith)
+notes-view : (t names : List ℕ) (q : Places) (a b notes : List ℕ) → length notes ≡ 259 → a ≡ bytesAt names (q .«client_name»)
+    → b ≡ bytesAt names (q .«server_name») → Viewed t (endpoint (q .client) a) (endpoint (q .server) b) notes
+    → Noted t (requestAt names q) notes
+notes-view t names q a b notes long is-a is-b is-v =
+    noted-view t (requestAt names q) notes
+    (subst (λ (x : List ℕ). Viewed t (endpoint (q .client) x) (endpoint (q .server) (bytesAt names (q .«server_name»))) notes) is-a
+    (subst (λ (y : List ℕ). Viewed t (endpoint (q .client) a) (endpoint (q .server) y) notes) is-b is-v)) (λ e. omega arith)
 
-pub view-noted : (t names : List ℕ) (q : Places) (a b : List ℕ) (v : Viewing) → length (tablesIn t) ≤ 64 → length (v .notes) ≡ 131
+pub view-noted : (t names : List ℕ) (q : Places) (a b : List ℕ) (v : Viewing) → length (v .notes) ≡ 259
     → a ≡ bytesAt names (q .«client_name») → b ≡ bytesAt names (q .«server_name»)
-    → ViewedBy (tablesIn t) (endpoint (q .client) a) (endpoint (q .server) b) v → NotedBy (tablesIn t) (requestAt names q) v
-view-noted t names q a b v few long is-a is-b is-v = record {
-  by-notes = notes-view t names q a b (v .notes) few long is-a is-b (is-v .viewed-notes);
+    → ViewedBy t (endpoint (q .client) a) (endpoint (q .server) b) v → NotedBy t (requestAt names q) v
+view-noted t names q a b v long is-a is-b is-v = record {
+  by-notes = notes-view t names q a b (v .notes) long is-a is-b (is-v .viewed-notes);
   by-clean = is-v .viewed-clean;
 }
 
-pub naming-noted : (ts : List Table) (r : Request) (notes : List ℕ) → Noted ts r notes → NamingNoted ts notes
-naming-noted ts r notes h = record { naming-missing = h .noted-missing; naming-deep = h .noted-deep }
+pub naming-noted : (t : List ℕ) (r : Request) (notes : List ℕ) → Noted t r notes → NamingNoted t notes
+naming-noted t r notes h = record { naming-missing = h .noted-missing; naming-deep = h .noted-deep }
 
 -- ## What the search finds
 
@@ -366,7 +373,7 @@ module _ (allow deny t : List ℕ) (whole : tablesIn t ≡ tablesOf t) (r : Requ
     unfolding tablesDoubtful
     clear = or-nones limits misnamed unsound (sym is-x ∙ e)
 
-    module _ (notes : List ℕ) (is-noted : Noted (tablesIn t) r notes) where
+    module _ (notes : List ℕ) (is-noted : Noted t r notes) where
       abbrev v : View
       v = viewOf t notes
 

@@ -3,7 +3,7 @@
 --   linesFaultBy v allow deny  == the same, and by the tables that they name, as the view v has them
 --   contentsFault allow deny t == the refusal of both files and of the tables of t
 --   fromTables, fromDepth      == what is left of tablesFault once no file names a table that is missing, and once no table does
---   Noted ts r notes           == the notes say of each table whether it matches the hosts of r, what is tried in it, and whether it may be named
+--   Noted t r notes            == the notes say of each table whether it matches the hosts of r, what is tried in it, and whether it may be named
 --   findingOf o s, findingBy p == what a search finds
 -- Assumes nothing: these are definitions.
 use Prim.Native.Nat.{ℕ}
@@ -81,23 +81,23 @@ pub record Named (allow deny t : List ℕ) : Type 0 where
 
 -- ## The search
 
-pub record Noted (ts : List Table) (r : Request) (notes : List ℕ) : Type 0 where
-  pub noted-client : (n : List ℕ) → notedMatch 0 ts notes n ≡ matchOf ts n (r .client)
-  pub noted-server : (n : List ℕ) → notedMatch 1 ts notes n ≡ matchOf ts n (r .server)
-  pub noted-client-tried : (n : List ℕ) → notedTried 0 ts notes n ≡ capped (triedOf ts n (r .client))
-  pub noted-server-tried : (n : List ℕ) → notedTried 1 ts notes n ≡ capped (triedOf ts n (r .server))
-  pub noted-missing : (n : List ℕ) → isMissingName (namingOf ts notes n) ≡ isMissing ts n
-  pub noted-deep : tableNameFault ts ≡ none → (n : List ℕ) → isDeepName (namingOf ts notes n) ≡ leadsPast ts depth n
+pub record Noted (t : List ℕ) (r : Request) (notes : List ℕ) : Type 0 where
+  pub noted-client : (n : List ℕ) → notedMatch 0 t notes n ≡ matchOf (tablesIn t) n (r .client)
+  pub noted-server : (n : List ℕ) → notedMatch 1 t notes n ≡ matchOf (tablesIn t) n (r .server)
+  pub noted-client-tried : (n : List ℕ) → notedTried 0 t notes n ≡ capped (triedOf (tablesIn t) n (r .client))
+  pub noted-server-tried : (n : List ℕ) → notedTried 1 t notes n ≡ capped (triedOf (tablesIn t) n (r .server))
+  pub noted-missing : (n : List ℕ) → isMissingName (namingOf t notes n) ≡ isMissing (tablesIn t) n
+  pub noted-deep : tableNameFault (tablesIn t) ≡ none → (n : List ℕ) → isDeepName (namingOf t notes n) ≡ leadsPast (tablesIn t) depth n
 
 -- the same of names alone
 -- the same of what is found of the tables, which tells too whether their texts are known to be sound
-pub record NotedBy (ts : List Table) (r : Request) (v : Viewing) : Type 0 where
-  pub by-notes : Noted ts r (v .notes)
-  pub by-clean : CleanTexts (v .clean) ts
+pub record NotedBy (t : List ℕ) (r : Request) (v : Viewing) : Type 0 where
+  pub by-notes : Noted t r (v .notes)
+  pub by-clean : CleanTexts (v .clean) (tablesIn t)
 
-pub record NamingNoted (ts : List Table) (notes : List ℕ) : Type 0 where
-  pub naming-missing : (n : List ℕ) → isMissingName (namingOf ts notes n) ≡ isMissing ts n
-  pub naming-deep : tableNameFault ts ≡ none → (n : List ℕ) → isDeepName (namingOf ts notes n) ≡ leadsPast ts depth n
+pub record NamingNoted (t notes : List ℕ) : Type 0 where
+  pub naming-missing : (n : List ℕ) → isMissingName (namingOf t notes n) ≡ isMissing (tablesIn t) n
+  pub naming-deep : tableNameFault (tablesIn t) ≡ none → (n : List ℕ) → isDeepName (namingOf t notes n) ≡ leadsPast (tablesIn t) depth n
 
 abbrev pub tablesOver : List ℕ → Bool
 tablesOver t = ltb 64 (length (tablesIn t)) || ltb (S.tables .limit) (length t)

@@ -43,7 +43,7 @@ pub enum Finding {
 // Notes on at most 64 tables for a request, and whether all their patterns are known to be sound.
 fn view_on(tables: &[u8], names: &[u8], request: Request) -> Viewing
     requires { ⌜ length (tablesIn (now tables)) ≤ 64 ⌝ }
-    ensures { λ r. ⌜ NotedBy (tablesIn (now (tables .entry))) (requestAt (now (names .entry)) request) r ⌝ }
+    ensures { λ r. ⌜ NotedBy (now (tables .entry)) (requestAt (now (names .entry)) request) r ⌝ }
 {
     let client = request.client;
     let server = request.server;
@@ -57,18 +57,18 @@ fn view_on(tables: &[u8], names: &[u8], request: Request) -> Viewing
 }
 
 // Notes on at most 64 tables for a request.
-pub fn notes_on(tables: &[u8], names: &[u8], request: Request) -> [u64; 131]
+pub fn notes_on(tables: &[u8], names: &[u8], request: Request) -> [u64; 259]
     requires { ⌜ length (tablesIn (now tables)) ≤ 64 ⌝ }
-    ensures { λ r. ⌜ Noted (tablesIn (now (tables .entry))) (requestAt (now (names .entry)) request) r ⌝ }
+    ensures { λ r. ⌜ Noted (now (tables .entry)) (requestAt (now (names .entry)) request) r ⌝ }
 {
     let viewing = view_on(tables, names, request);
     viewing.notes
 }
 
 // Notes that tell which of at most 64 tables may be named.
-pub fn naming_notes(tables: &[u8]) -> [u64; 131]
+pub fn naming_notes(tables: &[u8]) -> [u64; 259]
     requires { ⌜ length (tablesIn (now tables)) ≤ 64 ⌝ }
-    ensures { λ r. ⌜ NamingNoted (tablesIn (now (tables .entry))) r ⌝ }
+    ensures { λ r. ⌜ NamingNoted (now (tables .entry)) r ⌝ }
 {
     notes_on(tables, &tables[..0], nobody())
 }

@@ -105,7 +105,7 @@ bad-by v l = by
         fault (some f) = refl
         fault none = named (ruleNames (missingBy v) u) (ruleNames (deepBy v) u)
 
-pub bad-told : (t notes : List ℕ) → NamingNoted (tablesIn t) notes → tablesIn t ≡ tablesOf t → tableNameFault (tablesOf t) ≡ none
+pub bad-told : (t notes : List ℕ) → NamingNoted t notes → tablesIn t ≡ tablesOf t → tableNameFault (tablesOf t) ≡ none
     → badBy (viewOf t notes) ≡ badLine (tablesOf t)
 unfolding badLine
 bad-told t notes h whole sound = fun-ext (λ l.

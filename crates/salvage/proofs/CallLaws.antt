@@ -317,7 +317,7 @@ module _ (a f b p t d e : List ℕ) (c : Checked) (is-c : c ≡ checkedOf (fiveF
       (rw k, (rw k, rw k))
 
   module _ (q : c ≡ C.Sound) where
-    pub parts-done : (notes : List ℕ) → NamingNoted (tablesIn t) notes → (r : WrittenTwo) (d' e' : List ℕ)
+    pub parts-done : (notes : List ℕ) → NamingNoted t notes → (r : WrittenTwo) (d' e' : List ℕ)
         → Did d e (handedOut (madeTexts (viewOf t notes) (texts a f b p t)) (madeList (viewOf t notes) (texts a f b p t)) (length d) (length e)) r d' e'
         → Did d e outcome r d' e'
     unfolding salvageTexts

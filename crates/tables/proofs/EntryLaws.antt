@@ -143,6 +143,19 @@ read-whole t p e = by (leb (1 + nameLen t) (length t)) refl (leb (4 + textLen t)
         subst (λ q. Whole t q) (some-same (entryAt t) p (sym (entry-some t h k) ∙ e)) (entry-whole t h k)
 
 -- as entry_span finds it
+pub read-count : (t : List ℕ) (p : Table × List ℕ) → readTable t ≡ some p → getD t 0 0 ≡ length (p .0 .name)
+read-count t p e = by (leb (1 + nameLen t) (length t)) refl (leb (4 + textLen t) (length (textAt t))) refl
+  where
+    by : (a : Bool) → leb (1 + nameLen t) (length t) ≡ a → (b : Bool) → leb (4 + textLen t) (length (textAt t)) ≡ b → getD t 0 0 ≡ length (p .0 .name)
+    by false f b g = absurd (none-some (sym (name-none t (leb-false (1 + nameLen t) (length t) f)) ∙ e))
+    by true f false g =
+        absurd (none-some (sym (text-none t (leb-true (1 + nameLen t) (length t) f) (leb-false (4 + textLen t) (length (textAt t)) g)) ∙ e))
+    by true f true g =
+        let h : 1 + nameLen t ≤ length t = leb-true (1 + nameLen t) (length t) f in
+        let k : 4 + textLen t ≤ length (textAt t) = leb-true (4 + textLen t) (length (textAt t)) g in
+        let q : entryAt t ≡ p = some-same (entryAt t) p (sym (entry-some t h k) ∙ e) in
+        sym (count-of-one t (λ z. omega arith)) ∙ sym (name-long t h k) ∙ ap (λ (x : Table × List ℕ). length (x .0 .name)) q
+
 pub span-empty : (s : List ℕ) → length s ≡ 0 → (r : EntrySpan) → r ≡ cutEntry → r ≡ entrySpan s
 unfolding entrySpan readTable afterCount fromDigits
 span-empty [] h r e = e

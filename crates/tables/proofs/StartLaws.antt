@@ -107,7 +107,7 @@ pub record EndOf (t rest : List ℕ) : Type 0 where
   pub end-within : length rest ≤ length t
   pub end-is : rest ≡ drop (length t - length rest) t
 
-end-at : (t : List ℕ) (b : ℕ) (rest : List ℕ) → rest ≡ drop b t → EndOf t rest
+pub end-at : (t : List ℕ) (b : ℕ) (rest : List ℕ) → rest ≡ drop b t → EndOf t rest
 end-at t b rest e = by (leb b (length t)) refl
   where
     long : length rest ≡ length t - b
@@ -124,11 +124,11 @@ end-at t b rest e = by (leb b (length t)) refl
         let y : length t ≤ b = omega arith in
         record { end-within = omega (arith, long); end-is = e ∙ drop-of-length-le t y ∙ sym (drop-of-length-le t z) }
 
-end-more : (t rest : List ℕ) → EndOf t rest → (e : ℕ) → EndOf t (drop e rest)
+pub end-more : (t rest : List ℕ) → EndOf t rest → (e : ℕ) → EndOf t (drop e rest)
 end-more t rest h e =
     end-at t (length t - length rest + e) (drop e rest) (ap (drop e) (h .end-is) ∙ drop-drop e (length t - length rest) t)
 
-entry-rest-is : (s : List ℕ) (span : EntrySpan) → span ≡ entrySpan s → span .cut ≡ false → drop (span .end) s ≡ afterEntry s
+pub entry-rest-is : (s : List ℕ) (span : EntrySpan) → span ≡ entrySpan s → span .cut ≡ false → drop (span .end) s ≡ afterEntry s
 entry-rest-is s span is-span whole = sym (take-rest s (span .end)) ∙ rest-part s span is-span whole
 
 -- ## Starts

@@ -21,15 +21,17 @@ use Rattle.patterns.specs.Pattern.{hostPattern}
 use Rattle.patterns.specs.Code.{matchesPattern, hostMatches}
 use Rattle.tables.specs.Table.{Table, isTableName, tableName, tableNamed, patternsOf, patternWith, inTable}
 use Rattle.tables.specs.Tried.{lookedWith, triedIn, capped}
-use Rattle.tables.specs.Code.{placeNamed, words}
+use Rattle.tables.specs.Code.{tablesIn, placeNamed, words}
 use Rattle.tables.proofs.EntryLaws.{none-some}
 use Rattle.tables.proofs.TableLaws.{patterns-words, named-none, named-place}
 use Rattle.views.specs.declared.Rows.{Rows}
+use Rattle.views.specs.Names.{NamesNoted, Told}
 use Rattle.views.specs.View.{bitAt, Marks, anyBelow, noTable, tableAt, isNamed, wordNames, wordsName, textNames, isOwn, ownMatch}
 use Rattle.views.specs.View.{WordCount, OwnOf, NamesOf, RowsOf}
 use Rattle.views.specs.View.{nameLeads, wordLeads, textLeads, pastAt, markedAt, countedAt, placedCount, notedMatch, notedTried}
 use Rattle.views.specs.Level.{wordMatches, wordCount, matchesAt, triedAt, HostLevel, Level, ViewedBy, FirstOf, Risen, Lifted}
 use Rattle.views.specs.Level.{wordPlace, sumWithin, textTried, triedAbove, AllAbove}
+use Rattle.views.proofs.NamesLaws.{names-kept}
 use Rattle.views.proofs.BitLaws.{bit-none, bit-ones, any-below-same}
 use Rattle.views.proofs.CountLaws.{capped-small, capped-add, sum-same, sum-same-where, within-same, sum-within}
 use Rattle.views.proofs.DeepLaws.{any-same, place-below, text-same}
@@ -192,12 +194,10 @@ module _ (ts : List Table) (few : length ts ≤ 64) (h : Endpoint) (k d : ℕ) (
   counted-right none within = refl
   counted-right (some i) within = let l : i < length ts = within i refl in rw (lt-ltb i 64 (omega arith)) (level .level-tried i l)
 
-  pub noted-match : (n : List ℕ) → notedMatch k ts notes n ≡ inTable ts (suc d) n h
-  unfolding notedMatch
+  pub noted-match : (n : List ℕ) → holds (markedAt k notes) (placeNamed ts n) ≡ inTable ts (suc d) n h
   noted-match n = marked-right (placeNamed ts n) (place-below ts n) ∙ sym (name-matches ts h d n)
 
-  pub noted-tried : (n : List ℕ) → notedTried k ts notes n ≡ capped (triedIn ts (suc d) n h)
-  unfolding notedTried
+  pub noted-tried : (n : List ℕ) → placedCount k notes (placeNamed ts n) ≡ capped (triedIn ts (suc d) n h)
   noted-tried n = counted-right (placeNamed ts n) (place-below ts n) ∙ ap capped (sym (name-tried ts h d n))
 
 -- ## The texts by themselves
@@ -486,19 +486,16 @@ module _ (ts : List Table) (first : List ℕ) (depth : ℕ) where
 -- ## All
 
 -- the notes that the texts by themselves tell, with those that lead on
-pub view-right : (ts : List Table) (client server : Endpoint) → length ts ≤ 64 → (x : Rows) → RowsOf ts client server x → length (x .notes) ≡ 131 → (d : ℕ)
+risen-first : (ts : List Table) (client server : Endpoint) → length ts ≤ 64 → (x : Rows) → RowsOf ts client server x → length (x .notes) ≡ 131 → (d : ℕ)
     → Marks d 64 (λ i. bitAt i 0 || anyBelow (λ j. bitAt j (getD (x .names) i 0) && bitAt j 18446744073709551615) 64)
-    → (r : List ℕ) → Risen ts (set (x .notes) 2 d) 3 r → ViewedBy ts client server (record { notes = r; clean = x .clean })
+    → (r : List ℕ) → Risen ts (set (x .notes) 2 d) 3 r → Level ts client server 3 r
 unfolding Risen Marks pastAt
-view-right ts client server few x is-x long d is-d r is-r = record {
-  viewed-notes = is-r client server (record {
-    first-client = own-kept client 0 (λ e. omega arith) (is-x .rows-client);
-    first-server = own-kept server 1 (λ e. omega arith) (is-x .rows-server);
-    first-deep = subst (λ (m : ℕ). Marks m (length ts) (pastAt ts 1)) (sym (getD-set-same (x .notes) 2 d 0 (omega arith)))
-        (deep-above ts few (x .names) (is-x .rows-names) 0 18446744073709551615 (λ i. true) (λ j l. bit-ones j (omega arith)) d is-d 0 (λ i. refl) refl);
-  });
-  viewed-clean = is-x .rows-clean;
-}
+risen-first ts client server few x is-x long d is-d r is-r = is-r client server (record {
+  first-client = own-kept client 0 (λ e. omega arith) (is-x .rows-client);
+  first-server = own-kept server 1 (λ e. omega arith) (is-x .rows-server);
+  first-deep = subst (λ (m : ℕ). Marks m (length ts) (pastAt ts 1)) (sym (getD-set-same (x .notes) 2 d 0 (omega arith)))
+      (deep-above ts few (x .names) (is-x .rows-names) 0 18446744073709551615 (λ i. true) (λ j l. bit-ones j (omega arith)) d is-d 0 (λ i. refl) refl);
+})
   where
     own-kept : (h : Endpoint) (k : ℕ) → (k ≡ 2 → ⊥) → OwnOf ts h k (x .notes) → OwnOf ts h k (set (x .notes) 2 d)
     own-kept h k n own = record {
@@ -506,3 +503,32 @@ view-right ts client server few x is-x long d is-d r is-r = record {
       own-tried = λ i l. subst (λ (m : ℕ). WordCount (isOwn h) (words (tableAt ts i .text)) m)
           (sym (getD-set-other (x .notes) 2 (3 + 64 * k + i) d 0 (λ e. omega arith))) (own .own-tried i l);
     }
+
+-- what is told stays told where it is written over the front of other notes
+module _ (ts : List Table) (few : length ts ≤ 64) (made told notes : List ℕ) (k : Told made told notes) where
+  host-told : (h : Endpoint) (m d : ℕ) → m < 2 → HostLevel ts h m d told → HostLevel ts h m d notes
+  host-told h m d l x = record {
+    level-bits = subst (λ (w : ℕ). Marks w (length ts) (matchesAt ts h d)) (sym (k .told-front m (omega arith))) (x .level-bits);
+    level-tried = λ i j. k .told-front (3 + 64 * m + i) (omega arith) ∙ x .level-tried i j;
+  }
+
+  level-told : (client server : Endpoint) (d : ℕ) → Level ts client server d told → Level ts client server d notes
+  level-told client server d x = record {
+    level-client = host-told client 0 d (omega arith) (x .level-client);
+    level-server = host-told server 1 d (omega arith) (x .level-server);
+    level-deep = subst (λ (w : ℕ). Marks w (length ts) (pastAt ts (suc d))) (sym (k .told-front 2 (omega arith))) (x .level-deep);
+  }
+
+pub view-right : (t : List ℕ) (client server : Endpoint) → length (tablesIn t) ≤ 64 → (made : List ℕ) → NamesNoted t made
+    → (x : Rows) → RowsOf (tablesIn t) client server x → length (x .notes) ≡ 131 → (d : ℕ)
+    → Marks d 64 (λ i. bitAt i 0 || anyBelow (λ j. bitAt j (getD (x .names) i 0) && bitAt j 18446744073709551615) 64)
+    → (told : List ℕ) → Risen (tablesIn t) (set (x .notes) 2 d) 3 told → (notes : List ℕ) → Told made told notes
+    → ViewedBy t client server (record { notes = notes; clean = x .clean })
+view-right t client server few made is-made x is-x long d is-d told is-told notes is-notes = record {
+  viewed-notes = record {
+    viewed-level = level-told (tablesIn t) few made told notes is-notes client server 3
+        (risen-first (tablesIn t) client server few x is-x long d is-d told is-told);
+    viewed-names = names-kept t made told notes is-made is-notes;
+  };
+  viewed-clean = is-x .rows-clean;
+}

@@ -1,5 +1,6 @@
 pub mod BitLaws
 pub mod CountLaws
+pub mod NamesLaws
 pub mod NoteLaws
 pub mod DeepLaws
 pub mod RowLaws

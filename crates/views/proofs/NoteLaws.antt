@@ -21,6 +21,7 @@ use Rattle.views.specs.declared.Naming.{Naming}
 use Rattle.views.specs.declared.Naming.the-variants as Naming
 use Rattle.views.specs.declared.Reference.{Reference}
 use Rattle.views.specs.View.{bitAt, isDeep, namingAt, markedAt, placedNaming, namingOf, notedMatch, referenceOf, nameLeads, wordLeads, textLeads}
+use Rattle.views.specs.Names.{notedPlace}
 use Rattle.views.specs.View.{countedAt, placedCount, notedTried}
 use Rattle.views.proofs.BitLaws.{bit-none}
 
@@ -102,32 +103,32 @@ pub full-notes : (l : List ℕ) → (length l ≡ 0 → ⊥) → isEmpty l ≡ f
 full-notes [] h = absurd (h refl)
 full-notes (x ∷ l) h = refl
 
-module _ (k : ℕ) (ts : List Table) (notes n : List ℕ) where
-  pub look-unjudged : length notes ≡ 0 → reference Naming.Sound false 0 ≡ referenceOf k ts notes n
+module _ (k : ℕ) (t : List ℕ) (notes n : List ℕ) where
+  pub look-unjudged : length notes ≡ 0 → reference Naming.Sound false 0 ≡ referenceOf k t notes n
   unfolding referenceOf namingOf notedMatch notedTried
   look-unjudged h = by notes h
     where
       by : (l : List ℕ) → length l ≡ 0
           → reference Naming.Sound false 0
-          ≡ reference (if isEmpty l then Naming.Sound else placedNaming l (placeNamed ts n)) (holds (markedAt k l) (placeNamed ts n))
-          (placedCount k l (placeNamed ts n))
-      by [] h = ap₂ (reference Naming.Sound) (sym (no-match k (placeNamed ts n))) (sym (no-count k (placeNamed ts n)))
+          ≡ reference (if isEmpty l then Naming.Sound else placedNaming l (notedPlace t l n)) (holds (markedAt k l) (notedPlace t l n))
+          (placedCount k l (notedPlace t l n))
+      by [] h = ap₂ (reference Naming.Sound) (sym (no-match k (notedPlace t [] n))) (sym (no-count k (notedPlace t [] n)))
       by (x ∷ l) h = absurd (omega arith)
 
   module _ (full : length notes ≡ 0 → ⊥) where
-    judged : (o : Option ℕ) → placeNamed ts n ≡ o
-        → referenceOf k ts notes n ≡ reference (placedNaming notes o) (holds (markedAt k notes) o) (placedCount k notes o)
+    judged : (o : Option ℕ) → notedPlace t notes n ≡ o
+        → referenceOf k t notes n ≡ reference (placedNaming notes o) (holds (markedAt k notes) o) (placedCount k notes o)
     unfolding referenceOf namingOf notedMatch notedTried
     judged o e = rw (full-notes notes full, e)
 
-    pub look-missing : (p : Place) → p ≡ placeOf (placeNamed ts n) → p ≡ Place.Missing → reference Naming.Missing false 0 ≡ referenceOf k ts notes n
-    look-missing p is-p e = sym (judged none (place-none (placeNamed ts n) (sym e ∙ is-p)))
+    pub look-missing : (p : Place) → p ≡ placeOf (notedPlace t notes n) → p ≡ Place.Missing → reference Naming.Missing false 0 ≡ referenceOf k t notes n
+    look-missing p is-p e = sym (judged none (place-none (notedPlace t notes n) (sym e ∙ is-p)))
 
-    pub look-found : (p : Place) → p ≡ placeOf (placeNamed ts n) → (i : ℕ) → p ≡ Place.At i → (x : Naming) → x ≡ namingAt notes i
-        → (m : Bool) → m ≡ markedAt k notes i → (c : ℕ) → c ≡ countedAt k notes i → reference x m c ≡ referenceOf k ts notes n
+    pub look-found : (p : Place) → p ≡ placeOf (notedPlace t notes n) → (i : ℕ) → p ≡ Place.At i → (x : Naming) → x ≡ namingAt notes i
+        → (m : Bool) → m ≡ markedAt k notes i → (c : ℕ) → c ≡ countedAt k notes i → reference x m c ≡ referenceOf k t notes n
     look-found p is-p i e x is-x m is-m c is-c =
         ap₂ (λ (y : Naming) (b : Bool). reference y b c) is-x is-m ∙ ap (reference (namingAt notes i) (markedAt k notes i)) is-c
-        ∙ sym (judged (some i) (place-some i (placeNamed ts n) (sym e ∙ is-p)))
+        ∙ sym (judged (some i) (place-some i (notedPlace t notes n) (sym e ∙ is-p)))
 
 -- ## Of a text
 

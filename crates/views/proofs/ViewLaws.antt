@@ -18,39 +18,51 @@ use Rattle.text.proofs.BasicLaws.{or-false as or-none}
 use Rattle.patterns.specs.Host.{Endpoint}
 use Rattle.tables.specs.Table.{Table, tableName, isMissing, patterns, matchOf, leadsPast, firstTable, isMisnamed, tableNameFault}
 use Rattle.tables.specs.Tried.{capped, triedOf}
-use Rattle.tables.specs.Code.{placeNamed, tablesChecked}
+use Rattle.tables.specs.Code.{tablesIn, placeNamed, tablesChecked}
 use Rattle.tables.proofs.EntryLaws.{none-some}
 use Rattle.tables.proofs.TableLaws.{patterns-words, missing-place, named-place, numbered, first-numbered, names-zero}
 use Rattle.views.specs.declared.Naming.{Naming}
 use Rattle.views.specs.declared.Naming.the-variants as Naming
 use Rattle.views.specs.View.{Marks, noTable, tableAt, nameLeads, wordLeads, textLeads, pastAt, isDeep, Deep, placedNaming, namingOf}
-use Rattle.views.specs.View.{notedMatch, notedTried}
+use Rattle.views.specs.Names.{notedPlace}
+use Rattle.views.specs.View.{markedAt, placedCount, notedMatch, notedTried}
 use Rattle.views.specs.Level.{Viewed}
+use Rattle.views.proofs.NamesLaws.{noted-place, other-place}
 use Rattle.views.proofs.NoteLaws.{full-notes, no-match, deep-outside}
 use Rattle.views.proofs.DeepLaws.{place-below}
 use Rattle.views.proofs.LevelLaws.{any-same-where, noted-match, noted-tried}
 
 -- ## What the notes of a view tell of a name
 
-module _ (ts : List Table) (client server : Endpoint) (notes : List ℕ) (is-v : Viewed ts client server notes) (few : length ts ≤ 64) (n : List ℕ) where
-  pub match-client : notedMatch 0 ts notes n ≡ matchOf ts n client
-  match-client = noted-match ts few client 0 3 notes (is-v .level-client) n
+module _ (t : List ℕ) (client server : Endpoint) (notes : List ℕ) (is-v : Viewed t client server notes) (n : List ℕ) where
+  few : length (tablesIn t) ≤ 64
+  few = is-v .viewed-names .names-few
 
-  pub match-server : notedMatch 1 ts notes n ≡ matchOf ts n server
-  match-server = noted-match ts few server 1 3 notes (is-v .level-server) n
+  pub view-place : notedPlace t notes n ≡ placeNamed (tablesIn t) n
+  view-place = noted-place t notes n (is-v .viewed-names)
 
-  pub tried-client : notedTried 0 ts notes n ≡ capped (triedOf ts n client)
-  tried-client = noted-tried ts few client 0 3 notes (is-v .level-client) n
+  pub match-client : notedMatch 0 t notes n ≡ matchOf (tablesIn t) n client
+  unfolding notedMatch
+  match-client = ap (holds (markedAt 0 notes)) view-place ∙ noted-match (tablesIn t) few client 0 3 notes (is-v .viewed-level .level-client) n
 
-  pub tried-server : notedTried 1 ts notes n ≡ capped (triedOf ts n server)
-  tried-server = noted-tried ts few server 1 3 notes (is-v .level-server) n
+  pub match-server : notedMatch 1 t notes n ≡ matchOf (tablesIn t) n server
+  unfolding notedMatch
+  match-server = ap (holds (markedAt 1 notes)) view-place ∙ noted-match (tablesIn t) few server 1 3 notes (is-v .viewed-level .level-server) n
 
-pub view-notes : (ts : List Table) (client server : Endpoint) (notes : List ℕ) → Viewed ts client server notes → length ts ≤ 64 → Deep ts 4 notes
+  pub tried-client : notedTried 0 t notes n ≡ capped (triedOf (tablesIn t) n client)
+  unfolding notedTried
+  tried-client = ap (placedCount 0 notes) view-place ∙ noted-tried (tablesIn t) few client 0 3 notes (is-v .viewed-level .level-client) n
+
+  pub tried-server : notedTried 1 t notes n ≡ capped (triedOf (tablesIn t) n server)
+  unfolding notedTried
+  tried-server = ap (placedCount 1 notes) view-place ∙ noted-tried (tablesIn t) few server 1 3 notes (is-v .viewed-level .level-server) n
+
+pub view-notes : (t : List ℕ) (client server : Endpoint) (notes : List ℕ) → Viewed t client server notes → Deep (tablesIn t) 4 notes
 unfolding Deep isDeep Marks
-view-notes ts client server notes is-v few i l =
-    let q : i % 64 ≡ i = omega arith in
-    let z : i / 64 ≡ 0 = omega arith in
-    rw (q, z) (is-v .level-deep i l)
+view-notes t client server notes is-v i l =
+    let q : i % 64 ≡ i = omega (arith, is-v .viewed-names .names-few) in
+    let z : i / 64 ≡ 0 = omega (arith, is-v .viewed-names .names-few) in
+    rw (q, z) (is-v .viewed-level .level-deep i l)
 
 -- ## What leads too deep
 
@@ -110,11 +122,11 @@ module _ (ts : List Table) (sound : Closed ts) where
     unfolding Deep
     deep-right n i e = deep i (place-below ts n i e) ∙ past-right 4 n i e
 
-    -- what the notes say of a name
-    pub naming-right : (length notes ≡ 0 → ⊥) → (n : List ℕ)
-        → namingOf ts notes n ≡ (if isMissing ts n then Naming.Missing else if leadsPast ts 4 n then Naming.Deep else Naming.Sound)
+    -- what the notes say of a name, where they find its place
+    pub naming-right : (t : List ℕ) (n : List ℕ) → notedPlace t notes n ≡ placeNamed ts n → (length notes ≡ 0 → ⊥)
+        → namingOf t notes n ≡ (if isMissing ts n then Naming.Missing else if leadsPast ts 4 n then Naming.Deep else Naming.Sound)
     unfolding namingOf
-    naming-right full n = rw (full-notes notes full, missing-place ts n) (by (placeNamed ts n) refl)
+    naming-right t n is-place full = rw (full-notes notes full, missing-place ts n, is-place) (by (placeNamed ts n) refl)
       where
         by : (o : Option ℕ) → placeNamed ts n ≡ o
             → placedNaming notes o ≡ (if not (isSome o) then Naming.Missing else if leadsPast ts 4 n then Naming.Deep else Naming.Sound)
@@ -123,21 +135,21 @@ module _ (ts : List Table) (sound : Closed ts) where
 
 -- ## Where depth is not judged, and where nothing is
 
-module _ (ts : List Table) (n : List ℕ) where
+module _ (t : List ℕ) (n : List ℕ) where
   -- notes of two words tell a missing name and no more
-  pub names-only : namingOf ts (0 ∷ 0 ∷ []) n ≡ (if isMissing ts n then Naming.Missing else Naming.Sound)
+  pub names-only : namingOf t (0 ∷ 0 ∷ []) n ≡ (if isMissing (tablesIn t) n then Naming.Missing else Naming.Sound)
   unfolding namingOf
-  names-only = rw (missing-place ts n) (by (placeNamed ts n))
+  names-only = rw (missing-place (tablesIn t) n, other-place t (0 ∷ 0 ∷ []) n (λ e. omega arith)) (by (placeNamed (tablesIn t) n))
     where
       by : (o : Option ℕ) → placedNaming (0 ∷ 0 ∷ []) o ≡ (if not (isSome o) then Naming.Missing else Naming.Sound)
       by none = refl
       by (some i) = ap (λ (b : Bool). if b then Naming.Deep else Naming.Sound) (sym (deep-outside (0 ∷ 0 ∷ []) i (i / 64 + 2) refl (omega arith)))
 
   -- no notes say that a table may be named and matches nothing
-  pub unjudged : namingOf ts [] n ≡ Naming.Sound
+  pub unjudged : namingOf t [] n ≡ Naming.Sound
   unfolding namingOf
   unjudged = refl
 
-  pub unmatched : (k : ℕ) → notedMatch k ts [] n ≡ false
+  pub unmatched : (k : ℕ) → notedMatch k t [] n ≡ false
   unfolding notedMatch
-  unmatched k = no-match k (placeNamed ts n)
+  unmatched k = no-match k (notedPlace t [] n)

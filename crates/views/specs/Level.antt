@@ -15,9 +15,10 @@ use Rattle.text.specs.Basics.{if_then_else_, _>>=_, holds, any, sumUntil}
 use Rattle.patterns.specs.Host.{Endpoint}
 use Rattle.tables.specs.Table.{Table, tableName, patternWith, inTable}
 use Rattle.tables.specs.Tried.{lookedWith, triedIn, capped}
-use Rattle.tables.specs.Code.{words, placeNamed, CleanTexts}
+use Rattle.tables.specs.Code.{tablesIn, words, placeNamed, CleanTexts}
 use Rattle.tables.specs.declared.entry.Place.{Place}
 use Rattle.tables.specs.declared.entry.Place.the-variants as Place
+use Rattle.views.specs.Names.{NamesNoted}
 use Rattle.views.specs.declared.Viewing.{Viewing}
 use Rattle.views.specs.declared.level.Tally.{Tally}
 use Rattle.views.specs.declared.level.Counts.{Counts}
@@ -50,12 +51,13 @@ pub record Level (ts : List Table) (client server : Endpoint) (d : ℕ) (notes :
   pub level-deep : Marks (getD notes 2 0) (length ts) (pastAt ts (suc d))
 
 -- four deep from a rule: a table that it names, and three more
-abbrev pub Viewed : List Table → Endpoint → Endpoint → List ℕ → Type 0
-Viewed ts client server notes = Level ts client server 3 notes
+pub record Viewed (t : List ℕ) (client server : Endpoint) (notes : List ℕ) : Type 0 where
+  pub viewed-level : Level (tablesIn t) client server 3 notes
+  pub viewed-names : NamesNoted t notes
 
-pub record ViewedBy (ts : List Table) (client server : Endpoint) (r : Viewing) : Type 0 where
-  pub viewed-notes : Viewed ts client server (r .notes)
-  pub viewed-clean : CleanTexts (r .clean) ts
+pub record ViewedBy (t : List ℕ) (client server : Endpoint) (r : Viewing) : Type 0 where
+  pub viewed-notes : Viewed t client server (r .notes)
+  pub viewed-clean : CleanTexts (r .clean) (tablesIn t)
 
 -- the notes that the texts by themselves tell
 pub record FirstOf (ts : List Table) (client server : Endpoint) (notes : List ℕ) : Type 0 where

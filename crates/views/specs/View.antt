@@ -5,8 +5,8 @@
 --   namingOf, notedMatch, notedTried == what notes say of a named table: whether it may be named, whether it matches, what is tried in it
 -- Notes are words: a bit for each table that matches the client in the first, for each that matches the server in the second, and
 -- from the third on for each that leads too deep. Where there are at most 64 tables, the third is the last of these, and after it
--- stand the counts of what is tried: 64 for the client, 64 for the server. Where there are no notes at all, names are not judged and
--- nothing matches.
+-- stand the counts of what is tried, 64 for the client, 64 for the server, and what tells their names. Where there are no notes at all, names are
+-- not judged and nothing matches.
 -- Assumes nothing: these are definitions.
 use Prim.Native.Nat.{ℕ, zero, suc, _+_, _*_, _/_, _%_, _^_, _<_}
 use mathlib.Core.Bool.{Bool, true, false, not, _&&_, _||_}
@@ -22,6 +22,7 @@ use Rattle.patterns.specs.Host.{Endpoint}
 use Rattle.patterns.specs.Code.{hostMatches}
 use Rattle.tables.specs.Table.{Table, table, tableName}
 use Rattle.tables.specs.Code.{words, placeNamed, CleanWords, CleanTexts}
+use Rattle.views.specs.Names.{notedPlace}
 use Rattle.views.specs.declared.Naming.{Naming}
 use Rattle.views.specs.declared.Naming.the-variants as Naming
 use Rattle.views.specs.declared.Reference.{Reference}
@@ -160,16 +161,16 @@ abbrev pub placedNaming : List ℕ → Option ℕ → Naming
 placedNaming notes none = Naming.Missing
 placedNaming notes (some i) = namingAt notes i
 
-unfoldable pub namingOf : List Table → List ℕ → List ℕ → Naming
-namingOf ts notes n = if isEmpty notes then Naming.Sound else placedNaming notes (placeNamed ts n)
+unfoldable pub namingOf : List ℕ → List ℕ → List ℕ → Naming
+namingOf t notes n = if isEmpty notes then Naming.Sound else placedNaming notes (notedPlace t notes n)
 
 -- what the notes say of a named table: whether it matches
-unfoldable pub notedMatch : ℕ → List Table → List ℕ → List ℕ → Bool
-notedMatch k ts notes n = holds (markedAt k notes) (placeNamed ts n)
+unfoldable pub notedMatch : ℕ → List ℕ → List ℕ → List ℕ → Bool
+notedMatch k t notes n = holds (markedAt k notes) (notedPlace t notes n)
 
 -- how many patterns the notes say are tried in a named table; k: 0 for the client, 1 for the server; 0 where there is no such table, or its place is 64 or more
-unfoldable pub notedTried : ℕ → List Table → List ℕ → List ℕ → ℕ
-notedTried k ts notes n = placedCount k notes (placeNamed ts n)
+unfoldable pub notedTried : ℕ → List ℕ → List ℕ → List ℕ → ℕ
+notedTried k t notes n = placedCount k notes (notedPlace t notes n)
 
-unfoldable pub referenceOf : ℕ → List Table → List ℕ → List ℕ → Reference
-referenceOf k ts notes n = record { naming = namingOf ts notes n; matches = notedMatch k ts notes n; tried = notedTried k ts notes n }
+unfoldable pub referenceOf : ℕ → List ℕ → List ℕ → List ℕ → Reference
+referenceOf k t notes n = record { naming = namingOf t notes n; matches = notedMatch k t notes n; tried = notedTried k t notes n }

@@ -1,5 +1,5 @@
 // The notes of tables one depth after the other, with the remaining depth falling.
-//   raised(tables, starts, names, first, depth) == notes so deep, made from those that the texts by themselves tell
+//   raised(tables, named, names, first, depth) == notes so deep, made from those that the texts by themselves tell
 // A table that does not lead on keeps what is told of it. Of the others the texts are gone over in order, no further than to the first pattern
 // of their own that matches: a pattern that names a table counts one and what is tried there, and ends the count where that table matches.
 ghost use mathlib.Core.Path.{_≡_};
@@ -7,13 +7,15 @@ ghost use mathlib.Core.Bool.{_&&_};
 ghost use Prim.Native.Nat.{_+_, _≤_, _<_};
 ghost use lib.Dec.{eqb};
 ghost use lib.ListN.{length, getD};
-ghost use Rattle.tables.specs.Code.{tablesIn, words, placeOf, Starts};
+ghost use Rattle.tables.specs.Code.{tablesIn, words, placeOf};
 ghost use Rattle.tables.specs.Tried.{capped};
+ghost use Rattle.views.specs.Names.{NamesNoted};
 ghost use Rattle.views.specs.View.{NamesOf};
 ghost use Rattle.views.specs.Level.{wordPlace, markedBy, countedBy, tallied, textTried, counts, triedAbove, AllAbove, Lifted, Risen};
 use super::counted_at;
 use super::has_bit;
 use super::is_marked;
+use super::names::find_named;
 use super::step;
 use tables::entry::Place;
 use tables::entry::after_count;
@@ -21,7 +23,6 @@ use tables::entry::after_entry;
 use tables::entry::entry_span;
 use tables::entry::entry_text;
 use tables::entry::table_count;
-use tables::start::find_by;
 use tables::word::after_word;
 use tables::word::names_table;
 use tables::word::word;
@@ -50,12 +51,12 @@ fn add(a: u64, b: u64) -> u64
 }
 
 // The place of the table that the pattern w names.
-fn word_place(tables: &[u8], starts: &[usize; 512], w: &[u8]) -> Place
-    requires { ⌜ Starts (now tables) (now starts) ⌝ }
+fn word_place(tables: &[u8], named: &[u64; 259], w: &[u8]) -> Place
+    requires { ⌜ NamesNoted (now tables) (now named) ⌝ }
     ensures { λ r. ⌜ r ≡ placeOf (wordPlace (tablesIn (now (tables .entry))) (now (w .entry))) ⌝ }
 {
     if names_table(w) {
-        return find_by(tables, starts, &w[1..]);
+        return find_named(tables, named, &w[1..]);
     }
     Place::Missing
 }
@@ -100,13 +101,13 @@ fn are_done(client: Tally, server: Tally) -> bool
 // What is tried of a text, by notes of the tables that it names; client, server: how many of its words at most.
 fn text_tried(
     tables: &[u8],
-    starts: &[usize; 512],
+    named: &[u64; 259],
     text: &[u8],
     notes: &[u64; 131],
     client: u64,
     server: u64,
 ) -> Counts
-    requires { ⌜ Starts (now tables) (now starts) ⌝ }
+    requires { ⌜ NamesNoted (now tables) (now named) ⌝ }
     ensures { λ r.
         ⌜ r
         ≡ counts (textTried 0 (tablesIn (now (tables .entry))) (now (notes .entry)) client (words (now (text .entry))))
@@ -136,7 +137,7 @@ fn text_tried(
                 server: s.tried,
             };
         }
-        let place = word_place(tables, starts, w);
+        let place = word_place(tables, named, w);
         let c_next = tally_place(c, notes, 0, place);
         let s_next = tally_place(s, notes, 1, place);
         c = c_next;
@@ -149,21 +150,21 @@ fn text_tried(
 // What is tried in the table at the place i, one deeper than the notes below tell.
 fn tried_above(
     tables: &[u8],
-    starts: &[usize; 512],
+    named: &[u64; 259],
     text: &[u8],
     first: &[u64; 131],
     below: &[u64; 131],
     i: usize,
 ) -> Counts
     requires { ⌜ i < 64 ⌝ }
-    requires { ⌜ Starts (now tables) (now starts) ⌝ }
+    requires { ⌜ NamesNoted (now tables) (now named) ⌝ }
     ensures { λ r.
         ⌜ r
         ≡ counts (triedAbove 0 (tablesIn (now (tables .entry))) (now (first .entry)) (now (below .entry)) i (now (text .entry)))
         (triedAbove 1 (tablesIn (now (tables .entry))) (now (first .entry)) (now (below .entry)) i (now (text .entry))) ⌝ }
 {
     if has_bit(below[2], i) {
-        return text_tried(tables, starts, text, below, first[3 + i], first[67 + i]);
+        return text_tried(tables, named, text, below, first[3 + i], first[67 + i]);
     }
     Counts {
         client: below[3 + i],
@@ -174,12 +175,12 @@ fn tried_above(
 // The counts of all tables, one deeper than the notes below tell.
 fn all_above(
     tables: &[u8],
-    starts: &[usize; 512],
+    named: &[u64; 259],
     first: &[u64; 131],
     below: &[u64; 131],
 ) -> [u64; 131]
     requires { ⌜ length (tablesIn (now tables)) ≤ 64 ⌝ }
-    requires { ⌜ Starts (now tables) (now starts) ⌝ }
+    requires { ⌜ NamesNoted (now tables) (now named) ⌝ }
     ensures { λ r. ⌜ AllAbove (tablesIn (now (tables .entry))) (now (first .entry)) (now (below .entry)) r ⌝ }
 {
     let n = table_count(tables);
@@ -191,7 +192,7 @@ fn all_above(
         if span.cut {
             return notes;
         }
-        let tried = tried_above(tables, starts, entry_text(rest, span), first, below, i);
+        let tried = tried_above(tables, named, entry_text(rest, span), first, below, i);
         notes[3 + i] = tried.client;
         notes[67 + i] = tried.server;
         let next = after_entry(rest, span);
@@ -204,17 +205,17 @@ fn all_above(
 // Notes one deeper than those below.
 fn lifted(
     tables: &[u8],
-    starts: &[usize; 512],
+    named: &[u64; 259],
     names: &[u64; 64],
     first: &[u64; 131],
     below: &[u64; 131],
 ) -> [u64; 131]
     requires { ⌜ length (tablesIn (now tables)) ≤ 64 ⌝ }
-    requires { ⌜ Starts (now tables) (now starts) ⌝ }
+    requires { ⌜ NamesNoted (now tables) (now named) ⌝ }
     requires { ⌜ NamesOf (tablesIn (now tables)) (now names) ⌝ }
     ensures { λ r. ⌜ Lifted (tablesIn (now (tables .entry))) (now (first .entry)) (now (below .entry)) r ⌝ }
 {
-    let mut notes = all_above(tables, starts, first, below);
+    let mut notes = all_above(tables, named, first, below);
     notes[0] = step(names, first[0], below[0]);
     notes[1] = step(names, first[1], below[1]);
     notes[2] = step(names, 0, below[2]);
@@ -224,22 +225,22 @@ fn lifted(
 // Notes where the tables that tables name may be entered depth deep. Where none leads on, they are those of one less deep.
 pub fn raised(
     tables: &[u8],
-    starts: &[usize; 512],
+    named: &[u64; 259],
     names: &[u64; 64],
     first: &[u64; 131],
     depth: u32,
 ) -> [u64; 131]
     requires { ⌜ length (tablesIn (now tables)) ≤ 64 ⌝ }
-    requires { ⌜ Starts (now tables) (now starts) ⌝ }
+    requires { ⌜ NamesNoted (now tables) (now named) ⌝ }
     requires { ⌜ NamesOf (tablesIn (now tables)) (now names) ⌝ }
     ensures { λ r. ⌜ Risen (tablesIn (now (tables .entry))) (now (first .entry)) depth r ⌝ }
 {
     if depth == 0 {
         return *first;
     }
-    let below = raised(tables, starts, names, first, depth - 1);
+    let below = raised(tables, named, names, first, depth - 1);
     if below[2] == 0 {
         return below;
     }
-    lifted(tables, starts, names, first, &below)
+    lifted(tables, named, names, first, &below)
 }

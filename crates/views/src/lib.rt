@@ -11,12 +11,17 @@ ghost use Prim.Native.Nat.{_+_, _≤_, _<_};
 ghost use lib.Dec.{eqb};
 ghost use lib.ListN.{length, getD};
 ghost use Rattle.patterns.specs.Host.{endpoint};
-ghost use Rattle.tables.specs.Code.{tablesIn, words, Starts};
+ghost use Rattle.tables.specs.Code.{tablesIn, words};
 ghost use Rattle.text.specs.Basics.{if_then_else_};
 ghost use Rattle.views.specs.View.{bitAt, anyBelow, Marks, isNamed, wordNames, RowOf, RowsOf, joinedRow};
 ghost use Rattle.views.specs.View.{isDeep, nameLeads, wordLeads, textLeads, Above, Deep};
+ghost use Rattle.views.specs.Names.{NamesNoted};
 ghost use Rattle.views.specs.Level.{ViewedBy};
 ghost use Rattle.views.specs.View.{namingAt, markedAt, countedAt, referenceOf};
+use names::find_named;
+use names::find_noted;
+use names::note_names;
+use names::put_told;
 use patterns::Host;
 use patterns::pattern::host_read;
 use tables::entry::Place;
@@ -26,8 +31,6 @@ use tables::entry::entry_span;
 use tables::entry::entry_text;
 use tables::entry::find;
 use tables::entry::table_count;
-use tables::start::find_by;
-use tables::start::note_starts;
 use tables::word::after_word;
 use tables::word::has_slash;
 use tables::word::names_table;
@@ -36,6 +39,7 @@ use tables::word::word_span;
 use text::equal_fold;
 
 pub mod level;
+pub mod names;
 
 // Whether a table may be named: it is there and leads no more than four deep.
 pub enum Naming {
@@ -71,7 +75,7 @@ pub struct Rows {
 
 // Notes on the tables, and whether all their patterns are known to be sound.
 pub struct Viewing {
-    pub notes: [u64; 131],
+    pub notes: [u64; 259],
     pub clean: bool,
 }
 
@@ -104,23 +108,23 @@ pub fn has_bit(m: u64, i: usize) -> bool
 }
 
 // The bit of the table of that name, if there is one.
-fn named_bit(tables: &[u8], starts: &[usize; 512], name: &[u8]) -> u64
-    requires { ⌜ Starts (now tables) (now starts) ⌝ }
+fn named_bit(tables: &[u8], named: &[u64; 259], name: &[u8]) -> u64
+    requires { ⌜ NamesNoted (now tables) (now named) ⌝ }
     ensures { λ r. ⌜ Marks r 64 (isNamed (tablesIn (now (tables .entry))) (now (name .entry))) ⌝ }
 {
-    match find_by(tables, starts, name) {
+    match find_named(tables, named, name) {
         Place::Missing => 0,
         Place::At(i) => bit(i),
     }
 }
 
 // The bit of the table that the pattern w names, if it names one.
-fn word_bit(tables: &[u8], starts: &[usize; 512], w: &[u8]) -> u64
-    requires { ⌜ Starts (now tables) (now starts) ⌝ }
+fn word_bit(tables: &[u8], named: &[u64; 259], w: &[u8]) -> u64
+    requires { ⌜ NamesNoted (now tables) (now named) ⌝ }
     ensures { λ r. ⌜ Marks r 64 (wordNames (tablesIn (now (tables .entry))) (now (w .entry))) ⌝ }
 {
     if names_table(w) {
-        return named_bit(tables, starts, &w[1..]);
+        return named_bit(tables, named, &w[1..]);
     }
     0
 }
@@ -128,20 +132,20 @@ fn word_bit(tables: &[u8], starts: &[usize; 512], w: &[u8]) -> u64
 // What the pattern w gives.
 fn word_row(
     tables: &[u8],
-    starts: &[usize; 512],
+    named: &[u64; 259],
     w: &[u8],
     client: Host,
     client_name: &[u8],
     server: Host,
     server_name: &[u8],
 ) -> Row
-    requires { ⌜ Starts (now tables) (now starts) ⌝ }
+    requires { ⌜ NamesNoted (now tables) (now named) ⌝ }
     ensures { λ r.
         ⌜ RowOf (tablesIn (now (tables .entry))) (endpoint client (now («client_name» .entry))) (endpoint server (now («server_name» .entry)))
         (now (w .entry) ∷ []) r ⌝ }
 {
     if has_slash(w) {
-        let named = word_bit(tables, starts, w);
+        let named = word_bit(tables, named, w);
         return Row {
             names: named,
             client: false,
@@ -193,14 +197,14 @@ fn join_rows(row: Row, seen: Row) -> Row
 // What a text gives.
 fn text_row(
     tables: &[u8],
-    starts: &[usize; 512],
+    named: &[u64; 259],
     text: &[u8],
     client: Host,
     client_name: &[u8],
     server: Host,
     server_name: &[u8],
 ) -> Row
-    requires { ⌜ Starts (now tables) (now starts) ⌝ }
+    requires { ⌜ NamesNoted (now tables) (now named) ⌝ }
     ensures { λ r.
         ⌜ RowOf (tablesIn (now (tables .entry))) (endpoint client (now («client_name» .entry))) (endpoint server (now («server_name» .entry)))
         (words (now (text .entry))) r ⌝ }
@@ -220,7 +224,7 @@ fn text_row(
         if w.len() == 0 {
             return row;
         }
-        let seen = word_row(tables, starts, w, client, client_name, server, server_name);
+        let seen = word_row(tables, named, w, client, client_name, server, server_name);
         let joined = join_rows(row, seen);
         row = joined;
         let next = after_word(rest, at);
@@ -231,14 +235,14 @@ fn text_row(
 // What every text gives.
 fn all_rows(
     tables: &[u8],
-    starts: &[usize; 512],
+    named: &[u64; 259],
     client: Host,
     client_name: &[u8],
     server: Host,
     server_name: &[u8],
 ) -> Rows
     requires { ⌜ length (tablesIn (now tables)) ≤ 64 ⌝ }
-    requires { ⌜ Starts (now tables) (now starts) ⌝ }
+    requires { ⌜ NamesNoted (now tables) (now named) ⌝ }
     ensures { λ r.
         ⌜ RowsOf (tablesIn (now (tables .entry))) (endpoint client (now («client_name» .entry))) (endpoint server (now («server_name» .entry))) r ⌝ }
 {
@@ -257,7 +261,7 @@ fn all_rows(
         }
         let row = text_row(
             tables,
-            starts,
+            named,
             entry_text(rest, span),
             client,
             client_name,
@@ -305,16 +309,18 @@ pub fn view(
 ) -> Viewing
     requires { ⌜ length (tablesIn (now tables)) ≤ 64 ⌝ }
     ensures { λ r.
-        ⌜ ViewedBy (tablesIn (now (tables .entry))) (endpoint client (now («client_name» .entry))) (endpoint server (now («server_name» .entry))) r ⌝ }
+        ⌜ ViewedBy (now (tables .entry)) (endpoint client (now («client_name» .entry))) (endpoint server (now («server_name» .entry))) r ⌝ }
 {
-    let mut begin = [0usize; 512];
-    note_starts(tables, &mut begin);
-    let rows = all_rows(tables, &begin, client, client_name, server, server_name);
+    let mut notes = [0u64; 259];
+    note_names(tables, &mut notes);
+    let rows = all_rows(tables, &notes, client, client_name, server, server_name);
     let names = rows.names;
     let mut first = rows.notes;
     first[2] = step(&names, 0, 18446744073709551615);
+    let told = level::raised(tables, &notes, &names, &first, 3);
+    put_told(&mut notes, &told);
     Viewing {
-        notes: level::raised(tables, &begin, &names, &first, 3),
+        notes,
         clean: rows.clean,
     }
 }
@@ -372,7 +378,7 @@ pub fn counted_at(notes: &[u64], k: usize, i: usize) -> u64
 
 // What the notes say of the table of that name; k: 0 for the client, 1 for the server.
 pub fn look_up(tables: &[u8], notes: &[u64], k: usize, name: &[u8]) -> Reference
-    ensures { λ r. ⌜ r ≡ referenceOf k (tablesIn (now (tables .entry))) (now (notes .entry)) (now (name .entry)) ⌝ }
+    ensures { λ r. ⌜ r ≡ referenceOf k (now (tables .entry)) (now (notes .entry)) (now (name .entry)) ⌝ }
 {
     if notes.len() == 0 {
         return Reference {
@@ -381,7 +387,7 @@ pub fn look_up(tables: &[u8], notes: &[u64], k: usize, name: &[u8]) -> Reference
             tried: 0,
         };
     }
-    match find(tables, name) {
+    match find_noted(tables, notes, name) {
         Place::Missing => Reference {
             naming: Naming::Missing,
             matches: false,

@@ -8,11 +8,11 @@ use Rattle.views.proofs.all_rows.Statement.{statement}
 use Rattle.views.proofs.all_rows.Tie as tie
 
 abbrev Inv-loop : tie.InvT-loop
-Inv-loop tables starts client client-name server server-name n rest₀ rows₀ i₀ rest rows i =
+Inv-loop tables named client client-name server server-name n rest₀ rows₀ i₀ rest rows i =
     Gathered tables (endpoint client client-name) (endpoint server server-name) n rest rows i
 
 abbrev μ-loop : tie.MeasureT-loop
-μ-loop tables starts client client-name server server-name n rest₀ rows₀ i₀ rest rows i = n - i
+μ-loop tables named client client-name server server-name n rest₀ rows₀ i₀ rest rows i = n - i
 
 pub all-rows-spec : {M : Type 1} → statement M
 all-rows-spec =

@@ -9,11 +9,11 @@ use Rattle.views.proofs.text_row.Statement.{statement}
 use Rattle.views.proofs.text_row.Tie as tie
 
 abbrev Inv-loop : tie.InvT-loop
-Inv-loop tables starts text client client-name server server-name row₀ rest₀ row rest =
+Inv-loop tables named text client client-name server server-name row₀ rest₀ row rest =
     Rowed (tablesIn tables) (endpoint client client-name) (endpoint server server-name) text rest row
 
 abbrev μ-loop : tie.MeasureT-loop
-μ-loop tables starts text client client-name server server-name row₀ rest₀ row rest = length rest
+μ-loop tables named text client client-name server server-name row₀ rest₀ row rest = length rest
 
 pub text-row-spec : {M : Type 1} → statement M
 text-row-spec =

@@ -1,5 +1,6 @@
 -- `view` meets its contract. Assumes nothing.
 use borrow.Author.Needs.{needs}
+use Rattle.views.proofs.NamesLaws.{names-length}
 use Rattle.views.proofs.LevelLaws.{view-right}
 use Rattle.views.proofs.view.Statement.{statement}
 use Rattle.views.proofs.view.Tie as tie
@@ -12,5 +13,6 @@ view-spec =
     (λ c κs. search needs)
     (λ c. search needs)
     (λ c κs. search needs)
+    (λ c κs. search (names-length, needs))
     (λ c. search (view-right, needs)) in
     tie.close facts

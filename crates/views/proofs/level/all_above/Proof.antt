@@ -7,10 +7,10 @@ use Rattle.views.proofs.level.all_above.Statement.{statement}
 use Rattle.views.proofs.level.all_above.Tie as tie
 
 abbrev Inv-loop : tie.InvT-loop
-Inv-loop tables starts first below n rest₀ notes₀ i₀ rest notes i = Raising tables first below n rest notes i
+Inv-loop tables named first below n rest₀ notes₀ i₀ rest notes i = Raising tables first below n rest notes i
 
 abbrev μ-loop : tie.MeasureT-loop
-μ-loop tables starts first below n rest₀ notes₀ i₀ rest notes i = n - i
+μ-loop tables named first below n rest₀ notes₀ i₀ rest notes i = n - i
 
 pub all-above-spec : {M : Type 1} → statement M
 all-above-spec =

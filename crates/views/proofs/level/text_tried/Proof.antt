@@ -9,10 +9,10 @@ use Rattle.views.proofs.level.text_tried.Statement.{statement}
 use Rattle.views.proofs.level.text_tried.Tie as tie
 
 abbrev Inv-loop : tie.InvT-loop
-Inv-loop tables starts text notes client server c₀ s₀ rest₀ c s rest = Both (tablesIn tables) notes client server text c s rest
+Inv-loop tables named text notes client server c₀ s₀ rest₀ c s rest = Both (tablesIn tables) notes client server text c s rest
 
 abbrev μ-loop : tie.MeasureT-loop
-μ-loop tables starts text notes client server c₀ s₀ rest₀ c s rest = length rest
+μ-loop tables named text notes client server c₀ s₀ rest₀ c s rest = length rest
 
 pub text-tried-spec : {M : Type 1} → statement M
 text-tried-spec =
