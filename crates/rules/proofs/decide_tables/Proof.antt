@@ -1,5 +1,6 @@
 -- `decide_tables` meets its contract: the limits, then the rest. Assumes nothing.
 use borrow.Author.Needs.{needs}
+use Rattle.text.proofs.Search.{outright}
 use Rattle.rules.proofs.DecideLaws.{tabled-allow, tabled-deny, tabled-framed}
 use Rattle.rules.proofs.decide_tables.Statement.{statement}
 use Rattle.rules.proofs.decide_tables.Tie as tie
@@ -10,11 +11,11 @@ decide-tables-spec =
     (λ c κs. search needs)
     (λ c κs. search needs)
     (λ c κs. search needs)
-    (λ c. search (tabled-allow, needs))
+    (λ c. outright (search (tabled-allow, needs)))
     (λ c κs. search needs)
     (λ c κs. search needs)
     (λ c κs. search needs)
-    (λ c. search (tabled-deny, needs))
+    (λ c. outright (search (tabled-deny, needs)))
     (λ c κs. search needs)
-    (λ c. search (tabled-framed, needs)) in
+    (λ c. outright (search (tabled-framed, needs))) in
     tie.close facts

@@ -2,11 +2,12 @@
 -- Assumes nothing.
 use Rattle.rules.proofs.DecideLaws.{both-pass}
 use borrow.Author.Needs.{needs}
+use Rattle.text.proofs.Search.{outright}
 use Rattle.rules.proofs.pass_both.Statement.{statement}
 use Rattle.rules.proofs.pass_both.Tie as tie
 
 returns : tie.Need-returns
-returns c = search (both-pass, needs)
+returns c = outright (search (both-pass, needs))
 
 pub pass-both-spec : {M : Type 1} → statement M
 pass-both-spec =

@@ -1,5 +1,6 @@
 -- `rule_framed` meets its contract. Assumes nothing.
 use borrow.Author.Needs.{needs}
+use Rattle.text.proofs.Search.{outright}
 use Rattle.rules.proofs.DecideLaws.{framed-cut, framed-trailing, framed-contents, framed-whole}
 use Rattle.rules.proofs.rule_framed.Statement.{statement}
 use Rattle.rules.proofs.rule_framed.Tie as tie
@@ -15,8 +16,8 @@ rule-framed-spec =
     (λ c κs. search needs)
     (λ c κs. search needs)
     (λ c. search needs)
-    (λ c κs. search (framed-whole, needs))
-    (λ c. search (framed-cut, needs))
-    (λ c. search (framed-trailing, needs))
-    (λ c. search (framed-contents, needs)) in
+    (λ c κs. outright (search (framed-whole, needs)))
+    (λ c. outright (search (framed-cut, needs)))
+    (λ c. outright (search (framed-trailing, needs)))
+    (λ c. outright (search (framed-contents, needs))) in
     tie.close facts

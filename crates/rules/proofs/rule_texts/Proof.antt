@@ -1,5 +1,6 @@
 -- `rule_texts` meets its contract. Assumes nothing.
 use borrow.Author.Needs.{needs}
+use Rattle.text.proofs.Search.{outright}
 use Rattle.rules.proofs.DecideLaws.{rule-answer, rule-doubtful}
 use Rattle.rules.proofs.rule_texts.Statement.{statement}
 use Rattle.rules.proofs.rule_texts.Tie as tie
@@ -15,6 +16,6 @@ rule-texts-spec =
     (λ c. search needs)
     (λ c κs. search needs)
     (λ c κs. search needs)
-    (λ c. search (rule-answer, needs))
-    (λ c. search (rule-doubtful, needs)) in
+    (λ c. outright (search (rule-answer, needs)))
+    (λ c. outright (search (rule-doubtful, needs))) in
     tie.close facts

@@ -1,5 +1,6 @@
 -- `tidy::check_by` meets its contract: the arms are the cases. Assumes nothing.
 use borrow.Author.Needs.{needs}
+use Rattle.text.proofs.Search.{outright}
 use Rattle.tidy.proofs.CheckLaws.{by-faulty, by-unmatched, by-matched}
 use Rattle.tidy.proofs.check_by.Statement.{statement}
 use Rattle.tidy.proofs.check_by.Tie as tie
@@ -10,7 +11,7 @@ check-by-spec =
     (λ c. search needs)
     (λ c. search needs)
     (λ c. search needs)
-    (λ c. search (by-faulty, needs))
-    (λ c. search (by-unmatched, needs))
-    (λ c. search (by-matched, needs)) in
+    (λ c. outright (search (by-faulty, needs)))
+    (λ c. outright (search (by-unmatched, needs)))
+    (λ c. outright (search (by-matched, needs))) in
     tie.close facts

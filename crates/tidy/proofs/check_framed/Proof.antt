@@ -1,5 +1,6 @@
 -- `tidy::check_framed` meets its contract: the frame, then the contents. Assumes nothing.
 use borrow.Author.Needs.{needs}
+use Rattle.text.proofs.Search.{outright}
 use Rattle.tidy.proofs.CheckLaws.{checked-cut, checked-trailing, checked-contents, checked-whole}
 use Rattle.tidy.proofs.check_framed.Statement.{statement}
 use Rattle.tidy.proofs.check_framed.Tie as tie
@@ -13,8 +14,8 @@ check-framed-spec =
     (λ c. search needs)
     (λ c κs. search needs)
     (λ c. search needs)
-    (λ c κs. search (checked-whole, needs))
-    (λ c. search (checked-cut, needs))
-    (λ c. search (checked-trailing, needs))
-    (λ c. search (checked-contents, needs)) in
+    (λ c κs. outright (search (checked-whole, needs)))
+    (λ c. outright (search (checked-cut, needs)))
+    (λ c. outright (search (checked-trailing, needs)))
+    (λ c. outright (search (checked-contents, needs))) in
     tie.close facts

@@ -1,5 +1,6 @@
 -- `tidy::check_texts` meets its contract: the limits, then the rest. Assumes nothing.
 use borrow.Author.Needs.{needs}
+use Rattle.text.proofs.Search.{outright}
 use Rattle.tidy.proofs.CheckLaws.{over-allow, over-deny, over-none}
 use Rattle.tidy.proofs.check_texts.Statement.{statement}
 use Rattle.tidy.proofs.check_texts.Tie as tie
@@ -9,10 +10,10 @@ check-texts-spec =
     let facts = tie.spec
     (λ c κs. search needs)
     (λ c κs. search needs)
-    (λ c. search (over-allow, needs))
+    (λ c. outright (search (over-allow, needs)))
     (λ c κs. search needs)
     (λ c κs. search needs)
-    (λ c. search (over-deny, needs))
+    (λ c. outright (search (over-deny, needs)))
     (λ c κs. search needs)
-    (λ c. search (over-none, needs)) in
+    (λ c. outright (search (over-none, needs))) in
     tie.close facts

@@ -1,5 +1,6 @@
 -- `tidy::check_whole` meets its contract: what is sound is read once. Assumes nothing.
 use borrow.Author.Needs.{needs}
+use Rattle.text.proofs.Search.{outright}
 use Rattle.tidy.proofs.CheckLaws.{whole-sound, whole-passed}
 use Rattle.tidy.proofs.check_whole.Statement.{statement}
 use Rattle.tidy.proofs.check_whole.Tie as tie
@@ -8,8 +9,8 @@ pub check-whole-spec : {M : Type 1} → statement M
 check-whole-spec =
     let facts = tie.spec
     (λ c κs. search needs)
-    (λ c. search (whole-sound, needs))
+    (λ c. outright (search (whole-sound, needs)))
     (λ c κs. search needs)
     (λ c κs. search needs)
-    (λ c. search (whole-passed, needs)) in
+    (λ c. outright (search (whole-passed, needs))) in
     tie.close facts

@@ -2,6 +2,7 @@
 -- others. Assumes nothing.
 use borrow.Author.Needs.{needs}
 use Prim.Native.Nat.{_-_}
+use Rattle.text.proofs.Search.{outright}
 use Rattle.patterns.specs.Host.{endpoint}
 use Rattle.views.proofs.RowLaws.{Gathered, gathered-start, gathered-end, gathered-cut, gathered-place, client-place, server-place, gathered-more}
 use Rattle.views.proofs.all_rows.Statement.{statement}
@@ -21,28 +22,28 @@ all-rows-spec =
     μ-loop
     (λ c κs. search needs)
     (λ c κs. search needs)
-    (λ c. search (gathered-start, needs))
+    (λ c. outright (search (gathered-start, needs)))
     (λ c κs. search needs)
-    (λ c. search (gathered-cut, needs))
+    (λ c. outright (search (gathered-cut, needs)))
     (λ c κs. search needs)
-    (λ c κs. search needs)
-    (λ c. search needs)
     (λ c κs. search needs)
     (λ c. search needs)
     (λ c κs. search needs)
     (λ c. search needs)
-    (λ c. search (gathered-place, needs))
+    (λ c κs. search needs)
+    (λ c. search needs)
+    (λ c. outright (search (gathered-place, needs)))
     (λ c. search needs)
     (λ c. search needs)
     (λ c. search needs)
     (λ c. search needs)
-    (λ c. search (client-place, needs))
+    (λ c. outright (search (client-place, needs)))
     (λ c. search needs)
     (λ c. search needs)
-    (λ c. search (server-place, needs))
+    (λ c. outright (search (server-place, needs)))
     (λ c κs. search needs)
     (λ c. search needs)
     (λ c. search needs)
-    (λ c. search (gathered-more, needs))
-    (λ c. search (gathered-end, needs)) in
+    (λ c. outright (search (gathered-more, needs)))
+    (λ c. outright (search (gathered-end, needs))) in
     tie.close facts

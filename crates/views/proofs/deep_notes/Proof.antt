@@ -3,6 +3,7 @@
 use borrow.Author.Needs.{needs}
 use Prim.Native.Nat.{_-_}
 use native.Mathlib.Omega.{arith}
+use Rattle.text.proofs.Search.{outright}
 use Rattle.views.proofs.DeepLaws.{Deepening, deepening-start, deepening-more, deepening-end}
 use Rattle.views.proofs.deep_notes.Statement.{statement}
 use Rattle.views.proofs.deep_notes.Tie as tie
@@ -24,6 +25,6 @@ deep-notes-spec =
     (λ c κs. search needs)
     (λ c. search needs)
     (λ c. search needs)
-    (λ c. search (deepening-more, needs))
-    (λ c. search (deepening-end, needs)) in
+    (λ c. outright (search (deepening-more, needs)))
+    (λ c. outright (search (deepening-end, needs))) in
     tie.close facts

@@ -1,5 +1,6 @@
 -- `join_rows` meets its contract. Assumes nothing.
 use borrow.Author.Needs.{needs}
+use Rattle.text.proofs.Search.{outright}
 use Rattle.views.proofs.RowLaws.{rows-joined}
 use Rattle.views.proofs.join_rows.Statement.{statement}
 use Rattle.views.proofs.join_rows.Tie as tie
@@ -9,5 +10,5 @@ join-rows-spec =
     let facts = tie.spec
     (λ c κs. search needs)
     (λ c κs. search needs)
-    (λ c. search (rows-joined, needs)) in
+    (λ c. outright (search (rows-joined, needs))) in
     tie.close facts

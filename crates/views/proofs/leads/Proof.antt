@@ -6,6 +6,7 @@ use Rattle.tables.specs.Code.{tablesIn}
 use Rattle.tables.proofs.WordLaws.{rest-shorter}
 use mathlib.Core.Path.{_≡_}
 use lib.ListN.{length}
+use Rattle.text.proofs.Search.{outright}
 use Rattle.views.proofs.leads.Statement.{statement}
 use Rattle.views.proofs.leads.Tie as tie
 
@@ -23,10 +24,10 @@ leads-spec =
     (λ c. search needs)
     (λ c κs. search needs)
     (λ c κs. search needs)
-    (λ c. search (leads-end, needs))
+    (λ c. outright (search (leads-end, needs)))
     (λ c κs. search needs)
-    (λ c. search (leads-here, needs))
+    (λ c. outright (search (leads-here, needs)))
     (λ c κs. search needs)
-    (λ c. search (rest-shorter, needs))
-    (λ c. search (leads-next, needs)) in
+    (λ c. outright (search (rest-shorter, needs)))
+    (λ c. outright (search (leads-next, needs))) in
     tie.close facts

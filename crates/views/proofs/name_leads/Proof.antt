@@ -1,5 +1,6 @@
 -- `name_leads` meets its contract. Assumes nothing.
 use borrow.Author.Needs.{needs}
+use Rattle.text.proofs.Search.{outright}
 use Rattle.views.proofs.NoteLaws.{leads-missing, leads-found}
 use Rattle.views.proofs.name_leads.Statement.{statement}
 use Rattle.views.proofs.name_leads.Tie as tie
@@ -11,6 +12,6 @@ name-leads-spec =
     (λ c. search needs)
     (λ c. search needs)
     (λ c κs. search needs)
-    (λ c. search (leads-missing, needs))
-    (λ c. search (leads-found, needs)) in
+    (λ c. outright (search (leads-missing, needs)))
+    (λ c. outright (search (leads-found, needs))) in
     tie.close facts

@@ -3,6 +3,7 @@ use borrow.Author.Needs.{needs}
 use Prim.Native.Nat.{_-_}
 use mathlib.Core.Path.{refl}
 use native.Mathlib.Omega.{arith}
+use Rattle.text.proofs.Search.{outright}
 use Rattle.views.specs.View.{isDeep}
 use Rattle.views.proofs.DeepLaws.{Raised, raised-start, raised-end, raised-cut, raised-place, raised-more}
 use Rattle.views.proofs.notes_above.Statement.{statement}
@@ -25,15 +26,15 @@ notes-above-spec =
     let known = c .before .before .shared-slice-known .given in
     raised-start _ _ _ (c .before .table-count .ensures) (omega (arith, known 0)) (omega (arith, known 1)) _ (c .after-count .ensures))
     (λ c κs. search needs)
-    (λ c. search (raised-cut, needs))
+    (λ c. outright (search (raised-cut, needs)))
     (λ c. search needs)
     (λ c. search needs)
-    (λ c. search (raised-place, needs))
+    (λ c. outright (search (raised-place, needs)))
     (λ c κs. search needs)
     (λ c κs. search needs)
     (λ c κs. search needs)
     (λ c. search needs)
-    (λ c. search (raised-place, needs))
+    (λ c. outright (search (raised-place, needs)))
     (λ c κs. search needs)
     (λ c. search needs)
     (λ c. search needs)
@@ -42,5 +43,5 @@ notes-above-spec =
     raised-more _ _ _ _ _ _ (b .before .before .before .loop .inv) (b .before .before .loop-test .taken) _ (b .before .entry-span .ensures) (b .if1 .left)
     _ (c .before .before .before .before .entry-text .ensures) _ (c .before .before .leads .ensures) _ refl
     _ (c .before .mark .ensures) _ (c .after-entry .ensures))
-    (λ c. search (raised-end, needs)) in
+    (λ c. outright (search (raised-end, needs))) in
     tie.close facts

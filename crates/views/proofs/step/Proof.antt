@@ -2,6 +2,7 @@
 use borrow.Author.Needs.{needs}
 use Prim.Native.Nat.{_-_}
 use mathlib.Core.Path.{refl}
+use Rattle.text.proofs.Search.{outright}
 use Rattle.views.proofs.BitLaws.{Stepped, stepped-start, stepped-more, stepped-end}
 use Rattle.views.proofs.step.Statement.{statement}
 use Rattle.views.proofs.step.Tie as tie
@@ -17,7 +18,7 @@ step-spec =
     let facts = tie.spec
     Inv-loop
     μ-loop
-    (λ c. search (stepped-start, needs))
+    (λ c. outright (search (stepped-start, needs)))
     (λ c. search needs)
     (λ c. search needs)
     (λ c κs. search needs)

@@ -1,6 +1,7 @@
 -- `text_row` meets its contract. The invariant is `Rowed`: the row holds what the words passed give. The measure is the length of the rest. Assumes nothing.
 use borrow.Author.Needs.{needs}
 use lib.ListN.{length}
+use Rattle.text.proofs.Search.{outright}
 use Rattle.patterns.specs.Host.{endpoint}
 use Rattle.tables.specs.Code.{tablesIn}
 use Rattle.tables.proofs.WordLaws.{rest-shorter}
@@ -20,13 +21,13 @@ text-row-spec =
     let facts = tie.spec
     Inv-loop
     μ-loop
-    (λ c. search (rowed-start, needs))
+    (λ c. outright (search (rowed-start, needs)))
     (λ c κs. search needs)
     (λ c κs. search needs)
-    (λ c. search (rowed-end, needs))
+    (λ c. outright (search (rowed-end, needs)))
     (λ c κs. search needs)
-    (λ c κs. search (rowed-client-fits, rowed-server-fits, needs))
+    (λ c κs. outright (search (rowed-client-fits, rowed-server-fits, needs)))
     (λ c κs. search needs)
-    (λ c. search (rest-shorter, needs))
-    (λ c. search (rowed-more, needs)) in
+    (λ c. outright (search (rest-shorter, needs)))
+    (λ c. outright (search (rowed-more, needs))) in
     tie.close facts

@@ -1,5 +1,6 @@
 -- `view` meets its contract. Assumes nothing.
 use borrow.Author.Needs.{needs}
+use Rattle.text.proofs.Search.{outright}
 use Rattle.views.proofs.NamesLaws.{names-length}
 use Rattle.views.proofs.LevelLaws.{view-right}
 use Rattle.views.proofs.view.Statement.{statement}
@@ -13,6 +14,6 @@ view-spec =
     (λ c κs. search needs)
     (λ c. search needs)
     (λ c κs. search needs)
-    (λ c κs. search (names-length, needs))
-    (λ c. search (view-right, needs)) in
+    (λ c κs. outright (search (names-length, needs)))
+    (λ c. outright (search (view-right, needs))) in
     tie.close facts

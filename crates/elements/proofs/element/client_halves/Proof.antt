@@ -3,6 +3,7 @@ use mathlib.Core.Path.{sym}
 use native.Mathlib.Omega.{arith}
 use lib.Seq.{length-take-le}
 use borrow.Author.Needs.{needs}
+use Rattle.text.proofs.Search.{outright}
 use Rattle.elements.proofs.SeenLaws.{clientKind-matched, clientKind-missed}
 use Rattle.elements.proofs.element.client_halves.Statement.{statement}
 use Rattle.elements.proofs.element.client_halves.Tie as tie
@@ -18,6 +19,6 @@ client-halves-spec =
     (λ c. sym (length-take-le _ _ (omega arith)))
     (λ c κs. search needs)
     (λ c κs. search needs)
-    (λ c. search (clientKind-matched, needs))
-    (λ c. search (clientKind-missed, needs)) in
+    (λ c. outright (search (clientKind-matched, needs)))
+    (λ c. outright (search (clientKind-missed, needs))) in
     tie.close facts

@@ -1,5 +1,6 @@
 -- `element::client_kind` meets its contract: the element is whole, or parted. Assumes nothing.
 use borrow.Author.Needs.{needs}
+use Rattle.text.proofs.Search.{outright}
 use Rattle.elements.proofs.SeenLaws.{clientKind-whole}
 use Rattle.elements.proofs.element.client_kind.Statement.{statement}
 use Rattle.elements.proofs.element.client_kind.Tie as tie
@@ -9,7 +10,7 @@ client-kind-spec =
     let facts = tie.spec
     (λ c κs. search needs)
     (λ c κs. search needs)
-    (λ c. search (clientKind-whole, needs))
+    (λ c. outright (search (clientKind-whole, needs)))
     (λ c κs. search needs)
     (λ c. search needs) in
     tie.close facts

@@ -1,5 +1,6 @@
 -- `element::client_seen` meets its contract: the mask tells what is of name bytes. Assumes nothing.
 use borrow.Author.Needs.{needs}
+use Rattle.text.proofs.Search.{outright}
 use Rattle.elements.proofs.SeenLaws.{named-client}
 use Rattle.elements.proofs.ToldLaws.{names-told}
 use Rattle.elements.proofs.element.client_seen.Statement.{statement}
@@ -12,7 +13,7 @@ client-seen-spec =
     (λ c κs. search needs)
     (λ c κs. search needs)
     (λ c κs. search needs)
-    (λ c. search (named-client, names-told, needs))
+    (λ c. outright (search (named-client, names-told, needs)))
     (λ c κs. search needs)
     (λ c. search needs) in
     tie.close facts

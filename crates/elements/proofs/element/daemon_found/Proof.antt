@@ -1,5 +1,6 @@
 -- `element::daemon_found` meets its contract. Assumes nothing.
 use borrow.Author.Needs.{needs}
+use Rattle.text.proofs.Search.{outright}
 use Rattle.elements.proofs.SeenLaws.{daemon-found-is}
 use Rattle.elements.proofs.element.daemon_found.Statement.{statement}
 use Rattle.elements.proofs.element.daemon_found.Tie as tie
@@ -11,5 +12,5 @@ daemon-found-spec =
     (λ c κs. search needs)
     (λ c κs. search needs)
     (λ c κs. search needs)
-    (λ c. search (daemon-found-is, needs)) in
+    (λ c. outright (search (daemon-found-is, needs))) in
     tie.close facts

@@ -3,6 +3,7 @@ use mathlib.Core.Path.{sym}
 use native.Mathlib.Omega.{arith}
 use lib.Seq.{length-take-le}
 use borrow.Author.Needs.{needs}
+use Rattle.text.proofs.Search.{outright}
 use Rattle.elements.proofs.SeenLaws.{daemonKind-halves}
 use Rattle.elements.proofs.element.daemon_halves.Statement.{statement}
 use Rattle.elements.proofs.element.daemon_halves.Tie as tie
@@ -19,5 +20,5 @@ daemon-halves-spec =
     (λ c. search needs)
     (λ c κs. search needs)
     (λ c κs. search needs)
-    (λ c. search (daemonKind-halves, needs)) in
+    (λ c. outright (search (daemonKind-halves, needs))) in
     tie.close facts

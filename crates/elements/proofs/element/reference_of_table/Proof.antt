@@ -1,5 +1,6 @@
 -- `element::reference_of_table` meets its contract. Assumes nothing.
 use borrow.Author.Needs.{needs}
+use Rattle.text.proofs.Search.{outright}
 use Rattle.elements.proofs.ElementLaws.{reference-named, reference-unnamed}
 use Rattle.elements.proofs.element.reference_of_table.Statement.{statement}
 use Rattle.elements.proofs.element.reference_of_table.Tie as tie
@@ -10,6 +11,6 @@ reference-of-table-spec =
     (λ c κs. search needs)
     (λ c κs. search needs)
     (λ c κs. search needs)
-    (λ c. search (reference-named, needs))
-    (λ c. search (reference-unnamed, needs)) in
+    (λ c. outright (search (reference-named, needs)))
+    (λ c. outright (search (reference-unnamed, needs))) in
     tie.close facts

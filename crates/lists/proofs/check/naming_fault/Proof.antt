@@ -1,5 +1,6 @@
 -- `check::naming_fault` meets its contract, test by test. Assumes nothing.
 use borrow.Author.Needs.{needs}
+use Rattle.text.proofs.Search.{outright}
 use Rattle.lists.proofs.CheckLaws.{namingFaultOf-missing, namingFaultOf-deep, namingFaultOf-sound}
 use Rattle.lists.proofs.check.naming_fault.Statement.{statement}
 use Rattle.lists.proofs.check.naming_fault.Tie as tie
@@ -8,6 +9,6 @@ pub naming-fault-spec : {M : Type 1} → statement M
 naming-fault-spec =
     tie.close
     (tie.spec
-    (λ c. search (namingFaultOf-missing, needs))
-    (λ c. search (namingFaultOf-deep, needs))
-    (λ c. search (namingFaultOf-sound, needs)))
+    (λ c. outright (search (namingFaultOf-missing, needs)))
+    (λ c. outright (search (namingFaultOf-deep, needs)))
+    (λ c. outright (search (namingFaultOf-sound, needs))))

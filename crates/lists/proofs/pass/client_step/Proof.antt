@@ -1,5 +1,6 @@
 -- `pass::client_step` meets its contract: the element is read once, for the check and for what it finds. Assumes nothing.
 use borrow.Author.Needs.{needs}
+use Rattle.text.proofs.Search.{outright}
 use Rattle.lists.proofs.PassLaws.{client-step-is}
 use Rattle.lists.proofs.pass.client_step.Statement.{statement}
 use Rattle.lists.proofs.pass.client_step.Tie as tie
@@ -13,5 +14,5 @@ client-step-spec =
     (λ c κs. search needs)
     (λ c κs. search needs)
     (λ c κs. search needs)
-    (λ c. search (client-step-is, needs)) in
+    (λ c. outright (search (client-step-is, needs))) in
     tie.close facts

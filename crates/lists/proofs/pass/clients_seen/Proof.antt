@@ -1,5 +1,6 @@
 -- `pass::clients_seen` meets its contract: the names are those at the places. Assumes nothing.
 use borrow.Author.Needs.{needs}
+use Rattle.text.proofs.Search.{outright}
 use Rattle.lists.proofs.PassLaws.{clients-at}
 use Rattle.lists.proofs.pass.clients_seen.Statement.{statement}
 use Rattle.lists.proofs.pass.clients_seen.Tie as tie
@@ -10,5 +11,5 @@ clients-seen-spec =
     (λ c κs. search needs)
     (λ c κs. search needs)
     (λ c κs. search needs)
-    (λ c. search (clients-at, needs)) in
+    (λ c. outright (search (clients-at, needs))) in
     tie.close facts

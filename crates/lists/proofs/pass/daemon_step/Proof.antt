@@ -1,5 +1,6 @@
 -- `pass::daemon_step` meets its contract: the element is read once, for the check and for what it finds. Assumes nothing.
 use borrow.Author.Needs.{needs}
+use Rattle.text.proofs.Search.{outright}
 use Rattle.lists.proofs.PassLaws.{daemon-step-is}
 use Rattle.lists.proofs.pass.daemon_step.Statement.{statement}
 use Rattle.lists.proofs.pass.daemon_step.Tie as tie
@@ -13,5 +14,5 @@ daemon-step-spec =
     (λ c κs. search needs)
     (λ c κs. search needs)
     (λ c κs. search needs)
-    (λ c. search (daemon-step-is, needs)) in
+    (λ c. outright (search (daemon-step-is, needs))) in
     tie.close facts

@@ -1,5 +1,6 @@
 -- `pass::daemons_seen` meets its contract: the names are those at the places. Assumes nothing.
 use borrow.Author.Needs.{needs}
+use Rattle.text.proofs.Search.{outright}
 use Rattle.lists.proofs.PassLaws.{daemons-at}
 use Rattle.lists.proofs.pass.daemons_seen.Statement.{statement}
 use Rattle.lists.proofs.pass.daemons_seen.Tie as tie
@@ -10,5 +11,5 @@ daemons-seen-spec =
     (λ c κs. search needs)
     (λ c κs. search needs)
     (λ c κs. search needs)
-    (λ c. search (daemons-at, needs)) in
+    (λ c. outright (search (daemons-at, needs))) in
     tie.close facts

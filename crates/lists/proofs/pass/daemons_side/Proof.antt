@@ -1,5 +1,6 @@
 -- `pass::daemons_side` meets its contract. Assumes nothing.
 use borrow.Author.Needs.{needs}
+use Rattle.text.proofs.Search.{outright}
 use Rattle.lists.proofs.PassLaws.{side-negated, side-kept}
 use Rattle.lists.proofs.pass.daemons_side.Statement.{statement}
 use Rattle.lists.proofs.pass.daemons_side.Tie as tie
@@ -9,6 +10,6 @@ daemons-side-spec =
     let facts = tie.spec
     (λ c κs. search needs)
     (λ c κs. search needs)
-    (λ c. search (side-negated, needs))
-    (λ c. search (side-kept, needs)) in
+    (λ c. outright (search (side-negated, needs)))
+    (λ c. outright (search (side-kept, needs))) in
     tie.close facts

@@ -2,6 +2,7 @@
 use mathlib.Core.Path.{sym}
 use lib.Seq.{length-take-le}
 use borrow.Author.Needs.{needs}
+use Rattle.text.proofs.Search.{outright}
 use Rattle.lists.proofs.PassLaws.{restSeen-is}
 use Rattle.lists.proofs.pass.pass_rest.Statement.{statement}
 use Rattle.lists.proofs.pass.pass_rest.Tie as tie
@@ -17,5 +18,5 @@ pass-rest-spec =
     (λ c κs. search needs)
     (λ c κs. search needs)
     (λ c κs. search needs)
-    (λ c. search (restSeen-is, needs)) in
+    (λ c. outright (search (restSeen-is, needs))) in
     tie.close facts

@@ -3,6 +3,7 @@
 use mathlib.Core.Path.{sym}
 use lib.Seq.{length-take-le}
 use borrow.Author.Needs.{needs}
+use Rattle.text.proofs.Search.{outright}
 use Rattle.lists.proofs.PassLaws.{ruleSeen-none, ruleSeen-some}
 use Rattle.lists.proofs.pass.pass_rule.Statement.{statement}
 use Rattle.lists.proofs.pass.pass_rule.Tie as tie
@@ -11,10 +12,10 @@ pub pass-rule-spec : {M : Type 1} → statement M
 pass-rule-spec =
     let facts = tie.spec
     (λ c κs. search needs)
-    (λ c. search (ruleSeen-none, needs))
+    (λ c. outright (search (ruleSeen-none, needs)))
     (λ c. sym (length-take-le _ _ (c .before .before .separator .ensures .1)))
     (λ c κs. search needs)
     (λ c κs. search needs)
     (λ c κs. search needs)
-    (λ c. search (ruleSeen-some, needs)) in
+    (λ c. outright (search (ruleSeen-some, needs))) in
     tie.close facts

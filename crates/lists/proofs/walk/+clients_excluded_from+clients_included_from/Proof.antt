@@ -5,6 +5,7 @@ use borrow.Author.Needs.{needs}
 use borrow.Fn.Kinds.{In}
 use borrow.Fn.PlainCycle.{Measures, is, falls, and}
 use lib.ListN.{length, drop}
+use Rattle.text.proofs.Search.{outright}
 use Rattle.lists.proofs.WalkLaws.{step-shorter, included-done, included-on, excluded-done, excluded-on}
 use Rattle.lists.proofs.walk.next_clients.Reads as next-clients
 use Rattle.lists.proofs.walk.clients_excluded_from.Reads as clients-excluded-from
@@ -47,11 +48,11 @@ pub +clients-excluded-from+clients-included-from-spec : {M : Type 1} → stateme
     (clients-excluded-from-at t)
     clients-excluded-from.Post
     (λ c κs. search needs)
-    (λ c. search (excluded-done, needs))
+    (λ c. outright (search (excluded-done, needs)))
     (λ c κs.
     let b = c .before .before .before in
     (step-shorter _ _ _ _ _ _ _ _ _ (b .next-clients .ensures) (c .before .before .if1 .left) _ (b .before .before .before .pre .0), search needs))
-    (λ c. search (excluded-on, needs)))
+    (λ c. outright (search (excluded-on, needs))))
     λ t. clients-included-from-lts.spec (
       next-clients.Asked,
       next-clients.Learnt,
@@ -61,8 +62,8 @@ pub +clients-excluded-from+clients-included-from-spec : {M : Type 1} → stateme
     (clients-included-from-at t)
     clients-included-from.Post
     (λ c κs. search needs)
-    (λ c. search (included-done, needs))
+    (λ c. outright (search (included-done, needs)))
     (λ c κs.
     let b = c .before .before .before in
     (step-shorter _ _ _ _ _ _ _ _ _ (b .next-clients .ensures) (c .before .before .if1 .left) _ (b .before .before .before .pre .0), search needs))
-    (λ c. search (included-on, needs))
+    (λ c. outright (search (included-on, needs)))

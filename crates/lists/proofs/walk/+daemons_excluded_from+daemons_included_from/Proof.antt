@@ -5,6 +5,7 @@ use borrow.Author.Needs.{needs}
 use borrow.Fn.Kinds.{In}
 use borrow.Fn.PlainCycle.{Measures, is, falls, and}
 use lib.ListN.{length, drop}
+use Rattle.text.proofs.Search.{outright}
 use Rattle.lists.proofs.WalkLaws.{step-shorter, included-done, included-on, excluded-done, excluded-on}
 use Rattle.lists.proofs.walk.next_daemons.Reads as next-daemons
 use Rattle.lists.proofs.walk.daemons_excluded_from.Reads as daemons-excluded-from
@@ -47,11 +48,11 @@ pub +daemons-excluded-from+daemons-included-from-spec : {M : Type 1} → stateme
     (daemons-excluded-from-at t)
     daemons-excluded-from.Post
     (λ c κs. search needs)
-    (λ c. search (excluded-done, needs))
+    (λ c. outright (search (excluded-done, needs)))
     (λ c κs.
     let b = c .before .before .before in
     (step-shorter _ _ _ _ _ _ _ _ _ (b .next-daemons .ensures) (c .before .before .if1 .left) _ (b .before .before .before .pre .0), search needs))
-    (λ c. search (excluded-on, needs)))
+    (λ c. outright (search (excluded-on, needs))))
     λ t. daemons-included-from-lts.spec (
       next-daemons.Asked,
       next-daemons.Learnt,
@@ -61,8 +62,8 @@ pub +daemons-excluded-from+daemons-included-from-spec : {M : Type 1} → stateme
     (daemons-included-from-at t)
     daemons-included-from.Post
     (λ c κs. search needs)
-    (λ c. search (included-done, needs))
+    (λ c. outright (search (included-done, needs)))
     (λ c κs.
     let b = c .before .before .before in
     (step-shorter _ _ _ _ _ _ _ _ _ (b .next-daemons .ensures) (c .before .before .if1 .left) _ (b .before .before .before .pre .0), search needs))
-    (λ c. search (included-on, needs))
+    (λ c. outright (search (included-on, needs)))

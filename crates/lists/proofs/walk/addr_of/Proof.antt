@@ -1,5 +1,6 @@
 -- `walk::addr_of` meets its contract. Assumes nothing.
 use borrow.Author.Needs.{needs}
+use Rattle.text.proofs.Search.{outright}
 use Rattle.lists.proofs.WalkLaws.{addr-v4, addr-v6}
 use Rattle.lists.proofs.walk.addr_of.Statement.{statement}
 use Rattle.lists.proofs.walk.addr_of.Tie as tie
@@ -11,6 +12,6 @@ addr-of-spec =
     (λ c. search needs)
     (λ c. search needs)
     (λ c. search needs)
-    (λ c. search (addr-v4, needs))
-    (λ c. search (addr-v6, needs)) in
+    (λ c. outright (search (addr-v4, needs)))
+    (λ c. outright (search (addr-v6, needs))) in
     tie.close facts

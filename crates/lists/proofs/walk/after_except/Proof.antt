@@ -1,6 +1,7 @@
 -- `walk::after_except` meets its contract. Assumes nothing.
 use borrow.Author.Needs.{needs}
 use lib.ListN.{length}
+use Rattle.text.proofs.Search.{outright}
 use Rattle.lines.proofs.RuleLaws.{rest-shorter}
 use Rattle.classes.proofs.ClassLaws.{element-place}
 use Rattle.lists.proofs.WalkLaws.{Passed, passed-none, follows-none, follows-except, passed-more}
@@ -18,14 +19,14 @@ after-except-spec =
     let facts = tie.spec
     Inv-loop
     μ-loop
-    (λ c. search (passed-none, needs))
+    (λ c. outright (search (passed-none, needs)))
     (λ c κs. search needs)
-    (λ c κs. search (element-place, needs))
+    (λ c κs. outright (search (element-place, needs)))
     (λ c. search needs)
-    (λ c. search (follows-none, needs))
-    (λ c κs. search (element-place, needs))
+    (λ c. outright (search (follows-none, needs)))
+    (λ c κs. outright (search (element-place, needs)))
     (λ c κs. search needs)
-    (λ c. search (follows-except, needs))
-    (λ c. search (rest-shorter, needs))
-    (λ c. search (passed-more, needs)) in
+    (λ c. outright (search (follows-except, needs)))
+    (λ c. outright (search (rest-shorter, needs)))
+    (λ c. outright (search (passed-more, needs))) in
     tie.close facts

@@ -1,5 +1,6 @@
 -- `walk::clients_included` meets its contract: the included side over the whole list. Assumes nothing.
 use borrow.Author.Needs.{needs}
+use Rattle.text.proofs.Search.{outright}
 use Rattle.lists.proofs.WalkLaws.{clients-whole}
 use Rattle.lists.proofs.walk.clients_included.Statement.{statement}
 use Rattle.lists.proofs.walk.clients_included.Tie as tie
@@ -10,5 +11,5 @@ clients-included-spec =
     (λ c κs. search needs)
     (λ c κs. search needs)
     (λ c κs. search needs)
-    (λ c. search (clients-whole, needs)) in
+    (λ c. outright (search (clients-whole, needs))) in
     tie.close facts

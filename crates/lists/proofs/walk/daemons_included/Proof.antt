@@ -1,5 +1,6 @@
 -- `walk::daemons_included` meets its contract: the included side over the whole list. Assumes nothing.
 use borrow.Author.Needs.{needs}
+use Rattle.text.proofs.Search.{outright}
 use Rattle.lists.proofs.WalkLaws.{daemons-whole}
 use Rattle.lists.proofs.walk.daemons_included.Statement.{statement}
 use Rattle.lists.proofs.walk.daemons_included.Tie as tie
@@ -10,5 +11,5 @@ daemons-included-spec =
     (λ c κs. search needs)
     (λ c κs. search needs)
     (λ c κs. search needs)
-    (λ c. search (daemons-whole, needs)) in
+    (λ c. outright (search (daemons-whole, needs))) in
     tie.close facts

@@ -1,5 +1,6 @@
 -- `walk::next_daemons` meets its contract: a step from a list to the list after its EXCEPT. Assumes nothing.
 use borrow.Author.Needs.{needs}
+use Rattle.text.proofs.Search.{outright}
 use Rattle.lists.proofs.WalkLaws.{daemons-done, daemons-more, left-within}
 use Rattle.lists.proofs.walk.next_daemons.Statement.{statement}
 use Rattle.lists.proofs.walk.next_daemons.Tie as tie
@@ -13,7 +14,7 @@ next-daemons-spec =
     (λ c κs. search needs)
     (λ c κs. search needs)
     (λ c κs. search needs)
-    (λ c. search (daemons-done, needs))
-    (λ c. search (left-within, needs))
-    (λ c. search (daemons-more, needs)) in
+    (λ c. outright (search (daemons-done, needs)))
+    (λ c. outright (search (left-within, needs)))
+    (λ c. outright (search (daemons-more, needs))) in
     tie.close facts

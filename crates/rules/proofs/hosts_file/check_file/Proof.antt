@@ -2,11 +2,12 @@
 -- Assumes nothing.
 use Rattle.rules.proofs.FileLaws.{pass-unsought}
 use borrow.Author.Needs.{needs}
+use Rattle.text.proofs.Search.{outright}
 use Rattle.rules.proofs.hosts_file.check_file.Statement.{statement}
 use Rattle.rules.proofs.hosts_file.check_file.Tie as tie
 
 returns : tie.Need-returns
-returns c = search (pass-unsought, needs)
+returns c = outright (search (pass-unsought, needs))
 
 pub check-file-spec : {M : Type 1} → statement M
 check-file-spec =

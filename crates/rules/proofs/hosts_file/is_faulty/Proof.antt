@@ -1,5 +1,6 @@
 -- `rules::hosts_file::is_faulty` meets its contract: where nothing is looked for, the request does not matter. Assumes nothing.
 use borrow.Author.Needs.{needs}
+use Rattle.text.proofs.Search.{outright}
 use Rattle.rules.proofs.FileLaws.{ruled-clean, ruled-short, unjoined-line, judged-faulty, judged-skipped, judged-ruled}
 use Rattle.rules.proofs.hosts_file.is_faulty.Statement.{statement}
 use Rattle.rules.proofs.hosts_file.is_faulty.Tie as tie
@@ -20,10 +21,10 @@ is-faulty-spec =
     (λ c κs. search needs)
     (λ c. search needs)
     (λ c κs. search needs)
-    (λ c κs. search (unjoined-line, needs))
+    (λ c κs. outright (search (unjoined-line, needs)))
     (λ c κs. search needs)
-    (λ c. search (judged-faulty, needs))
-    (λ c. search (judged-skipped, needs))
-    (λ c. search (judged-ruled, needs))
-    (λ c. search (judged-ruled, needs)) in
+    (λ c. outright (search (judged-faulty, needs)))
+    (λ c. outright (search (judged-skipped, needs)))
+    (λ c. outright (search (judged-ruled, needs)))
+    (λ c. outright (search (judged-ruled, needs))) in
     tie.close facts

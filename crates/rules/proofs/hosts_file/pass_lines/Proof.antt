@@ -4,6 +4,7 @@
 use borrow.Author.Needs.{needs}
 use Prim.Native.Nat.{_-_}
 use lib.ListN.{length}
+use Rattle.text.proofs.Search.{outright}
 use Rattle.lines.specs.Line.{lines}
 use Rattle.rules.specs.FileCode.{Query, queryAt, passText, linesLooked}
 use Rattle.rules.proofs.FileLaws.{Passing, passing-start, passing-more, passing-found, passing-end, pass-stop, step-less}
@@ -20,25 +21,25 @@ abbrev μ-loop : tie.MeasureT-loop
     length text - i
 
 loop-holds : tie.Need-loop-holds Inv-loop μ-loop
-loop-holds c = search (passing-start, needs)
+loop-holds c = outright (search (passing-start, needs))
 
 returns : tie.Need-returns Inv-loop μ-loop
-returns c = search (pass-stop, needs)
+returns c = outright (search (pass-stop, needs))
 
 loop-less : tie.Need-loop-less Inv-loop μ-loop
-loop-less c = search (step-less, needs)
+loop-less c = outright (search (step-less, needs))
 
 loop-again : tie.Need-loop-again Inv-loop μ-loop
-loop-again c = search (passing-more, needs)
+loop-again c = outright (search (passing-more, needs))
 
 loop-less-2 : tie.Need-loop-less-2 Inv-loop μ-loop
-loop-less-2 c = search (step-less, needs)
+loop-less-2 c = outright (search (step-less, needs))
 
 loop-again-2 : tie.Need-loop-again-2 Inv-loop μ-loop
-loop-again-2 c = search (passing-found, needs)
+loop-again-2 c = outright (search (passing-found, needs))
 
 returns-2 : tie.Need-returns-2 Inv-loop μ-loop
-returns-2 c = search (passing-end, needs)
+returns-2 c = outright (search (passing-end, needs))
 
 pub pass-lines-spec : {M : Type 1} → statement M
 pass-lines-spec =

@@ -1,5 +1,6 @@
 -- `rules::hosts_file::tallied` meets its contract. Assumes nothing.
 use borrow.Author.Needs.{needs}
+use Rattle.text.proofs.Search.{outright}
 use Rattle.rules.proofs.FileLaws.{tally-faulty, tally-unmatched, tally-matched}
 use Rattle.rules.proofs.hosts_file.tallied.Statement.{statement}
 use Rattle.rules.proofs.hosts_file.tallied.Tie as tie
@@ -10,7 +11,7 @@ tallied-spec =
     (λ c. search needs)
     (λ c. search needs)
     (λ c. search needs)
-    (λ c. search (tally-faulty, needs))
-    (λ c. search (tally-unmatched, needs))
-    (λ c. search (tally-matched, needs)) in
+    (λ c. outright (search (tally-faulty, needs)))
+    (λ c. outright (search (tally-unmatched, needs)))
+    (λ c. outright (search (tally-matched, needs))) in
     tie.close facts

@@ -1,5 +1,6 @@
 -- `naming::check_both` meets its contract. Assumes nothing.
 use borrow.Author.Needs.{needs}
+use Rattle.text.proofs.Search.{outright}
 use Rattle.rules.proofs.OrderLaws.{both-lines}
 use Rattle.rules.proofs.naming.check_both.Statement.{statement}
 use Rattle.rules.proofs.naming.check_both.Tie as tie
@@ -10,5 +11,5 @@ check-both-spec =
     (λ c κs. search needs)
     (λ c κs. search needs)
     (λ c κs. search needs)
-    (λ c. search (both-lines, needs)) in
+    (λ c. outright (search (both-lines, needs))) in
     tie.close facts

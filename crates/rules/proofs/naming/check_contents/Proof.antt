@@ -1,5 +1,6 @@
 -- `naming::check_contents` meets its contract. Assumes nothing.
 use borrow.Author.Needs.{needs}
+use Rattle.text.proofs.Search.{outright}
 use Rattle.rules.proofs.OrderLaws.{contents-sound, contents-faulty, contents-rest, contents-never}
 use Rattle.rules.proofs.naming.check_contents.Statement.{statement}
 use Rattle.rules.proofs.naming.check_contents.Tie as tie
@@ -10,9 +11,9 @@ check-contents-spec =
     (λ c κs. search needs)
     (λ c. search needs)
     (λ c. search needs)
-    (λ c κs. search (contents-sound, needs))
+    (λ c κs. outright (search (contents-sound, needs)))
     (λ c. search needs)
-    (λ c. search (contents-faulty, needs))
-    (λ c. search (contents-rest, needs))
-    (λ c. search (contents-never, needs)) in
+    (λ c. outright (search (contents-faulty, needs)))
+    (λ c. outright (search (contents-rest, needs)))
+    (λ c. outright (search (contents-never, needs))) in
     tie.close facts

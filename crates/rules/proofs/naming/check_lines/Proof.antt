@@ -1,5 +1,6 @@
 -- `naming::check_lines` meets its contract: by no notes. Assumes nothing.
 use borrow.Author.Needs.{needs}
+use Rattle.text.proofs.Search.{outright}
 use Rattle.rules.proofs.OrderLaws.{lines-plain}
 use Rattle.rules.proofs.naming.check_lines.Statement.{statement}
 use Rattle.rules.proofs.naming.check_lines.Tie as tie
@@ -10,5 +11,5 @@ check-lines-spec =
     (λ c. search needs)
     (λ c. search needs)
     (λ c κs. search needs)
-    (λ c. search (lines-plain, needs)) in
+    (λ c. outright (search (lines-plain, needs))) in
     tie.close facts

@@ -1,5 +1,6 @@
 -- `naming::check_naming` meets its contract. Assumes nothing.
 use borrow.Author.Needs.{needs}
+use Rattle.text.proofs.Search.{outright}
 use Rattle.rules.proofs.OrderLaws.{naming-named, naming-faulty, naming-rest, naming-never}
 use Rattle.rules.proofs.naming.check_naming.Statement.{statement}
 use Rattle.rules.proofs.naming.check_naming.Tie as tie
@@ -11,9 +12,9 @@ check-naming-spec =
     (λ c κs. search needs)
     (λ c. search needs)
     (λ c. search needs)
-    (λ c κs. search (naming-named, needs))
+    (λ c κs. outright (search (naming-named, needs)))
     (λ c. search needs)
-    (λ c. search (naming-faulty, needs))
-    (λ c. search (naming-rest, needs))
-    (λ c. search (naming-never, needs)) in
+    (λ c. outright (search (naming-faulty, needs)))
+    (λ c. outright (search (naming-rest, needs)))
+    (λ c. outright (search (naming-never, needs))) in
     tie.close facts

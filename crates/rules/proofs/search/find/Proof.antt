@@ -1,5 +1,6 @@
 -- `search::find` meets its contract. Assumes nothing.
 use borrow.Author.Needs.{needs}
+use Rattle.text.proofs.Search.{outright}
 use Rattle.rules.proofs.SearchLaws.{few-of, found-over, found-short}
 use Rattle.rules.proofs.search.find.Statement.{statement}
 use Rattle.rules.proofs.search.find.Tie as tie
@@ -10,9 +11,9 @@ find-spec =
     (λ c. search needs)
     (λ c κs. search needs)
     (λ c κs. search needs)
-    (λ c. search (found-short, needs))
+    (λ c. outright (search (found-short, needs)))
     (λ c κs. search needs)
-    (λ c. search (found-over, needs))
-    (λ c κs. search (few-of, needs))
+    (λ c. outright (search (found-over, needs)))
+    (λ c κs. outright (search (few-of, needs)))
     (λ c. search needs) in
     tie.close facts

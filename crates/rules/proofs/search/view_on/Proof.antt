@@ -1,5 +1,6 @@
 -- `search::view_on` meets its contract. Assumes nothing.
 use borrow.Author.Needs.{needs}
+use Rattle.text.proofs.Search.{outright}
 use Rattle.rules.proofs.SearchLaws.{view-noted}
 use Rattle.rules.proofs.search.view_on.Statement.{statement}
 use Rattle.rules.proofs.search.view_on.Tie as tie
@@ -10,5 +11,5 @@ view-on-spec =
     (λ c κs. search needs)
     (λ c κs. search needs)
     (λ c κs. search needs)
-    (λ c. search (view-noted, needs)) in
+    (λ c. outright (search (view-noted, needs))) in
     tie.close facts

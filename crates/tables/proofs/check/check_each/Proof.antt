@@ -2,6 +2,7 @@
 -- The measure is the count of the others. Assumes nothing.
 use borrow.Author.Needs.{needs}
 use Prim.Native.Nat.{_-_}
+use Rattle.text.proofs.Search.{outright}
 use Rattle.tables.proofs.CheckLaws.{Checked, checked-start, checked-cut, checked-more, checked-end, clean-here}
 use Rattle.tables.proofs.check.check_each.Statement.{statement}
 use Rattle.tables.proofs.check.check_each.Tie as tie
@@ -19,21 +20,21 @@ check-each-spec =
     μ-loop
     (λ c κs. search needs)
     (λ c κs. search needs)
-    (λ c. search (checked-start, needs))
+    (λ c. outright (search (checked-start, needs)))
     (λ c κs. search needs)
-    (λ c. search (checked-cut, needs))
+    (λ c. outright (search (checked-cut, needs)))
     (λ c κs. search needs)
     (λ c κs. search needs)
-    (λ c κs. search (clean-here, needs))
-    (λ c κs. search needs)
-    (λ c. search needs)
-    (λ c κs. search needs)
+    (λ c κs. outright (search (clean-here, needs)))
     (λ c κs. search needs)
     (λ c. search needs)
     (λ c κs. search needs)
     (λ c κs. search needs)
     (λ c. search needs)
+    (λ c κs. search needs)
+    (λ c κs. search needs)
     (λ c. search needs)
-    (λ c. search (checked-more, needs))
-    (λ c. search (checked-end, needs)) in
+    (λ c. search needs)
+    (λ c. outright (search (checked-more, needs)))
+    (λ c. outright (search (checked-end, needs))) in
     tie.close facts

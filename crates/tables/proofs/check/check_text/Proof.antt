@@ -3,6 +3,7 @@
 use borrow.Author.Needs.{needs}
 use mathlib.Core.Path.{_≡_}
 use lib.ListN.{length}
+use Rattle.text.proofs.Search.{outright}
 use Rattle.tables.specs.Code.{tablesIn, words, wordsChecked}
 use Rattle.tables.proofs.WordLaws.{rest-shorter}
 use Rattle.tables.proofs.CheckLaws.{textFrom, text-start, text-end, text-more}
@@ -21,12 +22,12 @@ check-text-spec =
     let facts = tie.spec
     Inv-loop
     μ-loop
-    (λ c. search (text-start, needs))
+    (λ c. outright (search (text-start, needs)))
     (λ c κs. search needs)
     (λ c κs. search needs)
-    (λ c. search (text-end, needs))
+    (λ c. outright (search (text-end, needs)))
     (λ c κs. search needs)
     (λ c κs. search needs)
-    (λ c. search (rest-shorter, needs))
-    (λ c. search (text-more, needs)) in
+    (λ c. outright (search (rest-shorter, needs)))
+    (λ c. outright (search (text-more, needs))) in
     tie.close facts

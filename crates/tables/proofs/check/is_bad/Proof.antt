@@ -1,5 +1,6 @@
 -- `check::is_bad` meets its contract. Assumes nothing.
 use borrow.Author.Needs.{needs}
+use Rattle.text.proofs.Search.{outright}
 use Rattle.tables.proofs.CheckLaws.{bad-is}
 use Rattle.tables.proofs.check.is_bad.Statement.{statement}
 use Rattle.tables.proofs.check.is_bad.Tie as tie
@@ -11,5 +12,5 @@ is-bad-spec =
     (λ c κs. search needs)
     (λ c. search needs)
     (λ c κs. search needs)
-    (λ c. search (bad-is, needs)) in
+    (λ c. outright (search (bad-is, needs))) in
     tie.close facts

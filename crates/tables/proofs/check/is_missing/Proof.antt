@@ -1,5 +1,6 @@
 -- `check::is_missing` meets its contract. Assumes nothing.
 use borrow.Author.Needs.{needs}
+use Rattle.text.proofs.Search.{outright}
 use Rattle.tables.proofs.CheckLaws.{missing-none, missing-found}
 use Rattle.tables.proofs.check.is_missing.Statement.{statement}
 use Rattle.tables.proofs.check.is_missing.Tie as tie
@@ -10,6 +11,6 @@ is-missing-spec =
     (λ c κs. search needs)
     (λ c. search needs)
     (λ c. search needs)
-    (λ c. search (missing-none, needs))
-    (λ c. search (missing-found, needs)) in
+    (λ c. outright (search (missing-none, needs)))
+    (λ c. outright (search (missing-found, needs))) in
     tie.close facts

@@ -1,5 +1,6 @@
 -- `check::is_named_before` meets its contract. Assumes nothing.
 use borrow.Author.Needs.{needs}
+use Rattle.text.proofs.Search.{outright}
 use Rattle.tables.proofs.CheckLaws.{before-none, before-found}
 use Rattle.tables.proofs.check.is_named_before.Statement.{statement}
 use Rattle.tables.proofs.check.is_named_before.Tie as tie
@@ -10,6 +11,6 @@ is-named-before-spec =
     (λ c κs. search needs)
     (λ c. search needs)
     (λ c. search needs)
-    (λ c. search (before-none, needs))
-    (λ c. search (before-found, needs)) in
+    (λ c. outright (search (before-none, needs)))
+    (λ c. outright (search (before-found, needs))) in
     tie.close facts

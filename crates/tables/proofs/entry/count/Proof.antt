@@ -2,6 +2,7 @@
 -- The measure is their count. Assumes nothing.
 use borrow.Author.Needs.{needs}
 use Prim.Native.Nat.{_-_}
+use Rattle.text.proofs.Search.{outright}
 use Rattle.tables.proofs.EntryLaws.{Reached, reached-start, reached-cut, reached-more, reached-end, count-all}
 use Rattle.tables.proofs.entry.count.Statement.{statement}
 use Rattle.tables.proofs.entry.count.Tie as tie
@@ -19,12 +20,12 @@ count-spec =
     μ-loop
     (λ c κs. search needs)
     (λ c κs. search needs)
-    (λ c. search (reached-start, needs))
+    (λ c. outright (search (reached-start, needs)))
     (λ c κs. search needs)
-    (λ c. search (count-all, reached-cut, needs))
+    (λ c. outright (search (count-all, reached-cut, needs)))
     (λ c κs. search needs)
     (λ c. search needs)
     (λ c. search needs)
-    (λ c. search (reached-more, needs))
-    (λ c. search (count-all, reached-end, needs)) in
+    (λ c. outright (search (reached-more, needs)))
+    (λ c. outright (search (count-all, reached-end, needs))) in
     tie.close facts

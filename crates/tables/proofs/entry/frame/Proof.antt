@@ -2,6 +2,7 @@
 -- The measure is their number. Assumes nothing.
 use borrow.Author.Needs.{needs}
 use mathlib.Core.Path.{_≡_}
+use Rattle.text.proofs.Search.{outright}
 use Rattle.tables.proofs.EntryLaws.{frame-short, frame-start, frame-cut, frame-more, frame-sound, frame-trailing}
 use Rattle.tables.specs.Table.{readEach, readTables}
 use Rattle.tables.specs.Code.{frameOf}
@@ -19,16 +20,16 @@ frame-spec =
     let facts = tie.spec
     Inv-loop
     μ-loop
-    (λ c. search (frame-short, needs))
+    (λ c. outright (search (frame-short, needs)))
     (λ c κs. search needs)
     (λ c κs. search needs)
-    (λ c. search (frame-start, needs))
+    (λ c. outright (search (frame-start, needs)))
     (λ c κs. search needs)
-    (λ c. search (frame-cut, needs))
+    (λ c. outright (search (frame-cut, needs)))
     (λ c κs. search needs)
     (λ c. search needs)
     (λ c. search needs)
-    (λ c. search (frame-more, needs))
-    (λ c. search (frame-sound, needs))
-    (λ c. search (frame-trailing, needs)) in
+    (λ c. outright (search (frame-more, needs)))
+    (λ c. outright (search (frame-sound, needs)))
+    (λ c. outright (search (frame-trailing, needs))) in
     tie.close facts

@@ -1,5 +1,6 @@
 -- `entry::is_named` meets its contract. Assumes nothing.
 use borrow.Author.Needs.{needs}
+use Rattle.text.proofs.Search.{outright}
 use Rattle.tables.proofs.NameLaws.{named-lengths, named-empty, named-otherwise}
 use Rattle.tables.proofs.entry.is_named.Statement.{statement}
 use Rattle.tables.proofs.entry.is_named.Tie as tie
@@ -7,8 +8,8 @@ use Rattle.tables.proofs.entry.is_named.Tie as tie
 pub is-named-spec : {M : Type 1} → statement M
 is-named-spec =
     let facts = tie.spec
-    (λ c. search (named-lengths, needs))
-    (λ c. search (named-empty, needs))
+    (λ c. outright (search (named-lengths, needs)))
+    (λ c. outright (search (named-empty, needs)))
     (λ c. search needs)
     (λ c. search needs)
     (λ c. search needs)

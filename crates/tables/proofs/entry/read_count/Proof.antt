@@ -1,6 +1,7 @@
 -- `entry::read_count` meets its contract: a byte is below 256. Assumes nothing.
 use native.Mathlib.Omega.{arith}
 use borrow.Author.Needs.{needs}
+use Rattle.text.proofs.Search.{outright}
 use Rattle.tables.proofs.EntryLaws.{count-of-four}
 use Rattle.tables.proofs.entry.read_count.Statement.{statement}
 use Rattle.tables.proofs.entry.read_count.Tie as tie
@@ -22,5 +23,5 @@ read-count-spec =
     (λ c. omega (arith, c .shared-slice-known4 .given 0, c .shared-slice-known4 .given 1, c .shared-slice-known4 .given 2, c .shared-slice-known4 .given 3))
     (λ c. omega (arith, c .shared-slice-known4 .given 0, c .shared-slice-known4 .given 1, c .shared-slice-known4 .given 2, c .shared-slice-known4 .given 3))
     (λ c. omega (arith, c .shared-slice-known4 .given 0, c .shared-slice-known4 .given 1, c .shared-slice-known4 .given 2, c .shared-slice-known4 .given 3))
-    (λ c. search (count-of-four, needs)) in
+    (λ c. outright (search (count-of-four, needs))) in
     tie.close facts

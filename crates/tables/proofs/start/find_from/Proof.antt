@@ -2,6 +2,7 @@
 -- The measure is the count of the others. Assumes nothing.
 use borrow.Author.Needs.{needs}
 use Prim.Native.Nat.{_-_}
+use Rattle.text.proofs.Search.{outright}
 use Rattle.tables.proofs.EntryLaws.{Sought, sought-start, sought-cut, sought-found, sought-more, sought-end}
 use Rattle.tables.proofs.start.find_from.Statement.{statement}
 use Rattle.tables.proofs.start.find_from.Tie as tie
@@ -18,15 +19,15 @@ find-from-spec =
     Inv-loop
     μ-loop
     (λ c κs. search needs)
-    (λ c. search (sought-start, needs))
+    (λ c. outright (search (sought-start, needs)))
     (λ c κs. search needs)
-    (λ c. search (sought-cut, needs))
+    (λ c. outright (search (sought-cut, needs)))
     (λ c κs. search needs)
     (λ c κs. search needs)
-    (λ c. search (sought-found, needs))
+    (λ c. outright (search (sought-found, needs)))
     (λ c κs. search needs)
     (λ c. search needs)
     (λ c. search needs)
-    (λ c. search (sought-more, needs))
-    (λ c. search (sought-end, needs)) in
+    (λ c. outright (search (sought-more, needs)))
+    (λ c. outright (search (sought-end, needs))) in
     tie.close facts

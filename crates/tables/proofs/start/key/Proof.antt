@@ -3,6 +3,7 @@
 use borrow.Author.Needs.{needs}
 use Prim.Native.Nat.{_-_}
 use lib.ListN.{length}
+use Rattle.text.proofs.Search.{outright}
 use Rattle.tables.proofs.StartLaws.{Keyed, keyed-start, keyed-more, keyed-end, keyed-small}
 use Rattle.tables.proofs.start.key.Statement.{statement}
 use Rattle.tables.proofs.start.key.Tie as tie
@@ -18,13 +19,13 @@ key-spec =
     let facts = tie.spec
     Inv-loop
     μ-loop
-    (λ c. search (keyed-start, needs))
-    (λ c. search (keyed-small, needs))
+    (λ c. outright (search (keyed-start, needs)))
+    (λ c. outright (search (keyed-small, needs)))
     (λ c. search needs)
     (λ c. search needs)
-    (λ c. search (keyed-small, needs))
+    (λ c. outright (search (keyed-small, needs)))
     (λ c. search needs)
     (λ c. search needs)
-    (λ c. search (keyed-more, needs))
+    (λ c. outright (search (keyed-more, needs)))
     (λ c. (search (keyed-end, needs), search (keyed-small, needs))) in
     tie.close facts

@@ -3,6 +3,7 @@
 use borrow.Author.Needs.{needs}
 use Prim.Native.Nat.{_-_}
 use mathlib.Core.Logic.{⊎-elim}
+use Rattle.text.proofs.Search.{outright}
 use Rattle.tables.proofs.StartLaws.{Starting, starting-start, starting-cut, starting-within, starting-kept, starting-new, starting-end}
 use Rattle.tables.proofs.start.note_starts.Statement.{statement}
 use Rattle.tables.proofs.start.note_starts.Tie as tie
@@ -20,24 +21,24 @@ note-starts-spec =
     μ-loop
     (λ c κs. search needs)
     (λ c κs. search needs)
-    (λ c. search (starting-start, needs))
+    (λ c. outright (search (starting-start, needs)))
     (λ c κs. search needs)
-    (λ c. search (starting-cut, needs))
+    (λ c. outright (search (starting-cut, needs)))
     (λ c κs. search needs)
-    (λ c κs. search needs)
-    (λ c. search needs)
-    (λ c. search needs)
-    (λ c. search needs)
-    (λ c. search needs)
-    (λ c. search needs)
-    (λ c. search needs)
-    (λ c. search (starting-within, needs))
-    (λ c. search needs)
-    (λ c. search needs)
-    (λ c. search needs)
     (λ c κs. search needs)
     (λ c. search needs)
     (λ c. search needs)
-    (λ c. ⊎-elim (λ w. search (starting-new, w, needs)) (λ w. search (starting-kept, w, needs)) (c .before .if2 .came))
-    (λ c. search (starting-end, needs)) in
+    (λ c. search needs)
+    (λ c. search needs)
+    (λ c. search needs)
+    (λ c. search needs)
+    (λ c. outright (search (starting-within, needs)))
+    (λ c. search needs)
+    (λ c. search needs)
+    (λ c. search needs)
+    (λ c κs. search needs)
+    (λ c. search needs)
+    (λ c. search needs)
+    (λ c. ⊎-elim (λ w. outright (search (starting-new, w, needs))) (λ w. outright (search (starting-kept, w, needs))) (c .before .if2 .came))
+    (λ c. outright (search (starting-end, needs))) in
     tie.close facts

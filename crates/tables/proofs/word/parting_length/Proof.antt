@@ -4,6 +4,7 @@ use Prim.Native.Nat.{_-_}
 use borrow.Author.Needs.{needs}
 use lib.ListN.{length}
 use Rattle.text.proofs.ScanLaws.{spanLen-end}
+use Rattle.text.proofs.Search.{outright}
 use Rattle.lines.proofs.RuleLaws.{Passed, passed-more, passed-stop}
 use Rattle.tables.specs.Code.{isParting}
 use Rattle.tables.proofs.word.parting_length.Statement.{statement}
@@ -25,7 +26,7 @@ parting-length-spec =
     (λ c κs. search needs)
     (λ c. search needs)
     (λ c. search needs)
-    (λ c. search (passed-more, needs))
-    (λ c. search (passed-stop, needs))
-    (λ c. search (spanLen-end, needs)) in
+    (λ c. outright (search (passed-more, needs)))
+    (λ c. outright (search (passed-stop, needs)))
+    (λ c. outright (search (spanLen-end, needs))) in
     tie.close facts

@@ -4,6 +4,7 @@ use Prim.Native.Nat.{_-_}
 use borrow.Author.Needs.{needs}
 use lib.ListN.{length}
 use Rattle.text.proofs.ScanLaws.{spanLen-end}
+use Rattle.text.proofs.Search.{outright}
 use Rattle.lines.proofs.RuleLaws.{Passed}
 use Rattle.tables.specs.Code.{isWordByte}
 use Rattle.tables.proofs.WordLaws.{word-passed, word-ended}
@@ -24,9 +25,9 @@ word-length-spec =
     (λ c. search needs)
     (λ c. search needs)
     (λ c κs. search needs)
-    (λ c. search (word-ended, needs))
+    (λ c. outright (search (word-ended, needs)))
     (λ c. search needs)
     (λ c. search needs)
-    (λ c. search (word-passed, needs))
-    (λ c. search (spanLen-end, needs)) in
+    (λ c. outright (search (word-passed, needs)))
+    (λ c. outright (search (spanLen-end, needs))) in
     tie.close facts

@@ -1,5 +1,6 @@
 -- `word::word_span` meets its contract. Assumes nothing.
 use borrow.Author.Needs.{needs}
+use Rattle.text.proofs.Search.{outright}
 use Rattle.tables.proofs.WordLaws.{span-is}
 use Rattle.tables.proofs.word.word_span.Statement.{statement}
 use Rattle.tables.proofs.word.word_span.Tie as tie
@@ -13,5 +14,5 @@ word-span-spec =
     (λ c. search needs)
     (λ c κs. search needs)
     (λ c. search needs)
-    (λ c. search (span-is, needs)) in
+    (λ c. outright (search (span-is, needs))) in
     tie.close facts

@@ -2,6 +2,7 @@
 use borrow.Author.Needs.{needs}
 use Prim.Native.Nat.{_-_}
 use lib.ListN.{length}
+use Rattle.text.proofs.Search.{outright}
 use Rattle.tidy.proofs.KeptLaws.{Measuring, measuring-start, measuring-number, measuring-fits, measuring-more, measuring-end}
 use Rattle.tidy.proofs.kept.kept_len.Statement.{statement}
 use Rattle.tidy.proofs.kept.kept_len.Tie as tie
@@ -17,15 +18,15 @@ kept-len-spec =
     let facts = tie.spec
     Inv-loop
     μ-loop
-    (λ c. search (measuring-start, needs))
+    (λ c. outright (search (measuring-start, needs)))
     (λ c κs. search needs)
     (λ c. search needs)
     (λ c. search needs)
-    (λ c κs. search (measuring-number, needs))
-    (λ c. search (measuring-fits, needs))
+    (λ c κs. outright (search (measuring-number, needs)))
+    (λ c. outright (search (measuring-fits, needs)))
     (λ c. search needs)
     (λ c. search needs)
     (λ c. search needs)
-    (λ c. search (measuring-more, needs))
-    (λ c. search (measuring-end, needs)) in
+    (λ c. outright (search (measuring-more, needs)))
+    (λ c. outright (search (measuring-end, needs))) in
     tie.close facts

@@ -3,6 +3,7 @@
 use borrow.Author.Needs.{needs}
 use Prim.Native.Nat.{_-_}
 use lib.ListN.{length}
+use Rattle.text.proofs.Search.{outright}
 use Rattle.tidy.proofs.KeptLaws.{Keeping, keeping-start, keeping-number, keeping-below, keeping-room, keeping-more, keeping-end}
 use Rattle.tidy.proofs.kept.put_kept.Statement.{statement}
 use Rattle.tidy.proofs.kept.put_kept.Tie as tie
@@ -18,17 +19,17 @@ put-kept-spec =
     let facts = tie.spec
     Inv-loop
     μ-loop
-    (λ c. search (keeping-start, needs))
+    (λ c. outright (search (keeping-start, needs)))
     (λ c κs. search needs)
     (λ c. search needs)
     (λ c. search needs)
     (λ c. search needs)
-    (λ c. search (keeping-below, needs))
+    (λ c. outright (search (keeping-below, needs)))
     (λ c κs. (search (keeping-number, needs), search (keeping-room, needs)))
     (λ c. search needs)
     (λ c. search needs)
     (λ c. search needs)
-    (λ c. search (keeping-more, needs))
+    (λ c. outright (search (keeping-more, needs)))
     (λ c. search needs)
-    (λ c. search (keeping-end, needs)) in
+    (λ c. outright (search (keeping-end, needs))) in
     tie.close facts

@@ -2,6 +2,7 @@
 use borrow.Author.Needs.{needs}
 use Prim.Native.Nat.{_-_}
 use lib.ListN.{length}
+use Rattle.text.proofs.Search.{outright}
 use Rattle.tidy.proofs.NumberLaws.{Counting, counting-start, counting-more, counting-end, counting-few}
 use Rattle.tidy.proofs.numbers.count_marks.Statement.{statement}
 use Rattle.tidy.proofs.numbers.count_marks.Tie as tie
@@ -17,11 +18,11 @@ count-marks-spec =
     let facts = tie.spec
     Inv-loop
     μ-loop
-    (λ c. search (counting-start, needs))
+    (λ c. outright (search (counting-start, needs)))
     (λ c κs. search needs)
     (λ c. search needs)
     (λ c. search needs)
     (λ c. search needs)
-    (λ c. search (counting-more, needs))
+    (λ c. outright (search (counting-more, needs)))
     (λ c. (search (counting-end, needs), search (counting-few, needs))) in
     tie.close facts

@@ -3,6 +3,7 @@
 use borrow.Author.Needs.{needs}
 use Prim.Native.Nat.{_-_}
 use lib.ListN.{length}
+use Rattle.text.proofs.Search.{outright}
 use Rattle.tidy.proofs.NumberLaws.{Naming, naming-start, naming-short, naming-outside, naming-unmarked, naming-more, naming-end, naming-names}
 use Rattle.tidy.proofs.NumberLaws.{refused-names}
 use Rattle.tidy.proofs.numbers.name_lines.Statement.{statement}
@@ -19,7 +20,7 @@ name-lines-spec =
     let facts = tie.spec
     Inv-loop
     μ-loop
-    (λ c. search (naming-start, needs))
+    (λ c. outright (search (naming-start, needs)))
     (λ c. search needs)
     (λ c. search needs)
     (λ c. (search (naming-short, needs), refused-names _ _ _))
@@ -35,7 +36,7 @@ name-lines-spec =
     (λ c. search needs)
     (λ c. search needs)
     (λ c. search needs)
-    (λ c. search (naming-more, needs))
+    (λ c. outright (search (naming-more, needs)))
     (λ c. search needs)
     (λ c. (search (naming-end, needs), search (naming-names, needs))) in
     tie.close facts

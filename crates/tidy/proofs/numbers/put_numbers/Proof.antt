@@ -3,6 +3,7 @@
 use borrow.Author.Needs.{needs}
 use Prim.Native.Nat.{_-_}
 use lib.ListN.{length}
+use Rattle.text.proofs.Search.{outright}
 use Rattle.tidy.proofs.NumberLaws.{PutNumbers, putting-start, putting-room, putting-more, putting-end}
 use Rattle.tidy.proofs.numbers.put_numbers.Statement.{statement}
 use Rattle.tidy.proofs.numbers.put_numbers.Tie as tie
@@ -18,11 +19,11 @@ put-numbers-spec =
     let facts = tie.spec
     Inv-loop
     μ-loop
-    (λ c. search (putting-start, needs))
+    (λ c. outright (search (putting-start, needs)))
     (λ c κs. (search needs, search (putting-room, needs)))
     (λ c. search needs)
     (λ c. search needs)
-    (λ c. search (putting-more, needs))
+    (λ c. outright (search (putting-more, needs)))
     (λ c. search needs)
-    (λ c. search (putting-end, needs)) in
+    (λ c. outright (search (putting-end, needs))) in
     tie.close facts

@@ -1,6 +1,7 @@
 -- `tidy::numbers::read_number` meets its contract: a byte is below 256. Assumes nothing.
 use borrow.Author.Needs.{needs}
 use native.Mathlib.Omega.{arith}
+use Rattle.text.proofs.Search.{outright}
 use Rattle.tables.proofs.EntryLaws.{count-of-four}
 use Rattle.tidy.proofs.numbers.read_number.Statement.{statement}
 use Rattle.tidy.proofs.numbers.read_number.Tie as tie
@@ -22,5 +23,5 @@ read-number-spec =
     (λ c. omega (arith, c .shared-slice-known4 .given 0, c .shared-slice-known4 .given 1, c .shared-slice-known4 .given 2, c .shared-slice-known4 .given 3))
     (λ c. omega (arith, c .shared-slice-known4 .given 0, c .shared-slice-known4 .given 1, c .shared-slice-known4 .given 2, c .shared-slice-known4 .given 3))
     (λ c. omega (arith, c .shared-slice-known4 .given 0, c .shared-slice-known4 .given 1, c .shared-slice-known4 .given 2, c .shared-slice-known4 .given 3))
-    (λ c. search (count-of-four, needs)) in
+    (λ c. outright (search (count-of-four, needs))) in
     tie.close facts

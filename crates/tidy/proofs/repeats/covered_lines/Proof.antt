@@ -3,6 +3,7 @@
 use borrow.Author.Needs.{needs}
 use Prim.Native.Nat.{_-_}
 use lib.ListN.{length}
+use Rattle.text.proofs.Search.{outright}
 use Rattle.tidy.proofs.RepeatLaws.{Marking, marking-start, marking-number, marking-short, marking-plain, marking-step, marking-end}
 use Rattle.tidy.proofs.repeats.covered_lines.Statement.{statement}
 use Rattle.tidy.proofs.repeats.covered_lines.Tie as tie
@@ -18,7 +19,7 @@ covered-lines-spec =
     let facts = tie.spec
     Inv-loop
     μ-loop
-    (λ c. search (marking-start, needs))
+    (λ c. outright (search (marking-start, needs)))
     (λ c κs. search needs)
     (λ c. search needs)
     (λ c. search needs)
@@ -36,6 +37,6 @@ covered-lines-spec =
     (λ c. search needs)
     (λ c. search needs)
     (λ c. search needs)
-    (λ c. search (marking-step, needs))
-    (λ c. search (marking-end, needs)) in
+    (λ c. outright (search (marking-step, needs)))
+    (λ c. outright (search (marking-end, needs))) in
     tie.close facts

@@ -1,6 +1,7 @@
 -- `tidy::repeats::is_repeated` meets its contract: the invariant is Seeking: the rest of the chain decides. The measure is what may be left of it. Assumes
 -- nothing.
 use borrow.Author.Needs.{needs}
+use Rattle.text.proofs.Search.{outright}
 use Rattle.tidy.proofs.RepeatLaws.{Seeking, seeking-start, seeking-ended, seeking-past, seeking-found, seeking-on, seeking-end, place-some, place-within}
 use Rattle.tidy.proofs.RepeatLaws.{place-link}
 use Rattle.tidy.proofs.repeats.is_repeated.Statement.{statement}
@@ -17,15 +18,15 @@ is-repeated-spec =
     let facts = tie.spec
     Inv-loop
     μ-loop
-    (λ c. search (seeking-start, needs))
-    (λ c. search (seeking-ended, needs))
-    (λ c. search (seeking-past, needs))
-    (λ c. search (place-some, needs))
-    (λ c κs. search (place-within, needs))
-    (λ c. search (seeking-found, needs))
-    (λ c κs. search (place-link, needs))
+    (λ c. outright (search (seeking-start, needs)))
+    (λ c. outright (search (seeking-ended, needs)))
+    (λ c. outright (search (seeking-past, needs)))
+    (λ c. outright (search (place-some, needs)))
+    (λ c κs. outright (search (place-within, needs)))
+    (λ c. outright (search (seeking-found, needs)))
+    (λ c κs. outright (search (place-link, needs)))
     (λ c. search needs)
     (λ c. search needs)
-    (λ c. search (seeking-on, needs))
-    (λ c. search (seeking-end, needs)) in
+    (λ c. outright (search (seeking-on, needs)))
+    (λ c. outright (search (seeking-end, needs))) in
     tie.close facts

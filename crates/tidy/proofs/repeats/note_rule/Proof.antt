@@ -1,5 +1,6 @@
 -- `tidy::repeats::note_rule` meets its contract: it is marked, or hung. Assumes nothing.
 use borrow.Author.Needs.{needs}
+use Rattle.text.proofs.Search.{outright}
 use Rattle.tidy.proofs.RepeatLaws.{repeat-all, repeat-marks, repeat-links, second-write, new-all, new-marks, new-links}
 use Rattle.tidy.proofs.repeats.note_rule.Statement.{statement}
 use Rattle.tidy.proofs.repeats.note_rule.Tie as tie
@@ -21,7 +22,7 @@ note-rule-spec =
     (λ c. search needs)
     (λ c. search needs)
     (λ c. search needs)
-    (λ c. search (second-write, needs))
+    (λ c. outright (search (second-write, needs)))
     (λ c κs. search needs)
     (λ c. search needs)
     (λ c. (search (new-all, needs), (search (new-marks, needs), search (new-links, needs)))) in

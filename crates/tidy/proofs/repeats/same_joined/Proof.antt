@@ -1,5 +1,6 @@
 -- `tidy::repeats::same_joined` meets its contract: the part of the buffer that is written is the joined line. Assumes nothing.
 use borrow.Author.Needs.{needs}
+use Rattle.text.proofs.Search.{outright}
 use Rattle.tidy.proofs.RepeatLaws.{joined-length, joined-same}
 use Rattle.tidy.proofs.repeats.same_joined.Statement.{statement}
 use Rattle.tidy.proofs.repeats.same_joined.Tie as tie
@@ -10,7 +11,7 @@ same-joined-spec =
     (λ c. search needs)
     (λ c κs. search needs)
     (λ c. search needs)
-    (λ c. search (joined-length, needs))
+    (λ c. outright (search (joined-length, needs)))
     (λ c κs. search needs)
-    (λ c. search (joined-same, needs)) in
+    (λ c. outright (search (joined-same, needs))) in
     tie.close facts

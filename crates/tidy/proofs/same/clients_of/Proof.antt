@@ -2,6 +2,7 @@
 use borrow.Author.Needs.{needs}
 use mathlib.Core.Path.{sym}
 use lib.Seq.{length-take-le}
+use Rattle.text.proofs.Search.{outright}
 use Rattle.tidy.proofs.ListLaws.{clients-part}
 use Rattle.tidy.proofs.same.clients_of.Statement.{statement}
 use Rattle.tidy.proofs.same.clients_of.Tie as tie
@@ -13,5 +14,5 @@ clients-of-spec =
     (λ c κs. search needs)
     (λ c κs. search needs)
     (λ c. sym (length-take-le _ _ (c .before .separator2 .ensures .1)))
-    (λ c. search (clients-part, needs)) in
+    (λ c. outright (search (clients-part, needs))) in
     tie.close facts

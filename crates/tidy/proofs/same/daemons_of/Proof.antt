@@ -2,6 +2,7 @@
 use borrow.Author.Needs.{needs}
 use mathlib.Core.Path.{sym}
 use lib.Seq.{length-take-le}
+use Rattle.text.proofs.Search.{outright}
 use Rattle.tidy.proofs.ListLaws.{daemons-part}
 use Rattle.tidy.proofs.same.daemons_of.Statement.{statement}
 use Rattle.tidy.proofs.same.daemons_of.Tie as tie
@@ -11,5 +12,5 @@ daemons-of-spec =
     let facts = tie.spec
     (λ c κs. search needs)
     (λ c. sym (length-take-le _ _ (c .before .separator .ensures .1)))
-    (λ c. search (daemons-part, needs)) in
+    (λ c. outright (search (daemons-part, needs))) in
     tie.close facts

@@ -4,6 +4,7 @@ use borrow.Author.Needs.{needs}
 use Prim.Native.Nat.{_-_}
 use lib.ListN.{length}
 use Rattle.text.proofs.ScanLaws.{spanLen-end}
+use Rattle.text.proofs.Search.{outright}
 use Rattle.lines.specs.Parts.{isElementByte}
 use Rattle.lines.proofs.RuleLaws.{Passed}
 use Rattle.tidy.proofs.ListLaws.{element-stop, element-more}
@@ -24,9 +25,9 @@ element-length-spec =
     (λ c. search needs)
     (λ c. search needs)
     (λ c κs. search needs)
-    (λ c. search (element-stop, needs))
+    (λ c. outright (search (element-stop, needs)))
     (λ c. search needs)
     (λ c. search needs)
-    (λ c. search (element-more, needs))
-    (λ c. search (spanLen-end, needs)) in
+    (λ c. outright (search (element-more, needs)))
+    (λ c. outright (search (spanLen-end, needs))) in
     tie.close facts

@@ -1,5 +1,6 @@
 -- `tidy::same::element_span` meets its contract: the two lengths. Assumes nothing.
 use borrow.Author.Needs.{needs}
+use Rattle.text.proofs.Search.{outright}
 use Rattle.tidy.proofs.ListLaws.{span-is}
 use Rattle.tidy.proofs.same.element_span.Statement.{statement}
 use Rattle.tidy.proofs.same.element_span.Tie as tie
@@ -13,5 +14,5 @@ element-span-spec =
     (λ c. search needs)
     (λ c κs. search needs)
     (λ c. search needs)
-    (λ c. search (span-is, needs)) in
+    (λ c. outright (search (span-is, needs))) in
     tie.close facts

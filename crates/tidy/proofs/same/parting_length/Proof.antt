@@ -3,6 +3,7 @@ use borrow.Author.Needs.{needs}
 use Prim.Native.Nat.{_-_}
 use lib.ListN.{length}
 use Rattle.text.proofs.ScanLaws.{spanLen-end}
+use Rattle.text.proofs.Search.{outright}
 use Rattle.lines.specs.Parts.{isParting}
 use Rattle.lines.proofs.RuleLaws.{Passed, passed-more, passed-stop}
 use Rattle.tidy.proofs.same.parting_length.Statement.{statement}
@@ -24,7 +25,7 @@ parting-length-spec =
     (λ c κs. search needs)
     (λ c. search needs)
     (λ c. search needs)
-    (λ c. search (passed-more, needs))
-    (λ c. search (passed-stop, needs))
-    (λ c. search (spanLen-end, needs)) in
+    (λ c. outright (search (passed-more, needs)))
+    (λ c. outright (search (passed-stop, needs)))
+    (λ c. outright (search (spanLen-end, needs))) in
     tie.close facts

@@ -2,6 +2,7 @@
 use borrow.Author.Needs.{needs}
 use Prim.Native.Nat.{_-_}
 use lib.ListN.{length}
+use Rattle.text.proofs.Search.{outright}
 use Rattle.tidy.proofs.ListLaws.{Printing, printing-start, printing-more, printing-end, printing-small}
 use Rattle.tidy.proofs.same.print_list.Statement.{statement}
 use Rattle.tidy.proofs.same.print_list.Tie as tie
@@ -17,11 +18,11 @@ print-list-spec =
     let facts = tie.spec
     Inv-loop
     μ-loop
-    (λ c. search (printing-start, needs))
+    (λ c. outright (search (printing-start, needs)))
     (λ c. search needs)
     (λ c κs. search needs)
     (λ c. search needs)
     (λ c. search needs)
-    (λ c. search (printing-more, needs))
+    (λ c. outright (search (printing-more, needs)))
     (λ c. (search (printing-end, needs), search (printing-small, needs))) in
     tie.close facts

@@ -2,6 +2,7 @@
 use borrow.Author.Needs.{needs}
 use mathlib.Core.Path.{_≡_}
 use lib.ListN.{length}
+use Rattle.text.proofs.Search.{outright}
 use Rattle.lines.specs.Parts.{words}
 use Rattle.lines.proofs.RuleLaws.{rest-shorter}
 use Rattle.tidy.specs.Tidy.{sameList}
@@ -23,11 +24,11 @@ same-list-spec =
     (λ c. search needs)
     (λ c κs. search needs)
     (λ c κs. search needs)
-    (λ c. search (same-ended, needs))
+    (λ c. outright (search (same-ended, needs)))
     (λ c κs. search needs)
-    (λ c. search (same-differ, needs))
+    (λ c. outright (search (same-differ, needs)))
     (λ c κs. search needs)
     (λ c κs. search needs)
-    (λ c. search (rest-shorter, needs))
-    (λ c. search (same-more, needs)) in
+    (λ c. outright (search (rest-shorter, needs)))
+    (λ c. outright (search (same-more, needs))) in
     tie.close facts

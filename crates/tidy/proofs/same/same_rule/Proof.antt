@@ -1,5 +1,6 @@
 -- `tidy::same::same_rule` meets its contract: both lists. Assumes nothing.
 use borrow.Author.Needs.{needs}
+use Rattle.text.proofs.Search.{outright}
 use Rattle.tidy.proofs.ListLaws.{rule-other, rule-same}
 use Rattle.tidy.proofs.same.same_rule.Statement.{statement}
 use Rattle.tidy.proofs.same.same_rule.Tie as tie
@@ -13,6 +14,6 @@ same-rule-spec =
     (λ c κs. search needs)
     (λ c κs. search needs)
     (λ c κs. search needs)
-    (λ c. search (rule-same, needs))
-    (λ c. search (rule-other, needs)) in
+    (λ c. outright (search (rule-same, needs)))
+    (λ c. outright (search (rule-other, needs))) in
     tie.close facts

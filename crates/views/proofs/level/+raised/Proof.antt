@@ -4,6 +4,7 @@ use Rattle.views.proofs.LevelLaws.{risen-start, risen-stays, risen-more
 use Prim.Native.Nat.{ℕ, _<_}
 use borrow.Fn.Kinds.{In}
 use borrow.Fn.PlainCycle.{Measures, is, falls, and}
+use Rattle.text.proofs.Search.{outright}
 use Rattle.views.proofs.level.raised.Reads as raised
 use Rattle.views.proofs.level.raised.Kinds as raised-kinds
 use Rattle.views.proofs.level.+raised.Lts-raised as raised-lts
@@ -29,10 +30,10 @@ pub +raised-spec : {M : Type 1} → statement M
 )
     (raised-at t)
     raised.Post
-    (λ c. search (risen-start, needs))
+    (λ c. outright (search (risen-start, needs)))
     (λ c. search needs)
     (λ c κs. search needs)
     (λ c. search needs)
-    (λ c. search (risen-stays, needs))
+    (λ c. outright (search (risen-stays, needs)))
     (λ c κs. search needs)
-    (λ c. search (risen-more, needs))
+    (λ c. outright (search (risen-more, needs)))

@@ -2,6 +2,7 @@
 -- Assumes nothing.
 use borrow.Author.Needs.{needs}
 use Prim.Native.Nat.{_-_}
+use Rattle.text.proofs.Search.{outright}
 use Rattle.views.proofs.TallyLaws.{Raising, raising-start, raising-end, raising-cut, raising-place, raising-client, raising-server, raising-more}
 use Rattle.views.proofs.level.all_above.Statement.{statement}
 use Rattle.views.proofs.level.all_above.Tie as tie
@@ -19,20 +20,20 @@ all-above-spec =
     μ-loop
     (λ c κs. search needs)
     (λ c κs. search needs)
-    (λ c. search (raising-start, needs))
+    (λ c. outright (search (raising-start, needs)))
     (λ c κs. search needs)
-    (λ c. search (raising-cut, needs))
+    (λ c. outright (search (raising-cut, needs)))
     (λ c κs. search needs)
-    (λ c κs. search (raising-place, needs))
+    (λ c κs. outright (search (raising-place, needs)))
     (λ c. search needs)
     (λ c. search needs)
-    (λ c. search (raising-client, needs))
+    (λ c. outright (search (raising-client, needs)))
     (λ c. search needs)
     (λ c. search needs)
-    (λ c. search (raising-server, needs))
+    (λ c. outright (search (raising-server, needs)))
     (λ c κs. search needs)
     (λ c. search needs)
     (λ c. search needs)
-    (λ c. search (raising-more, needs))
-    (λ c. search (raising-end, needs)) in
+    (λ c. outright (search (raising-more, needs)))
+    (λ c. outright (search (raising-end, needs))) in
     tie.close facts

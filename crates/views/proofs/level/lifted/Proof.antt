@@ -1,5 +1,6 @@
 -- `level::lifted` meets its contract. Assumes nothing.
 use borrow.Author.Needs.{needs}
+use Rattle.text.proofs.Search.{outright}
 use Rattle.views.proofs.LevelLaws.{lift-right}
 use Rattle.views.proofs.level.lifted.Statement.{statement}
 use Rattle.views.proofs.level.lifted.Tie as tie
@@ -19,5 +20,5 @@ lifted-spec =
     (λ c. search needs)
     (λ c κs. search needs)
     (λ c. search needs)
-    (λ c. search (lift-right, needs)) in
+    (λ c. outright (search (lift-right, needs))) in
     tie.close facts

@@ -1,5 +1,6 @@
 -- `level::tally_place` meets its contract. Assumes nothing.
 use borrow.Author.Needs.{needs}
+use Rattle.text.proofs.Search.{outright}
 use Rattle.views.proofs.TallyLaws.{tally-nowhere, tally-there}
 use Rattle.views.proofs.level.tally_place.Statement.{statement}
 use Rattle.views.proofs.level.tally_place.Tie as tie
@@ -13,6 +14,6 @@ tally-place-spec =
     (λ c κs. search needs)
     (λ c κs. search needs)
     (λ c κs. search needs)
-    (λ c. search (tally-nowhere, needs))
-    (λ c. search (tally-there, needs)) in
+    (λ c. outright (search (tally-nowhere, needs)))
+    (λ c. outright (search (tally-there, needs))) in
     tie.close facts

@@ -2,6 +2,7 @@
 -- the length of the rest. Assumes nothing.
 use borrow.Author.Needs.{needs}
 use lib.ListN.{length}
+use Rattle.text.proofs.Search.{outright}
 use Rattle.tables.specs.Code.{tablesIn}
 use Rattle.tables.proofs.WordLaws.{rest-shorter}
 use Rattle.views.proofs.TallyLaws.{Both, both-start, both-end, both-done, both-more}
@@ -19,16 +20,16 @@ text-tried-spec =
     let facts = tie.spec
     Inv-loop
     μ-loop
-    (λ c. search (both-start, needs))
+    (λ c. outright (search (both-start, needs)))
     (λ c κs. search needs)
     (λ c κs. search needs)
-    (λ c. search (both-end, needs))
+    (λ c. outright (search (both-end, needs)))
     (λ c κs. search needs)
-    (λ c. search (both-done, needs))
-    (λ c κs. search needs)
-    (λ c κs. search needs)
+    (λ c. outright (search (both-done, needs)))
     (λ c κs. search needs)
     (λ c κs. search needs)
-    (λ c. search (rest-shorter, needs))
-    (λ c. search (both-more, needs)) in
+    (λ c κs. search needs)
+    (λ c κs. search needs)
+    (λ c. outright (search (rest-shorter, needs)))
+    (λ c. outright (search (both-more, needs))) in
     tie.close facts

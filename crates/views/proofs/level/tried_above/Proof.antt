@@ -1,5 +1,6 @@
 -- `level::tried_above` meets its contract. Assumes nothing.
 use borrow.Author.Needs.{needs}
+use Rattle.text.proofs.Search.{outright}
 use Rattle.views.proofs.TallyLaws.{above-on, above-off}
 use Rattle.views.proofs.level.tried_above.Statement.{statement}
 use Rattle.views.proofs.level.tried_above.Tie as tie
@@ -16,12 +17,12 @@ tried-above-spec =
     (λ c. search needs)
     (λ c. search needs)
     (λ c κs. search needs)
-    (λ c. search (above-on, needs))
+    (λ c. outright (search (above-on, needs)))
     (λ c. search needs)
     (λ c. search needs)
     (λ c. search needs)
     (λ c. search needs)
     (λ c. search needs)
     (λ c. search needs)
-    (λ c. search (above-off, needs)) in
+    (λ c. outright (search (above-off, needs))) in
     tie.close facts

@@ -2,6 +2,7 @@
 -- The measure is the count of the others. Assumes nothing.
 use borrow.Author.Needs.{needs}
 use Prim.Native.Nat.{_-_}
+use Rattle.text.proofs.Search.{outright}
 use Rattle.views.proofs.NamesLaws.{other-found, Seeking, seeking-start, seeking-found, seeking-less, seeking-more, seeking-end}
 use Rattle.views.proofs.names.find_noted.Statement.{statement}
 use Rattle.views.proofs.names.find_noted.Tie as tie
@@ -18,18 +19,18 @@ find-noted-spec =
     Inv-loop
     μ-loop
     (λ c κs. search needs)
-    (λ c. search (other-found, needs))
+    (λ c. outright (search (other-found, needs)))
     (λ c κs. search needs)
     (λ c κs. search needs)
-    (λ c. search (seeking-start, needs))
+    (λ c. outright (search (seeking-start, needs)))
     (λ c. search needs)
     (λ c. search needs)
     (λ c. search needs)
     (λ c κs. search needs)
-    (λ c. search (seeking-found, needs))
+    (λ c. outright (search (seeking-found, needs)))
     (λ c. search needs)
     (λ c κs. search needs)
-    (λ c. search (seeking-less, needs))
-    (λ c. search (seeking-more, needs))
-    (λ c. search (seeking-end, needs)) in
+    (λ c. outright (search (seeking-less, needs)))
+    (λ c. outright (search (seeking-more, needs)))
+    (λ c. outright (search (seeking-end, needs))) in
     tie.close facts

@@ -3,6 +3,7 @@
 use borrow.Author.Needs.{needs}
 use Prim.Native.Nat.{_-_}
 use lib.ListN.{length}
+use Rattle.text.proofs.Search.{outright}
 use Rattle.views.proofs.NamesLaws.{Hashing, hashing-start, hashing-more, hashing-end, hashing-small}
 use Rattle.views.proofs.names.hash.Statement.{statement}
 use Rattle.views.proofs.names.hash.Tie as tie
@@ -18,14 +19,14 @@ hash-spec =
     let facts = tie.spec
     Inv-loop
     μ-loop
-    (λ c. search (hashing-start, needs))
-    (λ c. search (hashing-small, needs))
+    (λ c. outright (search (hashing-start, needs)))
+    (λ c. outright (search (hashing-small, needs)))
     (λ c. search needs)
     (λ c κs. search needs)
     (λ c. search needs)
-    (λ c. search (hashing-small, needs))
+    (λ c. outright (search (hashing-small, needs)))
     (λ c. search needs)
     (λ c. search needs)
-    (λ c. search (hashing-more, needs))
-    (λ c. search (hashing-end, needs)) in
+    (λ c. outright (search (hashing-more, needs)))
+    (λ c. outright (search (hashing-end, needs))) in
     tie.close facts

@@ -2,6 +2,7 @@
 -- Assumes nothing.
 use borrow.Author.Needs.{needs}
 use Prim.Native.Nat.{_-_}
+use Rattle.text.proofs.Search.{outright}
 use Rattle.views.specs.Names.{Skipped}
 use Rattle.views.proofs.NamesLaws.{skip-one, found-here, found-none}
 use Rattle.views.proofs.names.next_place.Statement.{statement}
@@ -26,6 +27,6 @@ next-place-spec =
     (λ c. (search needs, search (found-here, needs)))
     (λ c. search needs)
     (λ c. search needs)
-    (λ c. search (skip-one, needs))
+    (λ c. outright (search (skip-one, needs)))
     (λ c. (search needs, search (found-none, needs))) in
     tie.close facts

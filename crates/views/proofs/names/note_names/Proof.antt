@@ -2,6 +2,7 @@
 -- the others. Assumes nothing.
 use borrow.Author.Needs.{needs}
 use Prim.Native.Nat.{_-_}
+use Rattle.text.proofs.Search.{outright}
 use Rattle.views.proofs.NamesLaws.{Noting, noting-start, noting-cut, noting-within, noting-place, noting-byte-place, noting-more, noting-end}
 use Rattle.views.proofs.names.note_names.Statement.{statement}
 use Rattle.views.proofs.names.note_names.Tie as tie
@@ -19,21 +20,21 @@ note-names-spec =
     μ-loop
     (λ c κs. search needs)
     (λ c κs. search needs)
-    (λ c. search (noting-start, needs))
+    (λ c. outright (search (noting-start, needs)))
     (λ c κs. search needs)
-    (λ c. search (noting-cut, needs))
+    (λ c. outright (search (noting-cut, needs)))
     (λ c κs. search needs)
     (λ c κs. search needs)
-    (λ c. search (noting-place, needs))
-    (λ c. search (noting-place, needs))
-    (λ c. search (noting-place, needs))
-    (λ c. search (noting-within, needs))
-    (λ c. search (noting-byte-place, needs))
-    (λ c. search (noting-byte-place, needs))
-    (λ c. search (noting-byte-place, needs))
+    (λ c. outright (search (noting-place, needs)))
+    (λ c. outright (search (noting-place, needs)))
+    (λ c. outright (search (noting-place, needs)))
+    (λ c. outright (search (noting-within, needs)))
+    (λ c. outright (search (noting-byte-place, needs)))
+    (λ c. outright (search (noting-byte-place, needs)))
+    (λ c. outright (search (noting-byte-place, needs)))
     (λ c κs. search needs)
     (λ c. search needs)
     (λ c. search needs)
-    (λ c. search (noting-more, needs))
-    (λ c. search (noting-end, needs)) in
+    (λ c. outright (search (noting-more, needs)))
+    (λ c. outright (search (noting-end, needs))) in
     tie.close facts

@@ -2,6 +2,7 @@
 -- The measure is the count of the words left. Assumes nothing.
 use borrow.Author.Needs.{needs}
 use Prim.Native.Nat.{_-_}
+use Rattle.text.proofs.Search.{outright}
 use Rattle.views.proofs.NamesLaws.{Telling, telling-start, telling-more, telling-end}
 use Rattle.views.proofs.names.put_told.Statement.{statement}
 use Rattle.views.proofs.names.put_told.Tie as tie
@@ -17,13 +18,13 @@ put-told-spec =
     let facts = tie.spec
     Inv-loop
     μ-loop
-    (λ c. search (telling-start, needs))
+    (λ c. outright (search (telling-start, needs)))
     (λ c. search needs)
     (λ c. search needs)
     (λ c. search needs)
     (λ c. search needs)
     (λ c. search needs)
     (λ c. search needs)
-    (λ c. search (telling-more, needs))
-    (λ c. search (telling-end, needs)) in
+    (λ c. outright (search (telling-more, needs)))
+    (λ c. outright (search (telling-end, needs))) in
     tie.close facts

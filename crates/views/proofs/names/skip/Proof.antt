@@ -2,6 +2,7 @@
 -- Assumes nothing.
 use borrow.Author.Needs.{needs}
 use Prim.Native.Nat.{_-_}
+use Rattle.text.proofs.Search.{outright}
 use Rattle.views.specs.Names.{Skipped}
 use Rattle.views.proofs.NamesLaws.{skip-start, skip-four}
 use Rattle.views.proofs.names.skip.Statement.{statement}
@@ -18,11 +19,11 @@ skip-spec =
     let facts = tie.spec
     Inv-loop
     μ-loop
-    (λ c. search (skip-start, needs))
+    (λ c. outright (search (skip-start, needs)))
     (λ c κs. search needs)
     (λ c. search needs)
     (λ c. search needs)
     (λ c. search needs)
-    (λ c. search (skip-four, needs))
+    (λ c. outright (search (skip-four, needs)))
     (λ c. search needs) in
     tie.close facts
