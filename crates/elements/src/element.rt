@@ -36,8 +36,10 @@ ghost use Rattle.tables.specs.Table.{isTableName, tableName, patternWith};
 ghost use Rattle.tables.specs.Tried.{capped};
 ghost use Rattle.classes.specs.Class.{Describes};
 ghost use Rattle.elements.specs.Request.{requestOf, wellFormed};
-ghost use Rattle.elements.specs.Element.{clientReserved, daemonReserved, foundIf, daemonName, userHalf, daemonElement, clientElement, lookAt, elementLooked};
-ghost use Rattle.elements.specs.Code.{viewOf, noReference, referenceWith, elementReference, saying, tableSeen, daemonKind, clientKind, misnamed, lookedFor};
+ghost use Rattle.elements.specs.Element.{clientReserved, daemonReserved, foundIf, daemonName, userHalf, daemonElement, clientElement, lookAt};
+ghost use Rattle.elements.specs.Element.{elementLooked};
+ghost use Rattle.elements.specs.Code.{viewOf, noReference, referenceWith, elementReference, saying, tableSeen, daemonKind, clientKind};
+ghost use Rattle.elements.specs.Code.{misnamed, lookedFor};
 ghost use Rattle.elements.specs.Code.{faultOf, kindSeen, elementSeen, daemonSeen, daemonRequest, clientRequest};
 ghost use Rattle.elements.specs.Code.{atSign, nameFits, nameEquals, askIf, userTest, userFound, userFits};
 
@@ -368,7 +370,9 @@ fn daemon_halves(
     server_name: &[u8],
 ) -> KindSeen
     requires { ⌜ (at ≡ atSign (now e)) × (at < length (now e)) ⌝ }
-    ensures { λ r. ⌜ r ≡ kindSeen look (daemonRequest (now (daemon .entry)) (endpoint server (now («server_name» .entry)))) (daemonElement (saying matched) (now (e .entry))) ⌝ }
+    ensures { λ r. ⌜ r
+        ≡ kindSeen look (daemonRequest (now (daemon .entry)) (endpoint server (now («server_name» .entry))))
+        (daemonElement (saying matched) (now (e .entry))) ⌝ }
 {
     let after = at + 1;
     let t = &e[..at];
@@ -393,7 +397,9 @@ fn daemon_kind(
 ) -> KindSeen
     requires { ⌜ (at ≡ atSign (now e)) × (at ≤ length (now e)) ⌝ }
     requires { ⌜ names ≡ all isNameByte (now e) ⌝ }
-    ensures { λ r. ⌜ r ≡ kindSeen look (daemonRequest (now (daemon .entry)) (endpoint server (now («server_name» .entry)))) (daemonElement (saying matched) (now (e .entry))) ⌝ }
+    ensures { λ r. ⌜ r
+        ≡ kindSeen look (daemonRequest (now (daemon .entry)) (endpoint server (now («server_name» .entry))))
+        (daemonElement (saying matched) (now (e .entry))) ⌝ }
 {
     if at == e.len() {
         let name = daemon_name_seen(e, names, look, daemon);
@@ -486,7 +492,8 @@ pub fn daemon_found(
     requires { ⌜ Describes mask (now e) ⌝ }
     ensures { λ r.
         ⌜ r ≡ lookedFor
-        (lookAt (daemonRequest (now (daemon .entry)) (endpoint server (now («server_name» .entry)))) (daemonElement (viewOf (now (tables .entry)) (now (notes .entry)) .server) (now (e .entry))))
+        (lookAt (daemonRequest (now (daemon .entry)) (endpoint server (now («server_name» .entry))))
+        (daemonElement (viewOf (now (tables .entry)) (now (notes .entry)) .server) (now (e .entry))))
         (capped (elementLooked (viewOf (now (tables .entry)) (now (notes .entry)) .serverTried) (now (e .entry)))) ⌝ }
 {
     let at = sign_place(e, mask);

@@ -222,9 +222,11 @@ fn clients_negated(
     requires { ⌜ Classes (now class) ⌝ }
     ensures { λ r.
         ⌜ r ≡ turn
-        (sideTurned (clientFinds (viewOf (now (tables .entry)) (now (notes .entry))) (endpoint client (now («client_name» .entry))) user (now («user_name» .entry))) side
+        (sideTurned (clientFinds (viewOf (now (tables .entry)) (now (notes .entry))) (endpoint client (now («client_name» .entry))) user
+        (now («user_name» .entry))) side
         (words (now (s .entry))))
-        (turnedLooks (clientFinds (viewOf (now (tables .entry)) (now (notes .entry))) (endpoint client (now («client_name» .entry))) user (now («user_name» .entry)))
+        (turnedLooks (clientFinds (viewOf (now (tables .entry)) (now (notes .entry))) (endpoint client (now («client_name» .entry))) user
+        (now («user_name» .entry)))
         (clientCounts (viewOf (now (tables .entry)) (now (notes .entry)))) side (words (now (s .entry)))) ⌝ }
 {
     match side {
@@ -263,7 +265,8 @@ fn daemons_side(
     requires { ⌜ Classes (now class) ⌝ }
     ensures { λ r.
         ⌜ r ≡ turn
-        (sideStep (daemonFinds (viewOf (now (tables .entry)) (now (notes .entry))) (now (daemon .entry)) (endpoint server (now («server_name» .entry)))) side x f (words (now (s .entry))))
+        (sideStep (daemonFinds (viewOf (now (tables .entry)) (now (notes .entry))) (now (daemon .entry))
+        (endpoint server (now («server_name» .entry)))) side x f (words (now (s .entry))))
         (stepLooks (daemonFinds (viewOf (now (tables .entry)) (now (notes .entry))) (now (daemon .entry)) (endpoint server (now («server_name» .entry))))
         (daemonCounts (viewOf (now (tables .entry)) (now (notes .entry)))) side x looked (words (now (s .entry)))) ⌝ }
 {
@@ -293,7 +296,10 @@ fn daemon_step(
     requires { ⌜ Classes (now class) ⌝ }
     requires { ⌜ Describes mask (now e) ⌝ }
     ensures { λ r.
-        ⌜ r ≡ passStep (daemonKind (viewOf (now (tables .entry)) (now (notes .entry)))) (daemonFinds (viewOf (now (tables .entry)) (now (notes .entry))) (now (daemon .entry)) (endpoint server (now («server_name» .entry)))) p (now (e .entry))
+        ⌜ r
+        ≡ passStep (daemonKind (viewOf (now (tables .entry)) (now (notes .entry))))
+        (daemonFinds (viewOf (now (tables .entry)) (now (notes .entry))) (now (daemon .entry)) (endpoint server (now («server_name» .entry)))) p
+        (now (e .entry))
         (words (now (next .entry))) ⌝ }
 {
     let side = p.side;
@@ -351,8 +357,10 @@ fn clients_side(
     requires { ⌜ Classes (now class) ⌝ }
     ensures { λ r.
         ⌜ r ≡ turn
-        (sideStep (clientFinds (viewOf (now (tables .entry)) (now (notes .entry))) (endpoint client (now («client_name» .entry))) user (now («user_name» .entry))) side x f (words (now (s .entry))))
-        (stepLooks (clientFinds (viewOf (now (tables .entry)) (now (notes .entry))) (endpoint client (now («client_name» .entry))) user (now («user_name» .entry)))
+        (sideStep (clientFinds (viewOf (now (tables .entry)) (now (notes .entry))) (endpoint client (now («client_name» .entry))) user
+        (now («user_name» .entry))) side x f (words (now (s .entry))))
+        (stepLooks (clientFinds (viewOf (now (tables .entry)) (now (notes .entry))) (endpoint client (now («client_name» .entry))) user
+        (now («user_name» .entry)))
         (clientCounts (viewOf (now (tables .entry)) (now (notes .entry)))) side x looked (words (now (s .entry)))) ⌝ }
 {
     if x {
@@ -392,7 +400,9 @@ fn client_step(
     requires { ⌜ Classes (now class) ⌝ }
     requires { ⌜ Describes mask (now e) ⌝ }
     ensures { λ r.
-        ⌜ r ≡ passStep (clientKind (viewOf (now (tables .entry)) (now (notes .entry)))) (clientFinds (viewOf (now (tables .entry)) (now (notes .entry))) (endpoint client (now («client_name» .entry))) user (now («user_name» .entry))) p
+        ⌜ r
+        ≡ passStep (clientKind (viewOf (now (tables .entry)) (now (notes .entry))))
+        (clientFinds (viewOf (now (tables .entry)) (now (notes .entry))) (endpoint client (now («client_name» .entry))) user (now («user_name» .entry))) p
         (now (e .entry)) (words (now (next .entry))) ⌝ }
 {
     let side = p.side;
@@ -458,7 +468,9 @@ fn pass_daemons(
 ) -> ListSeen
     requires { ⌜ Classes (now class) ⌝ }
     ensures { λ r.
-        ⌜ r ≡ listSeen (daemonKind (viewOf (now (tables .entry)) (now (notes .entry)))) (daemonFinds (viewOf (now (tables .entry)) (now (notes .entry))) (now (daemon .entry)) (endpoint server (now («server_name» .entry)))) search
+        ⌜ r
+        ≡ listSeen (daemonKind (viewOf (now (tables .entry)) (now (notes .entry))))
+        (daemonFinds (viewOf (now (tables .entry)) (now (notes .entry))) (now (daemon .entry)) (endpoint server (now («server_name» .entry)))) search
         (words (now (s .entry))) ⌝ }
 {
     let mut p = pass_start(search);
@@ -500,7 +512,9 @@ fn pass_clients(
 ) -> ListSeen
     requires { ⌜ Classes (now class) ⌝ }
     ensures { λ r.
-        ⌜ r ≡ listSeen (clientKind (viewOf (now (tables .entry)) (now (notes .entry)))) (clientFinds (viewOf (now (tables .entry)) (now (notes .entry))) (endpoint client (now («client_name» .entry))) user (now («user_name» .entry))) search
+        ⌜ r
+        ≡ listSeen (clientKind (viewOf (now (tables .entry)) (now (notes .entry))))
+        (clientFinds (viewOf (now (tables .entry)) (now (notes .entry))) (endpoint client (now («client_name» .entry))) user (now («user_name» .entry))) search
         (words (now (s .entry))) ⌝ }
 {
     let mut p = pass_start(search);
@@ -542,7 +556,8 @@ fn daemons_seen(
     requires { ⌜ Classes (now class) ⌝ }
     ensures { λ r.
         ⌜ r ≡ listSeen (daemonKind (viewOf (now (tables .entry)) (now (notes .entry))))
-        (daemonFinds (viewOf (now (tables .entry)) (now (notes .entry))) (requestAt (now (names .entry)) request .daemon) (requestAt (now (names .entry)) request .server)) search
+        (daemonFinds (viewOf (now (tables .entry)) (now (notes .entry))) (requestAt (now (names .entry)) request .daemon)
+        (requestAt (now (names .entry)) request .server)) search
         (words (now (s .entry))) ⌝ }
 {
     let server = request.server;
@@ -571,7 +586,8 @@ fn clients_seen(
     requires { ⌜ Classes (now class) ⌝ }
     ensures { λ r.
         ⌜ r ≡ listSeen (clientKind (viewOf (now (tables .entry)) (now (notes .entry))))
-        (clientFinds (viewOf (now (tables .entry)) (now (notes .entry))) (requestAt (now (names .entry)) request .client) (request .user) (requestAt (now (names .entry)) request .userName))
+        (clientFinds (viewOf (now (tables .entry)) (now (notes .entry))) (requestAt (now (names .entry)) request .client) (request .user)
+        (requestAt (now (names .entry)) request .userName))
         search (words (now (s .entry))) ⌝ }
 {
     let client = request.client;

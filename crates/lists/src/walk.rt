@@ -674,7 +674,8 @@ pub fn daemons_included(
     server_name: &[u8],
 ) -> Looked
     requires { ⌜ Classes (now class) ⌝ }
-    ensures { λ r. ⌜ r ≡ listLooked (daemonFinds (viewOf (now (tables .entry)) (now (notes .entry))) (now (daemon .entry)) (endpoint server (now («server_name» .entry))))
+    ensures { λ r. ⌜ r
+        ≡ listLooked (daemonFinds (viewOf (now (tables .entry)) (now (notes .entry))) (now (daemon .entry)) (endpoint server (now («server_name» .entry))))
         (daemonCounts (viewOf (now (tables .entry)) (now (notes .entry)))) (words (now (s .entry))) ⌝ }
 {
     let name = server.name;
@@ -717,7 +718,9 @@ pub fn clients_included(
     user_name: &[u8],
 ) -> Looked
     requires { ⌜ Classes (now class) ⌝ }
-    ensures { λ r. ⌜ r ≡ listLooked (clientFinds (viewOf (now (tables .entry)) (now (notes .entry))) (endpoint client (now («client_name» .entry))) user (now («user_name» .entry)))
+    ensures { λ r. ⌜ r
+        ≡ listLooked (clientFinds (viewOf (now (tables .entry)) (now (notes .entry))) (endpoint client (now («client_name» .entry))) user
+        (now («user_name» .entry)))
         (clientCounts (viewOf (now (tables .entry)) (now (notes .entry)))) (words (now (s .entry))) ⌝ }
 {
     let name = client.name;

@@ -14,7 +14,8 @@ ghost use Rattle.classes.specs.Class.{Classes};
 ghost use Rattle.lists.specs.Code.{NoNewline};
 ghost use Rattle.lines.specs.Line.{lines};
 ghost use Rattle.tables.specs.Tried.{capped};
-ghost use Rattle.rules.specs.FileCode.{queryAt, ScannedLine, lineKind, ruleExamined, lineExamined, commandPart, passLine, stepOf, passText, passOf, hostsFaultAt};
+ghost use Rattle.rules.specs.FileCode.{queryAt, ScannedLine, lineKind, ruleExamined, lineExamined, commandPart, passLine, stepOf, passText};
+ghost use Rattle.rules.specs.FileCode.{passOf, hostsFaultAt};
 ghost use Rattle.rules.specs.FileCode.{judgedLine, isRefused, tallied, lineLooks, linesLooked};
 ghost use mathlib.Core.Option.{none};
 ghost use Rattle.text.specs.Basics.{isSome};
@@ -354,7 +355,8 @@ fn pass_lines(
         ⌜ r
         ≡ tallied
         (passText order verdict file search (queryAt (now (tables .entry)) (now (notes .entry)) (now (names .entry)) request) (now (text .entry)))
-        (capped (linesLooked verdict file search (queryAt (now (tables .entry)) (now (notes .entry)) (now (names .entry)) request) (lines (now (text .entry))))) ⌝ }
+        (capped (linesLooked verdict file search (queryAt (now (tables .entry)) (now (notes .entry)) (now (names .entry)) request)
+        (lines (now (text .entry))))) ⌝ }
 {
     let mut i = 0;
     let mut n = 1;
@@ -418,7 +420,8 @@ pub fn pass_file(
         ⌜ r
         ≡ tallied
         (passText order verdict file search (queryAt (now (tables .entry)) (now (notes .entry)) (now (names .entry)) request) (now (text .entry)))
-        (capped (linesLooked verdict file search (queryAt (now (tables .entry)) (now (notes .entry)) (now (names .entry)) request) (lines (now (text .entry))))) ⌝ }
+        (capped (linesLooked verdict file search (queryAt (now (tables .entry)) (now (notes .entry)) (now (names .entry)) request)
+        (lines (now (text .entry))))) ⌝ }
 {
     if text.len() == 0 {
         return Tally {
