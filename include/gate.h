@@ -118,15 +118,15 @@ enum gate_section {
 #define GATE_ANSWER_BYTES 36
 #define GATE_EXPANSION_ROOM (GATE_LINE_LIMIT / 2 * (GATE_USER_LIMIT + 1 + GATE_NAME_LIMIT) + GATE_LINE_LIMIT % 2)
 
-/* The stack that any call needs, in bytes, with a margin; the caller's own frames come on top. On x86-64 the most is some 108,200, by
- * gate_drop and gate_propose, and 95,400 by the others: 304 bytes for each EXCEPT of a line of 2,047 bytes that is `a:a EXCEPT a EXCEPT a ..`,
- * 227 of them; 16,800 for the notes on how deep each of up to 65,535 tables leads; the two have a mark for each line of a file above them, in
- * 16,500. Only the walks through client and daemon lists and those through tables call themselves; the calls for a byuid or portacl text, an
- * upgrade, a conversion, an expansion or an address stay under 5,000. It was found in two ways: tests/stack.py adds up the frames of the
- * archive's functions along the deepest path of calls, for any input, and tests/stack.c paints the stack of a thread whose whole stack is
- * this, and makes every call on the worst inputs known; some 74,500 by these, as the notes and the longest walk do not come together. The
- * margin also covers the first call of memcpy through a dynamic linker (some 3,000). */
-#define GATE_STACK 131072
+/* The stack that any call needs, in bytes, with a margin; the caller's own frames come on top. On x86-64 the most is some 50,000, by
+ * gate_drop and gate_propose: a mark for each line of a file, in 16,500, above the search for rules that an earlier one covers, 33,400. The
+ * others take 28,200 at most, by gate_verdicts: 16,800 are the notes on how deep each of up to 65,535 tables leads, or 21,200 the walk through
+ * them. Only that walk calls itself, to a depth of five; a line may have as many EXCEPTs as it will, as the sides of EXCEPT call each other last,
+ * in a loop. The calls for a byuid or portacl text, an upgrade, a conversion, an expansion or an address stay under 5,000. It was found in two
+ * ways: tests/stack.py adds up the frames of the archive's functions along the deepest path of calls, for any input, and tests/stack.c paints
+ * the stack of a thread whose whole stack is this, and makes every call on the worst inputs known; some 50,100 by these. The margin also
+ * covers the first call of memcpy through a dynamic linker (some 3,000). */
+#define GATE_STACK 65536
 
 /* Words of a decision. */
 enum gate_word {

@@ -4,7 +4,9 @@ path of calls. GATE_STACK must leave a margin over it.
 
 A frame is what a function pushes and takes off the stack pointer, with its return address; all of it is counted, wherever it stands in
 the function, so that the sum is never too small. A function may call itself only if it is listed below with the most of its frames that
-can stand at once. For x86-64, as objdump shows it. Prints one line; exits with 1 where the margin is not left.
+can stand at once. A call that is the last thing that a function does may be a jump: one to the function itself is a loop, and takes no
+frame, as those of the sides of EXCEPT in lists::walk to each other, which the compiler joins; one to another function counts as a call.
+For x86-64, as objdump shows it. Prints one line; exits with 1 where the margin is not left.
 """
 import functools
 import pathlib
@@ -22,11 +24,8 @@ def macro(name):
     return int(re.search(rf"^#define {name} (\d+)", HEADER, re.M).group(1))
 
 
-# one frame for a list, and one for each EXCEPT of a line: nine bytes at least, as in `a EXCEPT a`
-LEVELS = 1 + macro("GATE_LINE_LIMIT") // len("a EXCEPT ")
 # one for each depth that a rule may lead to, and one for none
-DEPTHS = 5
-RECURSIVE = {"lists::walk::clients_included": LEVELS, "lists::walk::daemons_included": LEVELS, "views::level::raised": DEPTHS}
+RECURSIVE = {"views::level::raised": 5}
 
 
 # a frame of many pages is taken page by page, in a loop: it is read as taken at once
