@@ -328,9 +328,18 @@ host-parts h p e = rw e (ap (hostWith (h .name)) (by (h .addr)))
     by (A.V4 x) = refl
     by (A.V6 x y) = refl
 
-whole-list : (m : List ℕ → Found) (c : List ℕ → ℕ) (s : List ℕ) (f : Found) (code k : ℕ) → f ≡ foundAs code
-    → lookedFor (foundAs code) k ≡ lookedMore 0 (listLooked m c (words (drop 0 s))) → lookedFor f k ≡ listLooked m c (words s)
-whole-list m c s f code k is-f e = ap (λ (x : Found). lookedFor x k) is-f ∙ e ∙ sym (walked-none m c s .same)
+-- ## A list, by the elements left of its first EXCEPT and the list after it
+
+module _ (m : List ℕ → Found) (c : List ℕ → ℕ) (s : List ℕ) (g : Group) (h : Grouped m c s g) where
+  pub list-done : g .left ≡ 0 → lookedFor (g .found) (g .looked) ≡ listLooked m c (words s)
+  list-done z = sym (h .done z)
+
+  pub group-within : g .left ≤ length s
+  group-within = h .within
+
+  pub list-more : (g .left ≡ 0 → ⊥) → (r : Looked)
+      → r ≡ lookedMore (g .looked) (negatedLooked (listLooked m c (words (drop (length s - g .left) s)))) → r ≡ listLooked m c (words s)
+  list-more z r e = e ∙ sym (h .more z)
 
 module _ (a : Addr) where
   pub parts-unknown : a ≡ A.Unknown → parts Family.Unknown 0 0 0 ≡ partsOf a
@@ -407,26 +416,29 @@ module _ (v : View) (name : Name) (family : Family) (v4 high low : ℕ) (h : Hos
         → Stepped (clientFinds v (endpoint (hostOf name family v4 high low) host) user user-name) (clientCounts v) list from b n (length list - g .left) k code
     clients-more = stepped-more clients-find (clientCounts v) list from s is-s g clients-at n k is-k b t is-t code is-code
 
-module _ (v : View) (h : Host) (p : AddrParts) (is-p : p ≡ partsOf (h .addr)) (s : List ℕ) (f : Found) (code k : ℕ) (is-f : f ≡ foundAs code) where
-  -- found over the whole list, of a host that is given by its numbers
-  wholly : (m : Host → List ℕ → Found) (c : List ℕ → ℕ)
-      → lookedFor (foundAs code) k ≡ lookedMore 0 (listLooked (m (hostOf (h .name) (p .family) (p .v4) (p .high) (p .low))) c (words (drop 0 s)))
-      → lookedFor f k ≡ listLooked (m h) c (words s)
-  wholly m c e = whole-list (m h) c s f code k is-f
-      (subst (λ (x : Host). lookedFor (foundAs code) k ≡ lookedMore 0 (listLooked (m x) c (words (drop 0 s)))) (host-parts h p is-p) e)
+module _ (v : View) (h : Host) (p : AddrParts) (is-p : p ≡ partsOf (h .addr)) (s : List ℕ) (from n : ℕ) (f : Found) (code k : ℕ) (is-f : f ≡ foundAs code) where
+  -- found past an EXCEPT, of a host that is given by its numbers
+  past : (m : Host → List ℕ → Found) (c : List ℕ → ℕ)
+      → lookedFor (foundAs code) k ≡ lookedMore n
+      (negatedLooked (listLooked (m (hostOf (h .name) (p .family) (p .v4) (p .high) (p .low))) c (words (drop from s))))
+      → lookedFor f k ≡ lookedMore n (negatedLooked (listLooked (m h) c (words (drop from s))))
+  past m c e =
+      ap (λ (x : Found). lookedFor x k) is-f
+      ∙ subst (λ (x : Host). lookedFor (foundAs code) k ≡ lookedMore n (negatedLooked (listLooked (m x) c (words (drop from s))))) (host-parts h p is-p) e
 
-  pub daemons-whole : (daemon host : List ℕ)
-      → lookedFor (foundAs code) k ≡ lookedMore 0
-      (listLooked (daemonFinds v daemon (endpoint (hostOf (h .name) (p .family) (p .v4) (p .high) (p .low)) host)) (daemonCounts v) (words (drop 0 s)))
-      → lookedFor f k ≡ listLooked (daemonFinds v daemon (endpoint h host)) (daemonCounts v) (words s)
-  daemons-whole daemon host = wholly (λ x. daemonFinds v daemon (endpoint x host)) (daemonCounts v)
+  pub daemons-past : (daemon host : List ℕ)
+      → lookedFor (foundAs code) k ≡ lookedMore n
+      (negatedLooked (listLooked (daemonFinds v daemon (endpoint (hostOf (h .name) (p .family) (p .v4) (p .high) (p .low)) host)) (daemonCounts v)
+      (words (drop from s))))
+      → lookedFor f k ≡ lookedMore n (negatedLooked (listLooked (daemonFinds v daemon (endpoint h host)) (daemonCounts v) (words (drop from s))))
+  daemons-past daemon host = past (λ x. daemonFinds v daemon (endpoint x host)) (daemonCounts v)
 
-  pub clients-whole : (user : User) (host user-name : List ℕ)
-      → lookedFor (foundAs code) k ≡ lookedMore 0
-      (listLooked (clientFinds v (endpoint (hostOf (h .name) (p .family) (p .v4) (p .high) (p .low)) host) user user-name) (clientCounts v)
-      (words (drop 0 s)))
-      → lookedFor f k ≡ listLooked (clientFinds v (endpoint h host) user user-name) (clientCounts v) (words s)
-  clients-whole user host user-name = wholly (λ x. clientFinds v (endpoint x host) user user-name) (clientCounts v)
+  pub clients-past : (user : User) (host user-name : List ℕ)
+      → lookedFor (foundAs code) k ≡ lookedMore n
+      (negatedLooked (listLooked (clientFinds v (endpoint (hostOf (h .name) (p .family) (p .v4) (p .high) (p .low)) host) user user-name) (clientCounts v)
+      (words (drop from s))))
+      → lookedFor f k ≡ lookedMore n (negatedLooked (listLooked (clientFinds v (endpoint h host) user user-name) (clientCounts v) (words (drop from s))))
+  clients-past user host user-name = past (λ x. clientFinds v (endpoint x host) user user-name) (clientCounts v)
 
 -- ## One rule
 

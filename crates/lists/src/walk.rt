@@ -663,6 +663,101 @@ fn clients_excluded_from(
     );
 }
 
+// What the daemon list s finds past an EXCEPT, from the place from on, negated round; looked elements were looked at before.
+fn daemons_past(
+    class: &[u8; 256],
+    tables: &[u8],
+    notes: &[u64],
+    s: &[u8],
+    from: usize,
+    daemon: &[u8],
+    server: Host,
+    server_name: &[u8],
+    looked: u64,
+) -> Looked
+    requires { ⌜ Classes (now class) ⌝ }
+    ensures { λ r. ⌜ r
+        ≡ lookedMore looked (negatedLooked
+        (listLooked (daemonFinds (viewOf (now (tables .entry)) (now (notes .entry))) (now (daemon .entry)) (endpoint server (now («server_name» .entry))))
+        (daemonCounts (viewOf (now (tables .entry)) (now (notes .entry)))) (words (drop from (now (s .entry)))))) ⌝ }
+{
+    let name = server.name;
+    let addr = server.addr;
+    let parts = parts_of(addr);
+    let family = parts.family;
+    let mut so_far = looked;
+    let mut code = 0;
+    daemons_excluded_from(
+        class,
+        &tables,
+        &notes,
+        &s,
+        from,
+        &daemon,
+        name,
+        family,
+        parts.v4,
+        parts.high,
+        parts.low,
+        &server_name,
+        &mut so_far,
+        &mut code,
+    );
+    Looked {
+        found: found_as(code),
+        looked: so_far,
+    }
+}
+
+// The same of the client list s.
+fn clients_past(
+    class: &[u8; 256],
+    tables: &[u8],
+    notes: &[u64],
+    s: &[u8],
+    from: usize,
+    client: Host,
+    client_name: &[u8],
+    user: User,
+    user_name: &[u8],
+    looked: u64,
+) -> Looked
+    requires { ⌜ Classes (now class) ⌝ }
+    ensures { λ r. ⌜ r
+        ≡ lookedMore looked (negatedLooked
+        (listLooked (clientFinds (viewOf (now (tables .entry)) (now (notes .entry))) (endpoint client (now («client_name» .entry))) user
+        (now («user_name» .entry)))
+        (clientCounts (viewOf (now (tables .entry)) (now (notes .entry)))) (words (drop from (now (s .entry)))))) ⌝ }
+{
+    let name = client.name;
+    let addr = client.addr;
+    let parts = parts_of(addr);
+    let family = parts.family;
+    let mut so_far = looked;
+    let mut code = 0;
+    clients_excluded_from(
+        class,
+        &tables,
+        &notes,
+        &s,
+        from,
+        name,
+        family,
+        parts.v4,
+        parts.high,
+        parts.low,
+        &client_name,
+        user,
+        &user_name,
+        &mut so_far,
+        &mut code,
+    );
+    Looked {
+        found: found_as(code),
+        looked: so_far,
+    }
+}
+
 // What the daemon list s finds, and what is looked at for it.
 pub fn daemons_included(
     class: &[u8; 256],
@@ -678,32 +773,27 @@ pub fn daemons_included(
         ≡ listLooked (daemonFinds (viewOf (now (tables .entry)) (now (notes .entry))) (now (daemon .entry)) (endpoint server (now («server_name» .entry))))
         (daemonCounts (viewOf (now (tables .entry)) (now (notes .entry)))) (words (now (s .entry))) ⌝ }
 {
-    let name = server.name;
-    let addr = server.addr;
-    let parts = parts_of(addr);
-    let family = parts.family;
-    let mut looked = 0;
-    let mut code = 0;
-    daemons_included_from(
-        class,
-        &tables,
-        &notes,
-        &s,
-        0,
-        &daemon,
-        name,
-        family,
-        parts.v4,
-        parts.high,
-        parts.low,
-        &server_name,
-        &mut looked,
-        &mut code,
-    );
-    Looked {
-        found: found_as(code),
-        looked,
+    let group = daemons_group(class, tables, notes, s, daemon, server, server_name);
+    let left = group.left;
+    if left == 0 {
+        let found = group.found;
+        return Looked {
+            found,
+            looked: group.looked,
+        };
     }
+    let from = s.len() - left;
+    daemons_past(
+        class,
+        tables,
+        notes,
+        s,
+        from,
+        daemon,
+        server,
+        server_name,
+        group.looked,
+    )
 }
 
 // What the client list s finds, and what is looked at for it.
@@ -723,31 +813,35 @@ pub fn clients_included(
         (now («user_name» .entry)))
         (clientCounts (viewOf (now (tables .entry)) (now (notes .entry)))) (words (now (s .entry))) ⌝ }
 {
-    let name = client.name;
-    let addr = client.addr;
-    let parts = parts_of(addr);
-    let family = parts.family;
-    let mut looked = 0;
-    let mut code = 0;
-    clients_included_from(
+    let group = clients_group(
         class,
-        &tables,
-        &notes,
-        &s,
-        0,
-        name,
-        family,
-        parts.v4,
-        parts.high,
-        parts.low,
-        &client_name,
+        tables,
+        notes,
+        s,
+        client,
+        client_name,
         user,
-        &user_name,
-        &mut looked,
-        &mut code,
+        user_name,
     );
-    Looked {
-        found: found_as(code),
-        looked,
+    let left = group.left;
+    if left == 0 {
+        let found = group.found;
+        return Looked {
+            found,
+            looked: group.looked,
+        };
     }
+    let past = s.len() - left;
+    clients_past(
+        class,
+        tables,
+        notes,
+        s,
+        past,
+        client,
+        client_name,
+        user,
+        user_name,
+        group.looked,
+    )
 }

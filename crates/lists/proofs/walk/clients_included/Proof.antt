@@ -1,7 +1,7 @@
--- `walk::clients_included` meets its contract: the included side over the whole list. Assumes nothing.
+-- `walk::clients_included` meets its contract: the elements left of the first EXCEPT, and what is past it. Assumes nothing.
 use borrow.Author.Needs.{needs}
 use Rattle.text.proofs.Search.{outright}
-use Rattle.lists.proofs.WalkLaws.{clients-whole}
+use Rattle.lists.proofs.WalkLaws.{list-done, group-within, list-more}
 use Rattle.lists.proofs.walk.clients_included.Statement.{statement}
 use Rattle.lists.proofs.walk.clients_included.Tie as tie
 
@@ -9,7 +9,8 @@ pub clients-included-spec : {M : Type 1} → statement M
 clients-included-spec =
     let facts = tie.spec
     (λ c κs. search needs)
+    (λ c. outright (search (list-done, needs)))
+    (λ c. outright (search (group-within, needs)))
     (λ c κs. search needs)
-    (λ c κs. search needs)
-    (λ c. outright (search (clients-whole, needs))) in
+    (λ c. outright (search (list-more, needs))) in
     tie.close facts
