@@ -120,7 +120,7 @@ enum gate_section {
 
 /* The stack that any call needs, in bytes, with a margin; the caller's own frames come on top. On x86-64 the most is some 50,000, by
  * gate_drop and gate_propose: a mark for each line of a file, in 16,500, above the search for rules that an earlier one covers, 33,400. The
- * others take 28,200 at most, by gate_verdicts: 16,800 are the notes on how deep each of up to 65,535 tables leads, or 21,200 the walk through
+ * others take less; most of theirs are the notes on how deep each of up to 65,535 tables leads, or the walk through
  * them. Only that walk calls itself, to a depth of five; a line may have as many EXCEPTs as it will, as the sides of EXCEPT call each other last,
  * in a loop. The calls for a byuid or portacl text, an upgrade, a conversion, an expansion or an address stay under 5,000. It was found in two
  * ways: tests/stack.py adds up the frames of the archive's functions along the deepest path of calls, for any input, and tests/stack.c paints
