@@ -90,6 +90,19 @@ def in_comment(text, to):
 
 in_comment.own = set()
 
+USE = re.compile(r"\buse ([^\s;{]+)\.\{([^}]*)\}")
+
+
+def of_libraries(text, own):
+    """The names that a file imports from a library."""
+    found = set()
+    for m in USE.finditer(text):
+        steps = m[1].split(".")
+        if steps[0] != "Rattle" or steps[1] not in own:
+            found |= {it.split(" as ")[0].strip() for it in m[2].split(",")}
+    return found
+
+
 CLAUSE = re.compile(r"\b(?:requires\*?|ensures\*?|ghost)\b[^\n{;]*\{")
 
 
@@ -139,9 +152,12 @@ def main(argv):
     files = {p: p.read_text(encoding="utf-8") for p in paths}
     found = declarations(files)
     to, fields = respellings(found), fields_of(files)
-    changed = 0
+    own = {p.name for p in (top / "crates").iterdir()}
+    changed, everywhere = 0, to
     for path, text in files.items():
         in_comment.own = {n for n in found if path in found[n]}
+        theirs = of_libraries(text, own)
+        to = {a: b for a, b in everywhere.items() if a not in theirs}
         if path.suffix == ".rt":
             new = turn_rt(text, to)
             said = "\n".join(text[a:b] for a, b in clauses(text))
@@ -154,8 +170,8 @@ def main(argv):
         if new != text:
             path.write_text(new, encoding="utf-8")
             changed += 1
-    (top / "tools/respelled.tsv").write_text("".join(f"{a}\t{b}\n" for a, b in sorted(to.items())), encoding="utf-8")
-    print(f"respell: {len(to)} names, {changed} files")
+    (top / "tools/respelled.tsv").write_text("".join(f"{a}\t{b}\n" for a, b in sorted(everywhere.items())), encoding="utf-8")
+    print(f"respell: {len(everywhere)} names, {changed} files")
 
 
 if __name__ == "__main__":

@@ -4,8 +4,8 @@
 -- Assumes nothing.
 use Prim.Native.Nat.{ℕ, zero, suc, ◌+◌, ◌-◌, ◌*◌, ◌^◌, ◌<◌, ◌≤◌}
 use Prim.Native.Char.{code}
-use mathlib.Core.Bool.{Bool, true, false, ◌||◌, or_true}
-use mathlib.Core.List.{List, [], ◌∷◌, ◌++◌, map, append_nil, append_assoc}
+use mathlib.Core.Bool.{Bool, true, false, ◌||◌, or-true}
+use mathlib.Core.List.{List, [], ◌∷◌, ◌++◌, map, append-nil, append_assoc}
 use mathlib.Core.Option.{Option, none, some}
 use mathlib.Core.Path.{◌≡◌, refl, sym, ap, ◌∙◌}
 use native.Mathlib.Omega.{arith}
@@ -65,7 +65,7 @@ is_hex_digit_byte d h =
     d
     (λ k. rw (le-leb 48 (48 + d) (omega arith), le-leb (48 + d) 57 (omega arith)))
     (λ k. rw (le-leb 97 (97 + (d - 10)) (omega arith), le-leb (97 + (d - 10)) 102 (omega arith))
-    (or_true (is_digit (97 + (d - 10)) || char_range "A" "F" (97 + (d - 10)))))
+    (or-true (is_digit (97 + (d - 10)) || char_range "A" "F" (97 + (d - 10)))))
 
 is_hex_numeral : (g : ℕ) → all is_hex (numeral 16 4 g) ≡ true
 is_hex_numeral = all_numeral is_hex 16 (omega arith) is_hex_digit_byte 4
@@ -160,13 +160,13 @@ written_compress (suc k) gs = by (split_once (replicate (suc (suc k)) 0) gs) ref
 -- groups alone hold no `::`, and the first one after groups stands right behind them
 split_once_hex_groups : (gs : List ℕ) → split_once (bytes "::") (hex_groups gs) ≡ none
 unfolding split_once
-split_once_hex_groups gs = rw (append_nil (hex_groups gs)) at (split_once_intercalate colon (map (numeral 16 4) gs) [] (fields gs))
+split_once_hex_groups gs = rw (append-nil (hex_groups gs)) at (split_once_intercalate colon (map (numeral 16 4) gs) [] (fields gs))
 
 split_once_compressed : (l r : List ℕ) → split_once (bytes "::") (hex_groups l ++ bytes "::" ++ hex_groups r) ≡ some (hex_groups l, hex_groups r)
 unfolding split_once equal
 split_once_compressed l r =
     rw (append_assoc (hex_groups l) (bytes "::") (hex_groups r))
-    (split_once_intercalate colon (map (numeral 16 4) l) (bytes "::" ++ hex_groups r) (fields l) ∙ rw (append_nil (hex_groups l)))
+    (split_once_intercalate colon (map (numeral 16 4) l) (bytes "::" ++ hex_groups r) (fields l) ∙ rw (append-nil (hex_groups l)))
 
 -- ## IPv6
 

@@ -9,7 +9,7 @@ ghost use Rattle.address.specs.Fields.{ended_address, step_of, run_from};
 use text::NumberRead;
 
 // What one byte does: the pass fails, stops before it, or goes on in another state.
-#[derive(Drop)]
+#[derive(Clone, Copy)]
 pub enum Step {
     Nothing,
     Stop,
@@ -46,7 +46,7 @@ fn step_over(n: u32, k: u32, v: u32, begun: bool, b: u8) -> Step
 }
 
 // A pass over fields: it failed, or came to a place, with the state there.
-#[derive(Drop)]
+#[derive(Clone, Copy)]
 pub enum Run {
     Failed,
     At(usize, u32, u32, u32, bool),

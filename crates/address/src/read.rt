@@ -16,21 +16,21 @@ use section::{Fault, Refusal};
 use text::NumberRead;
 
 // An IPv6 address that was read, by its two words, or none.
-#[derive(Drop)]
+#[derive(Clone, Copy)]
 pub enum V6Read {
     Nothing,
     Value(u64, u64),
 }
 
 // What reading an address answers: a refusal, or the address.
-#[derive(Drop)]
+#[derive(Clone, Copy)]
 pub enum AddressRead {
     Refused(Refusal),
     Address(Addr),
 }
 
 // The group at the front of a text with colons: one that is none, the last one, or one with the place after its colon.
-#[derive(Drop)]
+#[derive(Clone, Copy)]
 enum Group {
     Nothing,
     Last,
@@ -38,14 +38,14 @@ enum Group {
 }
 
 // A number of 128 bits, as its two words.
-#[derive(Drop)]
+#[derive(Clone, Copy)]
 struct Words {
     high: u64,
     low: u64,
 }
 
 // Groups that were read: how many, at most eight, and the number that they make.
-#[derive(Drop)]
+#[derive(Clone, Copy)]
 enum GroupsRead {
     Nothing,
     Groups(u32, Words),

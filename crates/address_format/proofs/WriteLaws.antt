@@ -2,7 +2,7 @@
 -- Assumes nothing.
 use Prim.Native.Nat.{ℕ, zero, suc, ◌+◌, ◌-◌, ◌*◌, ◌/◌, ◌%◌, ◌^◌, ◌<◌, ◌≤◌}
 use mathlib.Core.Bool.{Bool, true, false, not}
-use mathlib.Core.List.{List, [], ◌∷◌, ◌++◌, append_assoc, append_nil}
+use mathlib.Core.List.{List, [], ◌∷◌, ◌++◌, append_assoc, append-nil}
 use mathlib.Core.Path.{◌≡◌, refl, sym, ap, subst, ◌∙◌}
 use native.Mathlib.Numerals.{add-one}
 use native.Mathlib.Omega.{arith}
@@ -111,7 +111,7 @@ module _ (d : List ℕ) (at n : ℕ) where
 
 hex_groups_cons : (g : ℕ) (gs : List ℕ) → hex_groups (g ∷ gs) ≡ numeral 16 4 g ++ colon_groups gs
 unfolding intercalate colon_groups
-hex_groups_cons g [] = sym (append_nil (numeral 16 4 g))
+hex_groups_cons g [] = sym (append-nil (numeral 16 4 g))
 hex_groups_cons g (h ∷ gs) = rw (hex_groups_cons h gs) (simp append_assoc)
 
 length_colon_groups : (gs : List ℕ) → length (colon_groups gs) ≤ 5 * length gs
@@ -167,7 +167,7 @@ module _ (d gs : List ℕ) (at : ℕ) (room : at + length (colon_groups gs) ≤ 
 
   pub groups_end : length gs ≤ i → Wrote d o (colon_groups gs) at p
   unfolding colon_groups
-  groups_end le = let e : colon_groups gs ≡ h.done = h.whole ∙ rw (drop_of_length-le gs le) (append_nil h.done) in rw e h.wrote
+  groups_end le = let e : colon_groups gs ≡ h.done = h.whole ∙ rw (drop_of_length-le gs le) (append-nil h.done) in rw e h.wrote
 
 -- the first group, and then the others
 hex_groups_first : (gs : List ℕ) → (length gs ≡ 0 → ⊥) → hex_groups gs ≡ numeral 16 4 (get_or gs 0 0) ++ colon_groups (take (length gs - 1) (drop 1 gs))
@@ -308,7 +308,7 @@ to_digits_append b j zero h l pos lt =
     let z : l < 1 = rw (pow-zero b) at lt in
     let e : j + 0 ≡ j = omega arith in
     let f : h * b ^ 0 + l ≡ h = rw (pow-zero b) (omega arith) in
-    rw (e, f, append_nil (to_digits b j h))
+    rw (e, f, append-nil (to_digits b j h))
 to_digits_append b j (suc k) h l pos lt =
     let e : j + suc k ≡ suc (j + k) = omega arith in
     let f : h * b ^ suc k + l ≡ h * b ^ k * b + l = rw (pow-suc b k, mul_assoc h (b ^ k) b) in

@@ -4,6 +4,8 @@
 //   address_len(a)          == how many bytes that text has
 //   put_unabbreviated(out, at, high, low) == writes the eight groups of an IPv6 address from at on, where there is room
 //   is_abbreviated(high, low)             == whether the text of an IPv6 address differs from its eight groups
+#![tactic(auto)]
+
 ghost use Rattle.std.specs.Prelude.{◌≡◌, not, [], ◌∷◌, ◌++◌, ◌+◌, ◌*◌, ◌^◌, ◌≤◌, ◌<◌, length};
 ghost use Rattle.text.specs.Text.{bytes, equal};
 ghost use Rattle.text.specs.Number.{to_digits, digit_byte, numeral, decimal};
@@ -16,7 +18,7 @@ use address::Addr;
 use section::{Fault, Written};
 
 // A run of zeros among the groups of an IPv6 address.
-#[derive(Drop)]
+#[derive(Clone, Copy)]
 struct Run {
     place: usize,
     len: usize,

@@ -1,5 +1,7 @@
 // The order in which authbind looks at its files.
 //   next_step(out, port, addr, uid, answers) == the call: every check, then the file to test next, the byuid file, or the outcome
+#![tactic(auto)]
+
 ghost use Rattle.std.specs.Prelude.{◌≡◌, true, false, ◌+◌, ◌*◌, ◌^◌, ◌≤◌, length};
 ghost use Rattle.text.specs.Basics.{all};
 ghost use Rattle.text.specs.Scan.{put_at};
@@ -14,7 +16,7 @@ use address::Addr;
 use section::{Fault, Refusal, Written};
 
 // What an access test found; a byte for each, in this order from 0 on.
-#[derive(Drop)]
+#[derive(Clone, Copy)]
 pub enum Access {
     Absent,
     Allowed,
@@ -22,7 +24,7 @@ pub enum Access {
 }
 
 // What comes next: a file to test, the byuid file to read, or the outcome; with a name, how many bytes of it were written.
-#[derive(Drop)]
+#[derive(Clone, Copy)]
 pub enum Next {
     Refused(Refusal),
     NotRuled,
@@ -33,7 +35,7 @@ pub enum Next {
 }
 
 // A file that is looked at: byport, byaddr with a comma, the third test of an address, byuid.
-#[derive(Drop)]
+#[derive(Clone, Copy)]
 enum File {
     Port,
     Address,
@@ -42,7 +44,7 @@ enum File {
 }
 
 // Where the answers lead: to a test by its place in the order, to byuid, to an outcome, or to an answer too many.
-#[derive(Drop)]
+#[derive(Clone, Copy)]
 enum Turn {
     Test(usize),
     Byuid,

@@ -6,8 +6,8 @@
 --   convert_text_same, convert_text_again == a text without such lines stays, and so does a converted one
 -- Assumes nothing.
 use Prim.Native.Nat.{ℕ, suc, ◌+◌, ◌-◌, ◌*◌, ◌^◌, ◌<◌, ◌≤◌}
-use mathlib.Core.Bool.{Bool, true, false, not, ◌&&◌, ◌||◌, true≢false, and_false}
-use mathlib.Core.List.{List, [], ◌∷◌, ◌++◌, map, append_assoc, append_nil}
+use mathlib.Core.Bool.{Bool, true, false, not, ◌&&◌, ◌||◌, true≢false, and-false}
+use mathlib.Core.List.{List, [], ◌∷◌, ◌++◌, map, append_assoc, append-nil}
 use mathlib.Core.Option.{Option, none, some}
 use mathlib.Core.Path.{◌≡◌, refl, sym, ap, ap₂, ◌∙◌}
 use native.Mathlib.Omega.{arith}
@@ -127,7 +127,7 @@ module _ (p : ℕ) (l : List ℕ) where
     where
       by : (o : Option (Range × Range)) → holds (λ g. leb g.1.0 g.1.1) o ≡ false → within p o n ≡ false
       by none k = refl
-      by (some g) k = rw (over_max g.1.0 g.1.1 p k) (and_false (in_range g.0.0 g.0.1 n))
+      by (some g) k = rw (over_max g.1.0 g.1.1 p k) (and-false (in_range g.0.0 g.0.1 n))
 
   or_colon : (o : Option (Range × Range)) (n : ℕ) → within p (read_colon_form l) n ≡ false → within p o n ≡ within p (o or_else read_colon_form l) n
   or_colon none n e = sym e
@@ -391,7 +391,7 @@ module _ (d t o : List ℕ) (at : ℕ) (w : Converting d t o at) where
   pub converting_end : length t ≤ at → o ≡ after (convert_text t) d
   converting_end h = w.written ∙ ap (λ (u : List ℕ). after u d)
       (sym (w.left ∙ ap (λ (s : List ℕ). w.done ++ convert_text s) (drop_of_length-le t h) ∙ ap (λ (s : List ℕ). w.done ++ s) convert_text_nil
-      ∙ append_nil w.done))
+      ∙ append-nil w.done))
 
   module _ (room : length t ≤ length d) (h : at < length t) (n : ℕ) (is-n : n ≡ index_of 10 (take (length t - at) (drop at t)))
       (in-text : n ≤ length (take (length t - at) (drop at t))) (p : List ℕ)

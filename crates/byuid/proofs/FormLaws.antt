@@ -6,12 +6,12 @@
 --   new_form_v4, new_form_v6 == the new form is read as the retired one was, and as no line of IPv6
 -- Assumes nothing.
 use Prim.Native.Nat.{ℕ, suc, ◌+◌, ◌<◌, ◌≤◌, ◌-◌, ◌%◌, ◌^◌}
-use mathlib.Core.Bool.{Bool, true, false, not, ◌&&◌, ◌||◌, true≢false, or_true}
+use mathlib.Core.Bool.{Bool, true, false, not, ◌&&◌, ◌||◌, true≢false, or-true}
 use mathlib.Core.List.{List, [], ◌∷◌, ◌++◌, append_assoc}
 use mathlib.Core.Option.{Option, none, some}
 use mathlib.Core.Path.{◌≡◌, refl, sym, ap, ap₂, ◌∙◌}
 use native.Mathlib.Omega.{arith}
-use borrow.Author.Tests.{eqb-true, eqb-false, eq-eqb, ne_eqb, not_true}
+use borrow.Author.Tests.{eqb-true, eqb-false, eq-eqb, ne_eqb, not-true}
 use lib.Dec.{eqb, leb, ltb}
 use lib.ListN.{length, take, drop, length-append}
 use Rattle.text.specs.Basics.{if◌then◌else◌, ◌>>=◌, ◌or_else◌, given, holds, any, all, each, is_empty}
@@ -53,7 +53,7 @@ unfolding split_once equal all
 no_mark c m [] e = refl
 no_mark c m (x ∷ t) e =
     let a = and_true (not (eqb x c)) (free c t) e in
-    rw (ne_eqb c x (λ q. eqb-false x c (not_true (eqb x c) a.0) (sym q)), no_mark c m t a.1)
+    rw (ne_eqb c x (λ q. eqb-false x c (not-true (eqb x c) a.0) (sym q)), no_mark c m t a.1)
 
 -- the first mark stands after a text that is free of it
 pub first_mark : (c : ℕ) (s t : List ℕ) → free c s ≡ true → split_once (c ∷ []) (s ++ (c ∷ []) ++ t) ≡ some (s, t)
@@ -61,7 +61,7 @@ unfolding split_once equal all
 first_mark c [] t e = rw (eq-eqb c c refl)
 first_mark c (x ∷ s) t e =
     let a = and_true (not (eqb x c)) (free c s) e in
-    rw (ne_eqb c x (λ q. eqb-false x c (not_true (eqb x c) a.0) (sym q)), first_mark c s t a.1)
+    rw (ne_eqb c x (λ q. eqb-false x c (not-true (eqb x c) a.0) (sym q)), first_mark c s t a.1)
 
 pub free_append : (c : ℕ) (s t : List ℕ) → free c s ≡ true → free c t ≡ true → free c (s ++ t) ≡ true
 free_append c s t e f = all_append (λ b. not (eqb b c)) s t e f
@@ -218,7 +218,7 @@ slash_range f bad s x y e = by (split_once (bytes "-") s) refl
   where
     slashed_whole : any (λ b. eqb b 47) s ≡ true
     slashed_whole = ap (any (λ b. eqb b 47)) (split_once_some (bytes "/") s (x, y) e) ∙ any_append (λ b. eqb b 47) x (bytes "/" ++ y)
-        ∙ or_true (any (λ b. eqb b 47) x)
+        ∙ or-true (any (λ b. eqb b 47) x)
 
     ends : (p : List ℕ × List ℕ) (b : Bool) → any (λ b. eqb b 47) p.0 ≡ b → (b || any (λ b. eqb b 47) p.1) ≡ true
         → (f p.0 >>= λ l. f p.1 >>= λ h. ends_at l h) ≡ none
@@ -410,7 +410,7 @@ module _ (l : List ℕ) (f : Form l) where
 
         no_len : read_decimal w (f.len ++ (bytes ":" ++ f.low)) ≡ none
         no_len = digits_none 58 refl w (f.len ++ (bytes ":" ++ f.low))
-            (any_append (λ b. eqb b 58) f.len (bytes ":" ++ f.low) ∙ or_true (any (λ b. eqb b 58) f.len))
+            (any_append (λ b. eqb b 58) f.len (bytes ":" ++ f.low) ∙ or-true (any (λ b. eqb b 58) f.len))
 
     no_comma_form : read_comma_form w g l ≡ none
     unfolding read_comma_form all

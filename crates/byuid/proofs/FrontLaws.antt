@@ -11,7 +11,7 @@ use mathlib.Core.Option.{Option, none, some}
 use mathlib.Core.Path.{◌≡◌, refl, sym, ap, subst, ◌∙◌}
 use native.Mathlib.Numerals.{add-one}
 use native.Mathlib.Omega.{arith}
-use borrow.Author.Tests.{eqb-true, eqb-false, eq-eqb, ne_eqb, ltb-true, ltb-false, not_true}
+use borrow.Author.Tests.{eqb-true, eqb-false, eq-eqb, ne_eqb, ltb-true, ltb-false, not-true}
 use lib.Dec.{eqb, leb, ltb}
 use lib.ListN.{length, take, drop, get_or, take-append-drop}
 use lib.Seq.{drop-cons, take_all}
@@ -179,7 +179,7 @@ past_mark m [] t e = by (split_once (m ∷ []) t)
     by (some p) = refl
 past_mark m (x ∷ w) t e =
     let a = and_true (not (eqb x m)) (free m w) e in
-    rw (ne_eqb m x (λ q. eqb-false x m (not_true (eqb x m) a.0) (sym q)), past_mark m w t a.1) (by (split_once (m ∷ []) t))
+    rw (ne_eqb m x (λ q. eqb-false x m (not-true (eqb x m) a.0) (sym q)), past_mark m w t a.1) (by (split_once (m ∷ []) t))
   where
     by : (o : Option (List ℕ × List ℕ)) → cons_first x (append_first w o) ≡ append_first (x ∷ w) o
     by none = refl

@@ -1,7 +1,7 @@
 -- Laws of numbers: those of two words, ranges of them, and nets, over the width.
 -- Assumes nothing.
 use Prim.Native.Nat.{ℕ, suc, ◌+◌, ◌-◌, ◌*◌, ◌/◌, ◌%◌, ◌^◌, ◌<◌, ◌≤◌}
-use mathlib.Core.Bool.{Bool, true, false, ◌&&◌, and_false}
+use mathlib.Core.Bool.{Bool, true, false, ◌&&◌, and-false}
 use mathlib.Core.List.{List}
 use mathlib.Core.Option.{Option, none, some}
 use mathlib.Core.Path.{◌≡◌, refl, sym, ap, ◌∙◌}
@@ -145,7 +145,7 @@ module _ (k n a : ℕ) (clear : n % 2 ^ k ≡ 0) where
             ne_eqb (n / size) (a / size) (λ e. omega arith),
             lt-leb a (n + size - 1) (omega (arith, first, split_at.0, next (n / size) (a / size) h, pow_pos k)),
           )
-          (and_false (leb n a))
+          (and-false (leb n a))
       by false u p q =
           let h : a / size < n / size = leb-false (n / size) (a / size) p in
           rw (ne_eqb (n / size) (a / size) (λ e. omega arith), lt-leb n a (omega (arith, first, split_at.1, next (a / size) (n / size) h)))

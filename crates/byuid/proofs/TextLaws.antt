@@ -1,7 +1,7 @@
 -- Laws of the lines of a text: what the walk over them knows, and what the decision follows from.
 -- Assumes nothing.
 use Prim.Native.Nat.{ℕ, ◌+◌, ◌-◌, ◌<◌, ◌≤◌}
-use mathlib.Core.Bool.{Bool, true, false, not, ◌&&◌, ◌||◌, or_false, or_assoc}
+use mathlib.Core.Bool.{Bool, true, false, not, ◌&&◌, ◌||◌, or-false, or_assoc}
 use mathlib.Core.List.{List, [], ◌∷◌}
 use mathlib.Core.Option.{Option, none, some}
 use mathlib.Core.Path.{◌≡◌, refl, sym, ap, ◌∙◌}
@@ -62,7 +62,7 @@ module _ (addr : Addr) (port : ℕ) where
 
   found_end : (n : ℕ) (g : Bool) → found n g [] ≡ Sound g
   unfolding walk split
-  found_end n g = rw (retired_nil, grants_nil addr port) (ap Sound (or_false g))
+  found_end n g = rw (retired_nil, grants_nil addr port) (ap Sound (or-false g))
 
   -- by the first line, and the text after its newline, if any
   found_first : (n : ℕ) (g : Bool) (t : List ℕ) (i : ℕ) → i ≡ index_of 10 t
@@ -134,7 +134,7 @@ retired_fault_walk a p n g (l ∷ ls) = by (is_retired l) (retired_fault_walk a 
 
 any_walk : (a : Addr) (p n : ℕ) (g h : Bool) (ls : List (List ℕ)) → walk a p n g ls ≡ Sound h → h ≡ (g || any (line_grants a p) ls)
 unfolding walk any
-any_walk a p n g h [] e = let q : h ≡ g = cc in q ∙ sym (or_false g)
+any_walk a p n g h [] e = let q : h ≡ g = cc in q ∙ sym (or-false g)
 any_walk a p n g h (l ∷ ls) e = by (is_retired l) e (λ k. any_walk a p (n + 1) (g || line_grants a p l) h ls k)
   where
     by : (b : Bool) → (if b then Retired n else walk a p (n + 1) (g || line_grants a p l) ls) ≡ Sound h

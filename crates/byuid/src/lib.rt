@@ -2,6 +2,8 @@
 //   decide(text, mark, port, addr, uid) == the call: every check, then the decision
 //   check(text) == the refusal of the first line of the retired form
 //   convert     == a text with such lines in their new form
+#![tactic(auto)]
+
 ghost use Rattle.std.specs.Prelude.{false, ◌≡◌};
 ghost use Rattle.std.proofs.Math.Option.{some};
 ghost use Rattle.text.specs.Text.{split};
@@ -13,7 +15,7 @@ use line::Looked;
 use section::{Fault, Refusal};
 
 // The words of the decision.
-#[derive(Drop)]
+#[derive(Clone, Copy)]
 pub enum Decision {
     NotRuled,
     Granted,
@@ -21,28 +23,28 @@ pub enum Decision {
 }
 
 // The file that a text comes from: the plain one, or the one with a `!` before its leaf name.
-#[derive(Drop)]
+#[derive(Clone, Copy)]
 pub enum Mark {
     Plain,
     Marked,
 }
 
 // What the call answers: a refusal, or the decision.
-#[derive(Drop)]
+#[derive(Clone, Copy)]
 pub enum Ruling {
     Refused(Refusal),
     Answered(Decision),
 }
 
 // What check answers: the refusal of a retired line, or that there is none.
-#[derive(Drop)]
+#[derive(Clone, Copy)]
 pub enum Checked {
     Sound,
     Refused(Refusal),
 }
 
 // What the walk over the lines finds: the number of the first retired one, or whether one grants.
-#[derive(Drop)]
+#[derive(Clone, Copy)]
 enum Walked {
     Retired(usize),
     Sound(bool),

@@ -15,21 +15,21 @@ use address::read::{V6Read, read_v4, read_v6};
 use text::NumberRead;
 
 // Whether what was read holds the request, or nothing was read.
-#[derive(Drop)]
+#[derive(Clone, Copy)]
 enum Membership {
     Nothing,
     Is(bool),
 }
 
 // The address at the front of a text and the place after it, or none.
-#[derive(Drop)]
+#[derive(Clone, Copy)]
 enum Front {
     Nothing,
     Address(u32, usize),
 }
 
 // What a line says of a request: it is of the retired form, or whether it grants.
-#[derive(Drop)]
+#[derive(Clone, Copy)]
 pub(crate) enum Looked {
     Retired,
     Grants(bool),

@@ -3,12 +3,12 @@
 --   span-no-colon == no such line is of the form `addr4/len:pmin,pmax`
 -- Assumes nothing.
 use Prim.Native.Nat.{ℕ, zero, suc, ◌+◌, ◌-◌, ◌*◌, ◌^◌, ◌<◌, ◌≤◌}
-use mathlib.Core.Bool.{Bool, true, false, not, ◌&&◌, ◌||◌, or_false, or_assoc}
+use mathlib.Core.Bool.{Bool, true, false, not, ◌&&◌, ◌||◌, or-false, or_assoc}
 use mathlib.Core.List.{List, [], ◌∷◌, ◌++◌}
 use mathlib.Core.Option.{Option, none, some}
 use mathlib.Core.Path.{◌≡◌, refl, sym, ap, ap₂, ◌∙◌}
 use native.Mathlib.Omega.{arith}
-use borrow.Author.Tests.{le-leb, lt-leb, leb-true, leb-false, eq-eqb, ne_eqb, eqb-true, eqb-false, not_true}
+use borrow.Author.Tests.{le-leb, lt-leb, leb-true, leb-false, eq-eqb, ne_eqb, eqb-true, eqb-false, not-true}
 use lib.Arith.{digits_lt}
 use lib.Dec.{leb, eqb}
 use lib.ListN.{length}
@@ -37,7 +37,7 @@ unfolding split_once equal all
 no_split c [] e = refl
 no_split c (x ∷ w) e =
     let a = and_true (not (eqb x c)) (free c w) e in
-    rw (ne_eqb c x (λ q. eqb-false x c (not_true (eqb x c) a.0) (sym q)), no_split c w a.1)
+    rw (ne_eqb c x (λ q. eqb-false x c (not-true (eqb x c) a.0) (sym q)), no_split c w a.1)
 
 ports_read : (q : ℕ) → q ≤ 65535 → read_range read_port (decimal q) ≡ some (q, q)
 unfolding read_range
@@ -136,7 +136,7 @@ module _ (p q : ℕ) (h : q ≤ 65535) where
   v6_other high low = rw (comma_form_v4 128 read_v6 q, v4_line_v6)
 
   both_lines : (a : Addr) → Somewhere a → (line_grants a p (line_v4 q) || line_grants a p (line_v6 q)) ≡ eqb q p
-  both_lines (A.V4 n) (at_v4 m l) = rw (v4_grants n l, v4_other n) (or_false (eqb q p))
+  both_lines (A.V4 n) (at_v4 m l) = rw (v4_grants n l, v4_other n) (or-false (eqb q p))
   both_lines (A.V6 high low) (at_v6 x y k l) = rw (v6_other high low, v6_grants high low k l)
 
 -- so a written text is never refused by 22

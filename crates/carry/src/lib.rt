@@ -1,5 +1,7 @@
 // The byuid lines that grant a user id what a portacl list grants it. The list is walked once, and the ports of its entries are noted in two sets.
 //   carry(plain, marked, text, uid) == the call: every check, then the lines for the plain and for the marked file
+#![tactic(auto)]
+
 ghost use Rattle.std.specs.Prelude.{◌≡◌, ◌+◌, ◌≤◌, ◌<◌, length};
 ghost use Rattle.text.specs.Scan.{put_at, after};
 ghost use Rattle.section.specs.Refusal.{within_rooms, first_after, second_after, written_two_of};

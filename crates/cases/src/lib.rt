@@ -1,5 +1,7 @@
 // How a case is written: the head of crates/vectors/stdin says it. A line is read into a block, which is then one slice: how many fields
 // there are, where each ends, two bytes each, and from START on their bytes one after the other.
+#![tactic(auto)]
+
 ghost use Rattle.std.specs.Prelude.{◌≡◌, ◌≤◌, length};
 
 use text::NumberRead;

@@ -1,5 +1,7 @@
 // checker FILE: checks a station sheet. Writes one line: `sheet ok`, or the refusal, as `refused 1 section 4 line 0`, or that the file is
 // too long. A file that can't be read gets a message on standard error instead.
+#![tactic(auto)]
+
 use libc::STDERR_FILENO;
 
 fn check(sheet: &[u8]) {

@@ -3,7 +3,7 @@
 use Prim.Native.Nat.{ℕ, zero, suc, ◌+◌, ◌*◌, ◌^◌, ◌≤◌, ◌<◌}
 use native.Mathlib.Omega.{arith}
 use mathlib.Core.Bool.{Bool, true, false, true≢false}
-use mathlib.Core.List.{List, [], ◌∷◌, ◌++◌, map, append_assoc, append_nil}
+use mathlib.Core.List.{List, [], ◌∷◌, ◌++◌, map, append_assoc, append-nil}
 use mathlib.Core.Path.{◌≡◌, refl, sym, ap, subst, ◌∙◌}
 use borrow.Author.Tests.{lt-ltb, le-ltb, le-leb, lt-leb, leb-true, ne_eqb}
 use lib.Dec.{leb}
@@ -96,7 +96,7 @@ module _ (port kind high low uid : ℕ) (a : Addr) (b : Bindable port kind high 
 
   walks_absents : (k : ℕ) → k ≤ length (tests port a)
       → gate_authbind port kind high low uid (absents k) out ≡ wrote_next out (walk (by_uid port uid) [] (drop k (tests port a)) >>= with_room (length out))
-  walks_absents k h = ap (λ (s : List ℕ). gate_authbind port kind high low uid s out) (sym (append_nil (absents k))) ∙ walks k [] h none_are
+  walks_absents k h = ap (λ (s : List ℕ). gate_authbind port kind high low uid s out) (sym (append-nil (absents k))) ∙ walks k [] h none_are
 
   test_next : (k : ℕ) → k < length (tests port a) → length (get_or (tests port a) k []) ≤ length out
       → gate_authbind port kind high low uid (absents k) out ≡ named 7 (get_or (tests port a) k []) out

@@ -1,7 +1,7 @@
 -- Request 6: what gate_propose proposes is the most that gate_drop accepts, only the named rules go, and every verdict is the same but for its line.
 -- Assumes nothing.
 use Prim.Native.Nat.{ℕ, suc, ◌+◌, ◌≤◌}
-use mathlib.Core.Bool.{Bool, true, false, ◌||◌, true≢false, or_true}
+use mathlib.Core.Bool.{Bool, true, false, ◌||◌, true≢false, or-true}
 use mathlib.Core.List.{List, [], ◌∷◌}
 use mathlib.Core.Option.{Option, none, some, get_or}
 use mathlib.Core.Path.{◌≡◌, refl, sym, ap, subst, ◌∙◌}
@@ -129,7 +129,7 @@ fewer (n ∷ ns) ms d w =
     omega (
       arith,
       length_without n ms there,
-      fewer ns (without n ms) d.1 (λ k e. others_without n k ms (other k e (eqb k n) refl) (w k (rw e (or_true (eqb k n))))),
+      fewer ns (without n ms) d.1 (λ k e. others_without n k ms (other k e (eqb k n) refl) (w k (rw e (or-true (eqb k n))))),
     )
   where
     other : (k : ℕ) → any (eqb k) ns ≡ true → (b : Bool) → eqb k n ≡ b → eqb k n ≡ false

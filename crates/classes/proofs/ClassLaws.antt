@@ -4,7 +4,7 @@ use Prim.Native.Nat.{ℕ, zero, suc, ◌+◌, ◌*◌, ◌/◌, ◌%◌, ◌^◌
 use native.Mathlib.Nat.{add-zero, add-suc, suc-add, mod-lt}
 use native.Mathlib.Numerals.{add-one}
 use native.Mathlib.Omega.{arith}
-use mathlib.Core.Bool.{Bool, true, false, not, ◌&&◌, ◌||◌, true≢false, and_assoc, and_true as and-true_r, or_true}
+use mathlib.Core.Bool.{Bool, true, false, not, ◌&&◌, ◌||◌, true≢false, and_assoc, and-true as and-true_r, or-true}
 use mathlib.Core.List.{List, [], ◌∷◌}
 use mathlib.Core.Path.{◌≡◌, refl, sym, ap, ap₂, ◌∙◌}
 use lib.Arith.{bin_ind}
@@ -12,11 +12,11 @@ use lib.Bits.{bit_or, bit_and, or_lt, or_add_and, and_le_l, and_le_r, or_zero_l,
 use lib.Dec.{T, eqb, ltb, leb, eqb→eq}
 use lib.ListN.{length, take, drop, get_or, drop_of_length-le}
 use lib.Seq.{drop-cons}
-use borrow.Author.Tests.{eqb-true, ne_eqb, le-leb, lt-leb, ltb-true, ltb-false, lt-ltb, le-ltb, not_true}
+use borrow.Author.Tests.{eqb-true, ne_eqb, le-leb, lt-leb, ltb-true, ltb-false, lt-ltb, le-ltb, not-true}
 use Rattle.text.specs.Basics.{if◌then◌else◌, any, all}
 use Rattle.text.specs.Text.{is_digit, is_letter}
 use Rattle.text.specs.Scan.{span_len}
-use Rattle.text.proofs.BasicLaws.{and_true}
+use Rattle.text.proofs.BasicLaws.{and-true}
 use Rattle.lines.specs.Parts.{is_parting, is_element_byte, parting_length, element_length, element_span, first_element}
 use Rattle.patterns.specs.Pattern.{is_name_byte}
 use Rattle.patterns.specs.Code.{is_dotted_byte}
@@ -139,9 +139,9 @@ module _ (p : ℕ → Bool) (parts : (m c : ℕ) → m < 128 → c < 128 → p (
   unfolding mask_from all is_element_byte
   mask_test q is-q m [] h k = sym (and-true_r (p m))
   mask_test q is-q m (b ∷ w) h k =
-      let e : is_parting b ≡ false = not_true (is_parting b) (and_true (not (is_parting b)) (all is_element_byte w) k).0 in
+      let e : is_parting b ≡ false = not-true (is_parting b) (and-true (not (is_parting b)) (all is_element_byte w) k).0 in
       let l : class_of b < 128 = inner_small b e in
-      mask_test q is-q (bit_or m (class_of b)) w (or_lt 7 m (class_of b) h l) (and_true (not (is_parting b)) (all is_element_byte w) k).1
+      mask_test q is-q (bit_or m (class_of b)) w (or_lt 7 m (class_of b) h l) (and-true (not (is_parting b)) (all is_element_byte w) k).1
       ∙ rw (parts m (class_of b) h l, is-q b e) (and_assoc (p m) (q b) (all q w))
 
 or_le : (a b : ℕ) → a ≤ bit_or a b
@@ -207,7 +207,7 @@ record Tests (n d p q a : Bool) : Type 0 where
 tests : (b : ℕ) → Tests (is_name_byte b) (is_digit b) (eqb b 46) (eqb b 47) (eqb b 64)
 unfolding is_name_byte any
 tests b = record {
-  digit = λ e. rw (e, or_true (is_letter b));
+  digit = λ e. rw (e, or-true (is_letter b));
   dot = λ e. ap is_name_byte (eqb-true b 46 e);
   slash = λ e. ap is_name_byte (eqb-true b 47 e);
   sign = λ e. (ap is_name_byte (eqb-true b 64 e), ap (λ x. eqb x 47) (eqb-true b 64 e));

@@ -2,6 +2,8 @@
 //   classes()            == the class of every byte, made once and lent
 //   element_at(class, s) == where the first element of s stands, and the classes of its bytes: a mask
 // What a mask tells of an element: Describes in specs/Class, for what element_at answers law element-described.
+#![tactic(auto)]
+
 ghost use Rattle.std.specs.Prelude.{◌≡◌, ◌≤◌, length, drop};
 ghost use Rattle.lines.specs.Parts.{is_parting, parting_length};
 ghost use Rattle.classes.specs.Class.{class_of, Classes, span_from, element_at};
@@ -9,7 +11,7 @@ ghost use Rattle.classes.specs.Class.{class_of, Classes, span_from, element_at};
 use lines::rule::ElementSpan;
 
 // Where an element stands, and the classes of its bytes, one bit for each.
-#[derive(Drop)]
+#[derive(Clone, Copy)]
 pub struct ClassSpan {
     pub span: ElementSpan,
     pub mask: u8,

@@ -3,7 +3,7 @@
 use Prim.Native.Nat.{ℕ, ◌+◌, ◌<◌, ◌≤◌, ◌^◌}
 use native.Mathlib.Omega.{arith}
 use mathlib.Core.Bool.{Bool, true, false, ◌&&◌, ◌||◌}
-use mathlib.Core.List.{List, [], ◌++◌, append_assoc, append_nil}
+use mathlib.Core.List.{List, [], ◌++◌, append_assoc, append-nil}
 use mathlib.Core.Option.{Option, none, some, get_or}
 use mathlib.Core.Path.{◌≡◌, refl, sym, ap, ◌∙◌}
 use borrow.Author.Tests.{ne_eqb, lt-ltb, le-ltb, leb-true}
@@ -192,7 +192,7 @@ module _ (d o s1 s2 s3 s4 : List ℕ) (w : o ≡ after (((s1 ++ s2) ++ s3) ++ s4
         part_in [] s1 (s2 ++ (s3 ++ s4)) d o 0 (length s1) (w ∙ simp append_assoc) refl refl,
         part_in s1 s2 (s3 ++ s4) d o (length s1) (length s2) (w ∙ simp append_assoc) refl refl,
         part_in (s1 ++ s2) s3 s4 d o (length s1 + length s2) (length s3) (w ∙ simp append_assoc) (sym (length-append s1 s2)) refl,
-        part_in ((s1 ++ s2) ++ s3) s4 [] d o (length s1 + length s2 + length s3) (length s4) (w ∙ rw (append_nil s4))
+        part_in ((s1 ++ s2) ++ s3) s4 [] d o (length s1 + length s2 + length s3) (length s4) (w ∙ rw (append-nil s4))
             (omega (arith, length-append s1 s2, length-append (s1 ++ s2) s3)) refl,
       )
 

@@ -1,12 +1,14 @@
 // The numbers that C hands over and gets back; the crate gate exports the calls.
 //   request == what the numbers of a request stand for
 //   answer  == what a call answers, as numbers
+#![tactic(auto)]
+
 pub mod answer;
 pub mod request;
 
 // A decision as numbers; looked: how many elements were looked at for a verdict.
 #[repr(C)]
-#[derive(Drop)]
+#[derive(Clone, Copy)]
 pub struct GateAnswer {
     pub number: u32,
     pub section: u32,
@@ -20,7 +22,7 @@ pub struct GateAnswer {
 
 // The same of a verdict, and how many bytes of its command were written.
 #[repr(C)]
-#[derive(Drop)]
+#[derive(Clone, Copy)]
 pub struct GateCommand {
     pub number: u32,
     pub section: u32,
@@ -35,7 +37,7 @@ pub struct GateCommand {
 
 // Whether a sheet is accepted.
 #[repr(C)]
-#[derive(Drop)]
+#[derive(Clone, Copy)]
 pub struct GateCheck {
     pub number: u32,
     pub section: u32,
@@ -44,7 +46,7 @@ pub struct GateCheck {
 
 // How many bytes were written.
 #[repr(C)]
-#[derive(Drop)]
+#[derive(Clone, Copy)]
 pub struct GateWritten {
     pub number: u32,
     pub section: u32,
@@ -54,7 +56,7 @@ pub struct GateWritten {
 
 // The place and length of each text of a sheet.
 #[repr(C)]
-#[derive(Drop)]
+#[derive(Clone, Copy)]
 pub struct GateParts {
     pub number: u32,
     pub section: u32,
@@ -73,7 +75,7 @@ pub struct GateParts {
 
 // An address as numbers.
 #[repr(C)]
-#[derive(Drop)]
+#[derive(Clone, Copy)]
 pub struct GateAddress {
     pub number: u32,
     pub section: u32,
@@ -85,7 +87,7 @@ pub struct GateAddress {
 
 // How many bytes were written into each of two outputs.
 #[repr(C)]
-#[derive(Drop)]
+#[derive(Clone, Copy)]
 pub struct GateWrittenTwo {
     pub number: u32,
     pub section: u32,
@@ -96,7 +98,7 @@ pub struct GateWrittenTwo {
 
 // What comes next in authbind's order, and how many bytes of a name were written.
 #[repr(C)]
-#[derive(Drop)]
+#[derive(Clone, Copy)]
 pub struct GateNext {
     pub number: u32,
     pub section: u32,

@@ -20,7 +20,7 @@ use portacl::Protocol;
 use section::Part;
 
 // A host as C hands it over: the state of its name, the kind of its address, and the address.
-#[derive(Drop)]
+#[derive(Clone, Copy)]
 pub struct HostNumbers {
     pub state: u32,
     pub kind: u32,
@@ -29,7 +29,7 @@ pub struct HostNumbers {
 }
 
 // The states of a request; fit: every number is of its kinds.
-#[derive(Drop)]
+#[derive(Clone, Copy)]
 pub struct States {
     pub fit: bool,
     pub client: Host,
@@ -38,7 +38,7 @@ pub struct States {
 }
 
 // What is to be bound; fit: both numbers are of their kinds.
-#[derive(Drop)]
+#[derive(Clone, Copy)]
 pub struct Target {
     pub fit: bool,
     pub protocol: Protocol,

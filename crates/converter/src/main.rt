@@ -1,5 +1,7 @@
 // converter FILE: writes a byuid text to standard output, its lines of the retired form addr4/len:pmin,pmax as addr4/len,pmin-pmax and
 // every other byte as it is. What is over its limit, or can't be read, gets a message on standard error, and nothing is written.
+#![tactic(auto)]
+
 use libc::{STDERR_FILENO, STDOUT_FILENO};
 
 fn tell(s: &[u8]) {

@@ -29,7 +29,7 @@ use text::equal_fold;
 use views::{Naming, Reference, look_up};
 
 // What is wrong with an element: it begins with a reserved mark, is of no kind, or names a table that is missing or leads too deep.
-#[derive(Drop)]
+#[derive(Clone, Copy)]
 pub enum ElementFault {
     Sound,
     Reserved,
@@ -39,7 +39,7 @@ pub enum ElementFault {
 }
 
 // What is wrong with an element, and what it finds and counts, if it is looked at.
-#[derive(Drop)]
+#[derive(Clone, Copy)]
 pub struct ElementSeen {
     pub fault: ElementFault,
     pub found: Found,
@@ -47,7 +47,7 @@ pub struct ElementSeen {
 }
 
 // Whether a text is of a kind of element, and what it finds, if it is looked at.
-#[derive(Drop)]
+#[derive(Clone, Copy)]
 pub struct KindSeen {
     pub sound: bool,
     pub found: Found,

@@ -12,7 +12,7 @@ use address::mapped::unmapped;
 use patterns::Host;
 use section::{Part, part_of};
 
-#[derive(Drop)]
+#[derive(Clone, Copy)]
 pub struct Request {
     pub daemon: Part,
     pub client: Host,

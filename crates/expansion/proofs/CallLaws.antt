@@ -4,9 +4,9 @@ use Prim.Native.Nat.{ℕ, ◌+◌, ◌-◌, ◌<◌, ◌≤◌}
 use native.Mathlib.Omega.{arith}
 use mathlib.Core.Bool.{Bool, true, false, not}
 use mathlib.Core.Option.{some}
-use mathlib.Core.List.{List, [], ◌∷◌, ◌++◌, flat_map, reverse, append_assoc, append_nil}
+use mathlib.Core.List.{List, [], ◌∷◌, ◌++◌, flat_map, reverse, append_assoc, append-nil}
 use mathlib.Core.Path.{◌≡◌, refl, sym, ap, subst, ◌∙◌}
-use borrow.Author.Tests.{lt-ltb, le-ltb, not_true, not_false}
+use borrow.Author.Tests.{lt-ltb, le-ltb, not-true, not-false}
 use lib.ListN.{length, take, drop, length-append, length-reverse}
 use lib.Seq.{take_at}
 use Rattle.text.specs.Basics.{if◌then◌else◌}
@@ -76,7 +76,7 @@ module _ (q : Places) (names d o1 o2 o3 o : List ℕ) (w a b n process : ℕ) (w
       (part_in words ca (sa ++ decimal process) d o 16 (a - 16) (laid ∙ simp append_assoc) refl (omega (arith, w1.0, w2.0)))
       (part_in (words ++ ca) sa (decimal process) d o a (b - a) (laid ∙ simp append_assoc) (omega (arith, w1.0, w2.0, length-append words ca))
       (omega (arith, w3.0)))
-      (part_in ((words ++ ca) ++ sa) (decimal process) [] d o b (n - b) (laid ∙ rw (append_nil (decimal process)))
+      (part_in ((words ++ ca) ++ sa) (decimal process) [] d o b (n - b) (laid ∙ rw (append-nil (decimal process)))
       (omega (arith, w1.0, w2.0, w3.0, length-append words ca, length-append (words ++ ca) sa)) (omega (arith, w4.0)))
 
   module _ (g : Given) (is-g : g ≡ given_at q a b n) where
@@ -167,7 +167,7 @@ module _ (c : List ℕ) (r : Request) (process : ℕ) (d : List ℕ) (j : Joined
 
   pub byte_refused : j.clean ≡ false → (f : Refusal) → f ≡ placeless F.BadByte → Gave d d (W.Refused f) (expand c (some r) process (length d))
   unfolding expand first_holding
-  byte_refused e f g = rw (rising_faults, not_false (has_bad_byte (join c)) (sym is_clean ∙ e), g) (refl, refl)
+  byte_refused e f g = rw (rising_faults, not-false (has_bad_byte (join c)) (sym is_clean ∙ e), g) (refl, refl)
 
   pub line_length : j.len ≤ 2047 → length (join c) ≤ 2047
   line_length h = omega (arith, is_len)
@@ -177,9 +177,9 @@ module _ (c : List ℕ) (r : Request) (process : ℕ) (d : List ℕ) (j : Joined
     unfolding expand first_holding
     length_refused h f g =
         let l : 2047 < length (join c) = omega (arith, is_len) in
-        rw (rising_faults, not_true (has_bad_byte (join c)) (sym is_clean ∙ e), lt-ltb 2047 (length (join c)) l, g) (refl, refl)
+        rw (rising_faults, not-true (has_bad_byte (join c)) (sym is_clean ∙ e), lt-ltb 2047 (length (join c)) l, g) (refl, refl)
 
     pub line_written : j.len ≤ 2047 → (o : List ℕ) (v : Written) → Gave d o v (expand_trimmed (trimmed c) (held r) process (length d))
         → Gave d o v (expand c (some r) process (length d))
     unfolding expand expand_trimmed expansion has_bad_percent any_bad_percent lowest
-    line_written h o v g = rw (not_true (has_bad_byte (join c)) (sym is_clean ∙ e), le-ltb 2047 (length (join c)) (line_length h)) (rw (held_fits r) at g)
+    line_written h o v g = rw (not-true (has_bad_byte (join c)) (sym is_clean ∙ e), le-ltb 2047 (length (join c)) (line_length h)) (rw (held_fits r) at g)

@@ -3,8 +3,8 @@
 use Prim.Native.Nat.{ℕ, zero, suc, ◌+◌, ◌*◌, ◌<◌, ◌≤◌}
 use native.Mathlib.Numerals.{add-one}
 use native.Mathlib.Omega.{arith}
-use mathlib.Core.Bool.{false, or_false}
-use mathlib.Core.List.{List, [], ◌∷◌, ◌++◌, map, flat_map, append_assoc, append_nil}
+use mathlib.Core.Bool.{false, or-false}
+use mathlib.Core.List.{List, [], ◌∷◌, ◌++◌, map, flat_map, append_assoc, append-nil}
 use mathlib.Core.Path.{◌≡◌, refl, sym, ap, ◌∙◌}
 use borrow.Author.Tests.{ne_eqb, lt-ltb, le-ltb}
 use lib.Dec.{eqb}
@@ -36,8 +36,8 @@ module _ (x : Texts) where
 
   expansion_by_literal : (b : ℕ) (t : List ℕ) → eqb b 37 ≡ false → expansion_by x (b ∷ t) ≡ b ∷ expansion_by x t
   unfolding expansion_by pieces flat_map piece_by any
-  expansion_by_literal b [] e = rw (or_false, e)
-  expansion_by_literal b (y ∷ t) e = rw (or_false, e)
+  expansion_by_literal b [] e = rw (or-false, e)
+  expansion_by_literal b (y ∷ t) e = rw (or-false, e)
 
   expansion_by_directive : (t : List ℕ) → expansion_by x (37 ∷ t) ≡ map safe_byte (inserted_by x (get_or t 0 0)) ++ expansion_by x (drop 1 t)
   unfolding expansion_by pieces flat_map piece_by any
@@ -110,7 +110,7 @@ module _ (x : Texts) (t d : List ℕ) where
   module _ (o : List ℕ) (n i : ℕ) (h : Expanded x t d o n i) where
     pub expanded_end : length t ≤ i → (n ≡ length (expansion_by x t)) × (o ≡ put_at d 0 (expansion_by x t))
     expanded_end l =
-        let e : expansion_by x t ≡ h.done = h.whole ∙ rw (drop_of_length-le t l, expansion_by_nil x) (append_nil h.done) in
+        let e : expansion_by x t ≡ h.done = h.whole ∙ rw (drop_of_length-le t l, expansion_by_nil x) (append-nil h.done) in
         rw e (omega (arith, h.wrote.0), h.wrote.1)
 
     module _ (room : length (expansion_by x t) ≤ length d) where

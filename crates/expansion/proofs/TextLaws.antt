@@ -4,7 +4,7 @@ use Prim.Native.Nat.{ℕ, ◌+◌, ◌<◌, ◌≤◌}
 use native.Mathlib.Numerals.{add-one}
 use native.Mathlib.Omega.{arith}
 use mathlib.Core.Bool.{Bool, true, false, ◌&&◌, ◌||◌}
-use mathlib.Core.List.{List, [], ◌∷◌, ◌++◌, map, map-append, append_assoc, append_nil}
+use mathlib.Core.List.{List, [], ◌∷◌, ◌++◌, map, map-append, append_assoc, append-nil}
 use mathlib.Core.Logic.{inl, inr}
 use mathlib.Core.Path.{◌≡◌, refl, sym, ◌∙◌}
 use borrow.Author.Tests.{eqb-true, ne_eqb, leb-true}
@@ -102,7 +102,7 @@ at_daemon : (known : Bool) (daemon host : List ℕ)
     → (if known then daemon ++ (bytes "@" ++ (if known then host else daemon)) else (if known then host else daemon))
     ≡ daemon ++ (if known then bytes "@" ++ host else [])
 at_daemon true daemon host = refl
-at_daemon false daemon host = sym (append_nil daemon)
+at_daemon false daemon host = sym (append-nil daemon)
 
 user_alone : (u : User) (name : List ℕ) → user_state u (bytes "unknown") name
     ≡ elim u [ U.NotFetched ↦ bytes "unknown" | U.Unknown ↦ bytes "unknown" | U.Known ↦ name ]

@@ -17,7 +17,7 @@ use patterns::{Host, Name};
 use section::{Part, part_of};
 
 // A request, and where the texts of its addresses and of the process number stand.
-#[derive(Drop)]
+#[derive(Clone, Copy)]
 pub struct Given {
     pub request: Request,
     pub client: Part,

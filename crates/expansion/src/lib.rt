@@ -2,6 +2,8 @@
 //   expand(out, command, ..) == writes what the command expands to for a request at the front of out, or refuses
 //   is_safe(b)   == b is a letter, a digit or one of the marks of the house set
 //   safe_byte(b) == b as it is inserted
+#![tactic(auto)]
+
 pub mod directive;
 pub mod write;
 

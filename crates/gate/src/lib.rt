@@ -14,6 +14,8 @@
 //   gate_authbind                          == the next file in authbind's order, or the outcome
 //   gate_carry                             == the byuid lines that grant what a portacl list grants
 // A number outside its kinds is refused by 13, after every check of the texts.
+#![tactic(auto)]
+
 ghost use Rattle.std.specs.Prelude.{◌≡◌};
 ghost use Rattle.sheet.specs.Sheet.{texts};
 ghost use Rattle.codes.specs.Requests.{host_numbers, request_numbers, settings_of};

@@ -4,7 +4,7 @@
 -- Assumes nothing.
 use Prim.Native.Nat.{ℕ, zero, suc, ◌+◌, ◌-◌, ◌*◌, ◌/◌, ◌%◌, ◌≤◌, ◌<◌}
 use mathlib.Core.Bool.{Bool, true, false, ◌&&◌, true≢false}
-use mathlib.Core.List.{List, [], ◌∷◌, ◌++◌, append_nil, append_assoc}
+use mathlib.Core.List.{List, [], ◌∷◌, ◌++◌, append-nil, append_assoc}
 use mathlib.Core.Option.{Option, none, some}
 use mathlib.Core.Path.{◌≡◌, refl, sym, ap, ap₂, ◌∙◌}
 use native.Mathlib.Omega.{arith}
@@ -306,7 +306,7 @@ module _ (sheet : List ℕ) (all : Option (List RequestNumbers)) (d o : List ℕ
 
   all_done : length rest ≤ 0 → all_answers sheet all ≡ w.done
   unfolding answers_to
-  all_done h = w.whole ∙ ap (λ (ns : List RequestNumbers). w.done ++ answers_to sheet ns) (none_left h) ∙ append_nil w.done
+  all_done h = w.whole ∙ ap (λ (ns : List RequestNumbers). w.done ++ answers_to sheet ns) (none_left h) ∙ append-nil w.done
 
   pub answering_end : length rest ≤ 0 → next ≡ length (all_answers sheet all)
   answering_end h = w.place ∙ ap length (sym (all_done h))

@@ -5,7 +5,7 @@
 -- Assumes nothing.
 use Prim.Native.Nat.{ℕ, zero, suc, ◌+◌, ◌-◌, ◌*◌, ◌/◌, ◌≤◌, ◌<◌}
 use mathlib.Core.Bool.{Bool, true, false, not, ◌&&◌, ◌||◌, true≢false}
-use mathlib.Core.List.{List, [], ◌∷◌, ◌++◌, append_nil, append_assoc}
+use mathlib.Core.List.{List, [], ◌∷◌, ◌++◌, append-nil, append_assoc}
 use mathlib.Core.Option.{Option, none, some, get_or}
 use mathlib.Core.Path.{◌≡◌, refl, sym, ap, ap₂, ◌∙◌}
 use native.Mathlib.Omega.{arith}
@@ -334,7 +334,7 @@ writing_start base t d at = record {
 module _ (base : ℕ) (t d : List ℕ) (at : ℕ) (o : List ℕ) (next i n : ℕ) (w : Writing base t d at o next i n) where
   all_done : length t ≤ i → table_bytes (rule_table base (lines t)) ≡ w.done
   unfolding table_bytes
-  all_done h = w.whole ∙ ap (λ (es : List Entry). w.done ++ table_bytes es) (table_end base t i n h) ∙ append_nil w.done
+  all_done h = w.whole ∙ ap (λ (es : List Entry). w.done ++ table_bytes es) (table_end base t i n h) ∙ append-nil w.done
 
   pub writing_end : length t ≤ i → next ≡ at + length (table_bytes (rule_table base (lines t)))
   writing_end h = w.place ∙ ap (λ (s : List ℕ). at + length s) (sym (all_done h))
@@ -440,7 +440,7 @@ module _ (x : LineEntry) where
 -- a buffer of k bytes that is written over wholly
 pub whole_buffer : (d o s : List ℕ) → o ≡ put_at d 0 s → length s ≡ length d → o ≡ s
 unfolding put_at
-whole_buffer d o s e h = let k : length d ≤ 0 + length s = omega arith in e ∙ rw (take-length s, drop_of_length-le d k) (append_nil s)
+whole_buffer d o s e h = let k : length d ≤ 0 + length s = omega arith in e ∙ rw (take-length s, drop_of_length-le d k) (append-nil s)
 
 -- bytes compared with what was written over a whole buffer
 module _ (d o : List ℕ) where

@@ -6,6 +6,8 @@
 //   search   == the first rule that decides, found by the entries
 //   requests == the fields of requests, by their places
 //   answers  == the answer to one request, and to all
+#![tactic(auto)]
+
 ghost use Rattle.std.specs.Prelude.{◌≡◌, ◌++◌, ◌+◌, ◌≤◌, ◌<◌, length};
 ghost use Rattle.text.specs.Scan.{after};
 ghost use Rattle.lines.specs.Line.{lines};
@@ -23,14 +25,14 @@ pub mod search;
 pub mod table;
 
 // From a place up to another.
-#[derive(Drop)]
+#[derive(Clone, Copy)]
 pub struct Range {
     pub start: usize,
     pub end: usize,
 }
 
 // A rule: its first and last line, and the places of the rule, its daemon list and its client list in the sheet.
-#[derive(Drop)]
+#[derive(Clone, Copy)]
 pub struct Entry {
     pub lines: Range,
     pub rule: Range,

@@ -10,27 +10,27 @@ use codes::request::HostNumbers;
 use section::Part;
 
 // A text after its count: its place, or that the bytes end within it.
-#[derive(Drop)]
+#[derive(Clone, Copy)]
 pub enum TextRead {
     Cut,
     Text(Part),
 }
 
 // A host: its numbers, and the place of its name.
-#[derive(Drop)]
+#[derive(Clone, Copy)]
 pub struct HostFields {
     pub numbers: HostNumbers,
     pub name: Part,
 }
 
-#[derive(Drop)]
+#[derive(Clone, Copy)]
 pub enum HostRead {
     Cut,
     Host(HostFields),
 }
 
 // A request: its numbers, the places of its texts, and where it ends.
-#[derive(Drop)]
+#[derive(Clone, Copy)]
 pub struct Fields {
     pub daemon: Part,
     pub client: HostFields,
@@ -40,14 +40,14 @@ pub struct Fields {
     pub end: usize,
 }
 
-#[derive(Drop)]
+#[derive(Clone, Copy)]
 pub enum RequestRead {
     Cut,
     Request(Fields),
 }
 
 // How many requests there are, or that they can't be parted.
-#[derive(Drop)]
+#[derive(Clone, Copy)]
 pub enum Counted {
     Unparted,
     Count(u8),

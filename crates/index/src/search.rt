@@ -34,14 +34,14 @@ use sheet::Parts;
 use text::equal_fold;
 
 // What the rules of a text find: an answer, or none.
-#[derive(Drop)]
+#[derive(Clone, Copy)]
 pub enum Sought {
     Nothing,
     Answer(Answer),
 }
 
 // The same, and how many elements were looked at for it.
-#[derive(Drop)]
+#[derive(Clone, Copy)]
 pub struct Seeking {
     pub sought: Sought,
     pub looked: u64,

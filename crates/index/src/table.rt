@@ -20,7 +20,7 @@ use sheet::Parts;
 use sheet::pack::put_count;
 
 // A line of a text: where the next one starts, its number, and the entry of the rule in it, if there is one.
-#[derive(Drop)]
+#[derive(Clone, Copy)]
 pub struct LineEntry {
     pub next: usize,
     pub number: usize,

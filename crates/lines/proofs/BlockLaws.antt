@@ -1,7 +1,7 @@
 -- Laws of bytes that are passed by blocks, over what holds of each byte that is passed.
 -- Assumes nothing.
 use Prim.Native.Nat.{ℕ, zero, suc, ◌+◌, ◌-◌, ◌<◌, ◌≤◌}
-use mathlib.Core.Bool.{Bool, true, false, ◌&&◌, and_true as and_true_right, and_false as and-false-right, and_assoc, true≢false}
+use mathlib.Core.Bool.{Bool, true, false, ◌&&◌, and-true as and_true_right, and-false as and-false-right, and_assoc, true≢false}
 use mathlib.Core.List.{List, [], ◌∷◌}
 use mathlib.Core.Path.{◌≡◌, refl, sym, ap, ◌∙◌}
 use native.Mathlib.Nat.{zero-add, suc-add, sub_self, add-sub_cancel_left}

@@ -4,7 +4,7 @@ use Prim.Native.Nat.{ℕ, zero, suc, ◌+◌, ◌-◌, ◌≤◌, ◌<◌}
 use native.Mathlib.Numerals.{add-one, sub-one}
 use native.Mathlib.Omega.{arith}
 use mathlib.Core.Path.{◌≡◌, refl, sym, ap, ◌∙◌}
-use mathlib.Core.Bool.{Bool, true, false, not, ◌||◌, or_false}
+use mathlib.Core.Bool.{Bool, true, false, not, ◌||◌, or-false}
 use mathlib.Core.List.{List, [], ◌∷◌, ◌++◌, reverse, reverse-append, reverse-reverse}
 use lib.Dec.{eqb}
 use lib.ListN.{length, take, drop, get_or, length-reverse, take-append-drop, drop_of_length-le}
@@ -85,8 +85,8 @@ trimmed_join t = refl
 -- a byte that is no percent; a percent before the byte y
 any_bad_percent_other : (x : ℕ) (t : List ℕ) → eqb x 37 ≡ false → any_bad_percent (x ∷ t) ≡ any_bad_percent t
 unfolding any_bad_percent pieces any
-any_bad_percent_other x [] e = rw (or_false, e)
-any_bad_percent_other x (y ∷ t) e = rw (or_false, e)
+any_bad_percent_other x [] e = rw (or-false, e)
+any_bad_percent_other x (y ∷ t) e = rw (or-false, e)
 
 any_bad_percent_pair : (y : ℕ) (t : List ℕ) → any_bad_percent (37 ∷ y ∷ t) ≡ (not (among "aAnNhHucdsp%" y) || any_bad_percent t)
 unfolding any_bad_percent pieces any

@@ -6,21 +6,21 @@
 --   length_join_line, line_no_newline, join_line, has_bad_byte_line   what the scan tells of the line
 -- Assumes nothing.
 use Prim.Native.Nat.{ℕ, zero, suc, ◌+◌, ◌-◌, ◌*◌, ◌<◌, ◌≤◌}
-use mathlib.Core.Bool.{Bool, true, false, not, ◌&&◌, ◌||◌, or_false, or_true, and_true as and_true_right, and_assoc, true≢false}
-use mathlib.Core.List.{List, [], ◌∷◌, ◌++◌, append_nil, append_assoc, reverse-append}
+use mathlib.Core.Bool.{Bool, true, false, not, ◌&&◌, ◌||◌, or-false, or-true, and-true as and_true_right, and_assoc, true≢false}
+use mathlib.Core.List.{List, [], ◌∷◌, ◌++◌, append-nil, append_assoc, reverse-append}
 use mathlib.Core.Option.{Option, none}
 use mathlib.Core.Path.{◌≡◌, refl, sym, ap, ap₂, ◌∙◌}
 use native.Mathlib.Nat.{add-zero, zero-add, add_assoc, add-sub_cancel, add-sub_cancel_left}
 use native.Mathlib.Numerals.{add-one, add-two}
 use native.Mathlib.Omega.{arith}
-use borrow.Author.Tests.{eqb-true, eq-eqb, ne_eqb, not_true, ltb-true, ltb-false, leb-true, lt-ltb, le-ltb}
+use borrow.Author.Tests.{eqb-true, eq-eqb, ne_eqb, not-true, ltb-true, ltb-false, leb-true, lt-ltb, le-ltb}
 use lib.Dec.{eqb, ltb, leb}
 use lib.ListN.{length, take, drop, get_or, set, length-append, length-drop, length-set, take-append-drop}
 use lib.ListN.{get_or-eq_default, drop_of_length-le}
 use lib.Seq.{drop-cons, append_snoc, get_or-drop, length-take-le, take-suc-set, drop-set-lt, drop-drop}
 use Rattle.text.specs.Basics.{if◌then◌else◌, any, all, first, ◌or_else◌}
 use Rattle.text.specs.Text.{among, first_among, last_among, split, cons_head}
-use Rattle.text.proofs.BasicLaws.{and_true, all_take, all_drop}
+use Rattle.text.proofs.BasicLaws.{and-true, all_take, all_drop}
 use Rattle.lines.specs.Line.{join, Line, line, continued, logical_lines, lines, has_bad_byte}
 use Rattle.lines.specs.Scan.{span, is_line_byte, scan, scan_line, span_at, SpanBounds, slash_before, pair_at}
 use Rattle.lines.specs.Block.{printable, front_all, PassedTo}
@@ -32,7 +32,7 @@ use Rattle.lines.proofs.BlockLaws.{front_within}
 
 pub any_one : (x m : ℕ) → any (eqb x) (m ∷ []) ≡ eqb x m
 unfolding any
-any_one x m = or_false (eqb x m)
+any_one x m = or-false (eqb x m)
 
 pub join_pair : (t : List ℕ) → join (92 ∷ 10 ∷ t) ≡ join t
 unfolding join any
@@ -58,8 +58,8 @@ unfolding join all
 join_clean [] e = refl
 join_clean (x ∷ []) e = join_plain x [] refl
 join_clean (x ∷ y ∷ s) e =
-    let f = (and_true (is_no_newline x) (all is_no_newline (y ∷ s)) e).1 in
-    join_plain x (y ∷ s) (any_one y 10 ∙ not_true (eqb y 10) (and_true (is_no_newline y) (all is_no_newline s) f).0)
+    let f = (and-true (is_no_newline x) (all is_no_newline (y ∷ s)) e).1 in
+    join_plain x (y ∷ s) (any_one y 10 ∙ not-true (eqb y 10) (and-true (is_no_newline y) (all is_no_newline s) f).0)
     ∙ ap (λ (l : List ℕ). x ∷ l) (join_clean (y ∷ s) f)
 
 pub join_part : (s : List ℕ) (i n : ℕ) → all is_no_newline s ≡ true → join (take n (drop i s)) ≡ take n (drop i s)
@@ -78,7 +78,7 @@ module _ (s : List ℕ) (i : ℕ) (h : i < length s) (x : Bool) (is_x : x ≡ pa
   pub pair_at_within : x ≡ true → i + 2 ≤ length s
   unfolding pair_at
   pair_at_within e =
-      let f : eqb (get_or s (i + 1) 0) 10 ≡ true = (and_true (eqb (get_or s i 0) 92) (eqb (get_or s (i + 1) 0) 10) (sym is_x ∙ e)).1 in
+      let f : eqb (get_or s (i + 1) 0) 10 ≡ true = (and-true (eqb (get_or s i 0) 92) (eqb (get_or s (i + 1) 0) 10) (sym is_x ∙ e)).1 in
       by (ltb (i + 1) (length s)) refl f
     where
       by : (b : Bool) → ltb (i + 1) (length s) ≡ b → eqb (get_or s (i + 1) 0) 10 ≡ true → i + 2 ≤ length s
@@ -90,7 +90,7 @@ module _ (s : List ℕ) (i : ℕ) (h : i < length s) (x : Bool) (is_x : x ≡ pa
   pub join_skip : x ≡ true → join (drop i s) ≡ join (drop (i + 2) s)
   unfolding pair_at
   join_skip e =
-      let f = and_true (eqb (get_or s i 0) 92) (eqb (get_or s (i + 1) 0) 10) (sym is_x ∙ e) in
+      let f = and-true (eqb (get_or s i 0) 92) (eqb (get_or s (i + 1) 0) 10) (sym is_x ∙ e) in
       ap join (drop_two s i (omega (arith, pair_at_within e)))
       ∙ rw (eqb-true (get_or s i 0) 92 f.0, eqb-true (get_or s (i + 1) 0) 10 f.1) (join_pair (drop (i + 2) s))
 
@@ -293,7 +293,7 @@ first_end b (x ∷ p) n at e k = refl
 
 first_stop : (t : List ℕ) → First false (10 ∷ t)
 unfolding First scan
-first_stop t p n at e k = rw (split_newline t, append_nil p, logical_lines_newline n at p t, e, add-zero n, add-zero (length p))
+first_stop t p n at e k = rw (split_newline t, append-nil p, logical_lines_newline n at p t, e, add-zero n, add-zero (length p))
 
 prepend_nil : (t : List ℕ) → prepend [] (split "\n" t) ≡ split "\n" t
 prepend_nil t = let v = split_some t in rw v.1.1
@@ -305,12 +305,12 @@ first_more t k h p n at e _ =
     let f : ℕ = (scan false t).end in
     let m : n + suc j + 1 ≡ n + 1 + j + 1 = omega arith in
     let l : at + (length p + suc f) + 1 ≡ at + length p + 1 + (0 + f) + 1 = omega arith in
-    rw (split_newline t, append_nil p, logical_lines_newline n at p t, e, scan_pair t, ← (append_snoc p 10 (take f t)), m, l, ← (prepend_nil t))
+    rw (split_newline t, append-nil p, logical_lines_newline n at p t, e, scan_pair t, ← (append_snoc p 10 (take f t)), m, l, ← (prepend_nil t))
     (rw (h [] (n + 1) (at + length p + 1) refl (omega arith)))
 
 first_pair : (t : List ℕ) → First false t → First true (10 ∷ t)
 unfolding First scan logical_lines split
-first_pair [] h p n at e k = rw (split_newline [], append_nil p, e)
+first_pair [] h p n at e k = rw (split_newline [], append-nil p, e)
 first_pair (x ∷ t) h p n at e k = first_more (x ∷ t) (omega arith) h p n at e k
 
 pub logical_lines_cons : (t : List ℕ) (n at : ℕ) → 0 < length t
@@ -439,12 +439,12 @@ module _ {t : List ℕ} {start i j : ℕ} {c : Bool} (inv : Scanning t start i j
 
     pub scanning_plain : (leb 32 (get_or t i 0) && leb (get_or t i 0) 126) ≡ true → Scanning t start (i + 1) j c
     scanning_plain e =
-        let k : 32 ≤ get_or t i 0 = leb-true 32 (get_or t i 0) (and_true (leb 32 (get_or t i 0)) (leb (get_or t i 0) 126) e).0 in
-        rw (e, or_true (eqb (get_or t i 0) 9), and_true_right c) at (scanning_byte (λ q. omega arith))
+        let k : 32 ≤ get_or t i 0 = leb-true 32 (get_or t i 0) (and-true (leb 32 (get_or t i 0)) (leb (get_or t i 0) 126) e).0 in
+        rw (e, or-true (eqb (get_or t i 0) 9), and_true_right c) at (scanning_byte (λ q. omega arith))
 
     pub scanning_other : (leb 32 (get_or t i 0) && leb (get_or t i 0) 126) ≡ false → (get_or t i 0 ≡ 10 → ⊥)
         → Scanning t start (i + 1) j (c && eqb (get_or t i 0) 9)
-    scanning_other e n = rw (e, or_false) at (scanning_byte n)
+    scanning_other e n = rw (e, or-false) at (scanning_byte n)
 
 -- ## Blocks of printable bytes
 
@@ -456,9 +456,9 @@ scanning_front zero t start i j c inv e = rw (add-zero i) inv
 scanning_front (suc n) t start i j c inv e =
     let h : i < length t = omega (arith, front_within printable (suc n) (drop i t) e, length-drop i t) in
     let f : (printable (get_or t i 0) && front_all printable n (drop (suc i) t)) ≡ true = rw (drop-cons t i 0 h) at e in
-    let g : front_all printable n (drop (i + 1) t) ≡ true = rw (add-one i) (and_true (printable (get_or t i 0)) (front_all printable n (drop (suc i) t)) f).1 in
+    let g : front_all printable n (drop (i + 1) t) ≡ true = rw (add-one i) (and-true (printable (get_or t i 0)) (front_all printable n (drop (suc i) t)) f).1 in
     let m : i + suc n ≡ i + 1 + n = omega arith in
-    rw m (scanning_front n t start (i + 1) j c (scanning_plain inv h (and_true (printable (get_or t i 0)) (front_all printable n (drop (suc i) t)) f).0) g)
+    rw m (scanning_front n t start (i + 1) j c (scanning_plain inv h (and-true (printable (get_or t i 0)) (front_all printable n (drop (suc i) t)) f).0) g)
 
 pub scanning_after : (t : List ℕ) (start i : ℕ) → start ≤ length t → PassedTo printable t start i → Scanning t start i 0 true
 scanning_after t start i h p =
@@ -524,7 +524,7 @@ module _ {s o₀ o : List ℕ} {i n : ℕ} (inv : Joining s o₀ o i n) where
   pub joining_end : length s ≤ i → (n ≡ length (join s)) × (o ≡ join s ++ drop (length (join s)) o₀)
   unfolding join
   joining_end h =
-      let t : join s ≡ take n o = inv.text ∙ rw (drop_of_length-le s h) (append_nil (take n o)) in
+      let t : join s ≡ take n o = inv.text ∙ rw (drop_of_length-le s h) (append-nil (take n o)) in
       let m : length (join s) ≡ n = ap length t ∙ length-take-le n o inv.room in
       (sym m, rw (m, t, ← inv.rest) (sym (take-append-drop n o)))
 
@@ -589,7 +589,7 @@ module _ (s : List ℕ) (i : ℕ) (so_far : all (among " \t") (join s) ≡ all (
     blank_byte e =
         so_far
         ∙ rw (drop-cons s i 0 h, add-one i, join_other (get_or s i 0) (drop (suc i) s) (blank_slash (get_or s i 0) e))
-        (rw (or_false (eqb (get_or s i 0) 9), e))
+        (rw (or-false (eqb (get_or s i 0) 9), e))
 
     module _ (x : Bool) (is_x : x ≡ pair_at s i) where
       pub blank_pair : x ≡ true → all (among " \t") (join s) ≡ all (among " \t") (join (drop (i + 2) s))
@@ -597,7 +597,7 @@ module _ (s : List ℕ) (i : ℕ) (so_far : all (among " \t") (join s) ≡ all (
 
       pub blank_stop : x ≡ false → (eqb (get_or s i 0) 32 || eqb (get_or s i 0) 9) ≡ false → false ≡ all (among " \t") (join s)
       unfolding all any
-      blank_stop e f = rw (so_far, join_keep s i h x is_x e, or_false (eqb (get_or s i 0) 9), f)
+      blank_stop e f = rw (so_far, join_keep s i h x is_x e, or-false (eqb (get_or s i 0) 9), f)
 
   pub blank_end : length s ≤ i → true ≡ all (among " \t") (join s)
   unfolding all join

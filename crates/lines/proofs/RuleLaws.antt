@@ -11,7 +11,7 @@ use mathlib.Core.Option.{Option, none, some}
 use lib.Dec.{ltb, eqb, leb-suc-suc}
 use lib.ListN.{length, take, drop, get_or, length-drop, drop_of_length-le}
 use lib.Seq.{drop-cons, drop-drop, drop-length, take_all}
-use borrow.Author.Tests.{eqb-true, eqb-false, not_true, ltb-true, ltb-false, ne_eqb, lt-ltb, le-ltb}
+use borrow.Author.Tests.{eqb-true, eqb-false, not-true, ltb-true, ltb-false, ne_eqb, lt-ltb, le-ltb}
 use Rattle.text.specs.Basics.{if◌then◌else◌, given, any}
 use Rattle.text.specs.Text.{among, split, cons_first}
 use Rattle.text.specs.Scan.{span_len, index_of}
@@ -113,8 +113,8 @@ searched_front (suc n) s i h e =
     let f : (unmarked b && front_all unmarked n (drop (suc i) s)) ≡ true = rw (drop-cons s i 0 l) at e in
     let q : unmarked b ≡ true = (and_true (unmarked b) (front_all unmarked n (drop (suc i) s)) f).0 in
     let g : front_all unmarked n (drop (i + 1) s) ≡ true = rw (add-one i) (and_true (unmarked b) (front_all unmarked n (drop (suc i) s)) f).1 in
-    let c : eqb b 58 ≡ false = not_true (eqb b 58) (and_true (not (eqb b 58)) (not (eqb b 91)) q).0 in
-    let o : eqb b 91 ≡ false = not_true (eqb b 91) (and_true (not (eqb b 58)) (not (eqb b 91)) q).1 in
+    let c : eqb b 58 ≡ false = not-true (eqb b 58) (and_true (not (eqb b 58)) (not (eqb b 91)) q).0 in
+    let o : eqb b 91 ≡ false = not-true (eqb b 91) (and_true (not (eqb b 58)) (not (eqb b 91)) q).1 in
     let m : i + suc n ≡ i + 1 + n = omega arith in
     rw m (searched_front n s (i + 1) (searched_byte s i h l (eqb-false b 58 c) (eqb-false b 91 o)) g)
 

@@ -12,7 +12,7 @@ ghost use Rattle.lines.specs.Scan.{span_at, scan_line, SpanBounds, slash_before,
 
 // A logical line that was found: its end, whether a newline stands there, how many pairs of a backslash and a newline are dropped
 // from it, and whether every byte that remains is one that a line may hold.
-#[derive(Drop)]
+#[derive(Clone, Copy)]
 pub struct LineSpan {
     pub end: usize,
     pub ended: bool,
@@ -21,7 +21,7 @@ pub struct LineSpan {
 }
 
 // How long a text is when joined, and whether every byte of it may stand in a line.
-#[derive(Drop)]
+#[derive(Clone, Copy)]
 pub struct JoinedText {
     pub len: usize,
     pub clean: bool,

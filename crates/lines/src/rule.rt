@@ -6,7 +6,7 @@ ghost use Rattle.lines.specs.Rule.{is_except};
 ghost use Rattle.lines.specs.Parts.{separator_index, after_separator, element_span, first_element, after_element};
 
 // Where an element starts and ends; both are the text's length where there is none.
-#[derive(Drop)]
+#[derive(Clone, Copy)]
 pub struct ElementSpan {
     pub start: usize,
     pub end: usize,

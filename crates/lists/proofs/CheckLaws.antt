@@ -1,7 +1,7 @@
 -- Laws of checking one list and one rule, shaped as the calls and tests of the code hand their facts over.
 -- Assumes nothing.
 use Prim.Native.Nat.{ℕ, ◌≤◌, ◌<◌}
-use mathlib.Core.Bool.{Bool, true, false, not, ◌&&◌, ◌||◌, true≢false, or_false, and_true, and_false, and_assoc, or_assoc}
+use mathlib.Core.Bool.{Bool, true, false, not, ◌&&◌, ◌||◌, true≢false, or-false, and-true, and-false, and_assoc, or_assoc}
 use mathlib.Core.List.{List, [], ◌∷◌}
 use mathlib.Core.Option.{Option, none, some}
 use mathlib.Core.Path.{◌≡◌, refl, sym, ap, ap₂, fun_ext, ◌∙◌}
@@ -86,13 +86,13 @@ module _ (c : ListCheck) (after x : Bool) (f : ElementFault) (is_f : f ≡ E.Sou
   kept : (e m : Bool) → e ≡ (c.empty && x) → m ≡ (c.misplaced || x && not after)
       → checks e m c.reserved c.unsound c.missing c.deep ≡ list_more c after x f
   unfolding list_more
-  kept e m is-e is_m = rw (is-e, is_m, is_f, or_false c.reserved, or_false c.unsound, or_false c.missing, or_false c.deep)
+  kept e m is-e is_m = rw (is-e, is_m, is_f, or-false c.reserved, or-false c.unsound, or-false c.missing, or-false c.deep)
 
   pub sound_except : x ≡ true → checks c.empty (c.misplaced || not after) c.reserved c.unsound c.missing c.deep ≡ list_more c after x f
-  sound_except q = kept c.empty (c.misplaced || not after) (rw q (sym (and_true c.empty))) (rw q)
+  sound_except q = kept c.empty (c.misplaced || not after) (rw q (sym (and-true c.empty))) (rw q)
 
   pub sound_element_lem : x ≡ false → checks false c.misplaced c.reserved c.unsound c.missing c.deep ≡ list_more c after x f
-  sound_element_lem q = kept false c.misplaced (rw q (sym (and_false c.empty))) (rw q (sym (or_false c.misplaced)))
+  sound_element_lem q = kept false c.misplaced (rw q (sym (and-false c.empty))) (rw q (sym (or-false c.misplaced)))
 
 pub list_from_start : (kind : Kind) (ws : List (List ℕ)) → list_check kind ws ≡ list_from kind false list_start ws
 unfolding list_check list_from
@@ -100,7 +100,7 @@ list_from_start kind ws = refl
 
 pub list_from_nil : (kind : Kind) (after : Bool) (c : ListCheck) → list_from kind after c [] ≡ list_end c after
 unfolding list_from except_misplaced any all
-list_from_nil kind after c = rw (and_true, or_false, or_false, or_false, or_false)
+list_from_nil kind after c = rw (and-true, or-false, or-false, or-false, or-false)
 
 -- ## The lowest fault
 

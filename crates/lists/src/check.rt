@@ -11,7 +11,7 @@ use section::Fault;
 
 // What checking a list finds: no element, EXCEPT misplaced, an element of reserved start, one that is not sound, one that names a table
 // that is missing, that leads too deep.
-#[derive(Drop)]
+#[derive(Clone, Copy)]
 pub struct ListCheck {
     pub empty: bool,
     pub misplaced: bool,

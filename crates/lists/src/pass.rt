@@ -23,7 +23,7 @@ use patterns::Host;
 use section::{Fault, part_of};
 
 // Where a pass over a list is: it looks for an element that matches, has one, or is done, with what the list finds.
-#[derive(Drop)]
+#[derive(Clone, Copy)]
 pub enum Side {
     Looking,
     Matched,
@@ -33,7 +33,7 @@ pub enum Side {
 }
 
 // The side after a word, and how many elements were looked at for it.
-#[derive(Drop)]
+#[derive(Clone, Copy)]
 pub struct Turn {
     pub side: Side,
     pub looked: u64,
@@ -41,7 +41,7 @@ pub struct Turn {
 
 // What a pass carries from element to element: what the check found, whether an element stands directly before, its side, and how many
 // elements were looked at.
-#[derive(Drop)]
+#[derive(Clone, Copy)]
 pub struct ListPass {
     pub check: ListCheck,
     pub after: bool,
@@ -50,7 +50,7 @@ pub struct ListPass {
 }
 
 // What a list gives: what checking it finds, and what it finds and looks at, if it is searched.
-#[derive(Drop)]
+#[derive(Clone, Copy)]
 pub struct ListSeen {
     pub check: ListCheck,
     pub found: Found,
@@ -58,7 +58,7 @@ pub struct ListSeen {
 }
 
 // What a rule gives: its lowest fault, and what it finds and looks at, if it is searched.
-#[derive(Drop)]
+#[derive(Clone, Copy)]
 pub struct RuleSeen {
     pub check: Checked,
     pub found: Found,

@@ -54,7 +54,7 @@ pub fn after_others(n: u64, l: Looked) -> Looked
 // ## What goes along from side to side
 
 // Which kind of address a host has.
-#[derive(Drop)]
+#[derive(Clone, Copy)]
 pub enum Family {
     Unknown,
     V4,
@@ -62,7 +62,7 @@ pub enum Family {
 }
 
 // An address as numbers; those that its kind doesn't have are 0.
-#[derive(Drop)]
+#[derive(Clone, Copy)]
 pub struct AddrParts {
     pub family: Family,
     pub v4: u32,
@@ -161,7 +161,7 @@ fn bytes_from(s: &[u8], at: usize) -> &[u8]
 // ## The elements left of an EXCEPT
 
 // What they find, how many were looked at for it and, where one matched, how many bytes follow the EXCEPT.
-#[derive(Drop)]
+#[derive(Clone, Copy)]
 pub struct Group {
     pub found: Found,
     pub looked: u64,

@@ -7,7 +7,7 @@ use mathlib.Core.Bool.{Bool, true, false, not, ◌&&◌, ◌||◌, true≢false}
 use mathlib.Core.List.{List, [], ◌∷◌}
 use mathlib.Core.Option.{Option, none, some}
 use mathlib.Core.Path.{◌≡◌, refl, sym, ap, ap₂, ◌∙◌}
-use borrow.Author.Tests.{not_true, not_false, eq-eqb, ne_eqb, eqb-true, eqb-false, lt-ltb, le-ltb, ltb-true, leb-true, leb-false}
+use borrow.Author.Tests.{not-true, not-false, eq-eqb, ne_eqb, eqb-true, eqb-false, lt-ltb, le-ltb, ltb-true, leb-true, leb-false}
 use native.Mathlib.Omega.{arith}
 use lib.Dec.{eqb, ltb, leb}
 use lib.ListN.{length, take, drop, get_or, set, length-set, length-drop, drop_of_length-le}
@@ -190,12 +190,12 @@ module _ (F : Finder) (f : Found) (s ps : List ℕ) (n i : ℕ) (h : List ℕ) (
   module _ (e : y ≡ false) (z : Bool) (is-z : z ≡ name_agrees F (words s) f h) where
     pub try_differs : not z ≡ true → Answers Tried.Differs ps
     unfolding tried_by places_by
-    try_differs k = rw (← is_y, e, ← is-z, not_true z k) (refl, refl)
+    try_differs k = rw (← is_y, e, ← is-z, not-true z k) (refl, refl)
 
     pub try_agrees : not z ≡ false → (n' : ℕ) (ps' : List ℕ) → (n' ≡ noted_count ps n i (length h)) × (ps' ≡ noted_places ps n i (length h))
         → Answers (Tried.Agrees n') ps'
     unfolding tried_by places_by
-    try_agrees k n' ps' x = rw (← is_y, e, ← is-z, not_false z k) (ap Tried.Agrees x.0, x.1)
+    try_agrees k n' ps' x = rw (← is_y, e, ← is-z, not-false z k) (ap Tried.Agrees x.0, x.1)
 
 -- ## Places of a list
 
@@ -336,7 +336,7 @@ module _ (v : View) (r : Request) (f : Found) where
           where
             agrees : name_agrees F (words s) f h ≡ true
             agrees = tried_holds s ps h (name_agrees F (words s) f) (λ t e a. name_alike (words s) t h e a) n (λ z. name_empty (words s) h z) x.tried
-                (sym is_y ∙ not_false y k)
+                (sym is_y ∙ not-false y k)
 
         module _ (z : Bool) (is-z : z ≡ name_agrees F (words s) f h) where
           trying_stop : not z ≡ true → false ≡ all (half_agrees F (words s) f) (words s)
@@ -358,7 +358,7 @@ module _ (v : View) (r : Request) (f : Found) where
                 here l =
                     ap (λ (i : ℕ). name_agrees F (words s) f (noted s (place_number i (length h)))) is_from
                     ∙ ap (name_agrees F (words s) f) (noted_half F s rest x.suffix h (is-h ∙ ap (asked_half F) is-w) l)
-                    ∙ sym is-z ∙ not_false z k
+                    ∙ sym is-z ∙ not-false z k
 
                 made : length ps' ≡ length ps → n' ≤ length ps' → ((j : ℕ) → j < n' → name_agrees F (words s) f (noted s (get_or ps' j 0)) ≡ true)
                     → Trying s next ps' n'

@@ -2,6 +2,8 @@
 //   name_matters(allow, deny, ..)         == whether it does; where it does not, the place that all users get
 //   name_matters_tables(allow, deny, tables, ..), name_matters_sheet(sheet, ..) == the same over tables, and by a sheet
 // The verdict for a user not fetched tells of all users where it does not ask; only where it asks are the rules gone over again.
+#![tactic(auto)]
+
 ghost use Rattle.std.proofs.Math.Option.{none, some};
 ghost use Rattle.std.specs.Prelude.{true, ◌≡◌};
 ghost use Rattle.section.specs.Refusal.{answered};
@@ -26,7 +28,7 @@ use sheet::frame::Framed;
 use tell::settle;
 
 // Verdict, file and line of an answer.
-#[derive(Drop)]
+#[derive(Clone, Copy)]
 pub struct Place {
     pub verdict: Verdict,
     pub file: File,
@@ -34,7 +36,7 @@ pub struct Place {
 }
 
 // What a rule does with all users: it passes them on, it decides, or that depends on the user.
-#[derive(Drop)]
+#[derive(Clone, Copy)]
 pub enum Told {
     Passes,
     Decides,
@@ -42,14 +44,14 @@ pub enum Told {
 }
 
 // What a half of a list finds: something else than it should, or that; then, how many halves are noted.
-#[derive(Drop)]
+#[derive(Clone, Copy)]
 pub enum Tried {
     Differs,
     Agrees(usize),
 }
 
 // What a text tells: nothing, where it passes all users on; the place that all get; or that two get different ones.
-#[derive(Drop)]
+#[derive(Clone, Copy)]
 pub enum Telling {
     Nothing,
     Settled(Place),
@@ -57,7 +59,7 @@ pub enum Telling {
 }
 
 // Whether the name matters; where it does not, the place that all users get.
-#[derive(Drop)]
+#[derive(Clone, Copy)]
 pub enum Matter {
     Refused(Refusal),
     Matters,

@@ -7,7 +7,7 @@ use mathlib.Core.Bool as Bool
 use mathlib.Core.List.{List, [], ◌∷◌}
 use mathlib.Core.Path.{◌≡◌, refl, sym, ap₂, ◌∙◌}
 use native.Mathlib.Omega.{arith}
-use borrow.Author.Tests.{eq-eqb, ne_eqb, le-leb, lt-leb, not_true}
+use borrow.Author.Tests.{eq-eqb, ne_eqb, le-leb, lt-leb, not-true}
 use lib.Dec.{eqb, leb, ltb}
 use lib.ListN.{length, drop, get_or}
 use Rattle.text.specs.Basics.{if◌then◌else◌, ◌or_else◌, given, is_some, first, all, any}
@@ -46,7 +46,7 @@ wildcard_of_size e h =
     )
 
 pub wildcard_of_sized : (e : List ℕ) (x : Bool) → x ≡ word_size (length e) → not x ≡ true → W.Nothing ≡ wildcard_of e
-wildcard_of_sized e x is_x n = wildcard_of_size e (sym is_x ∙ not_true x n)
+wildcard_of_sized e x is_x n = wildcard_of_size e (sym is_x ∙ not-true x n)
 
 module _ (e : List ℕ) (a : Bool) (is-a : a ≡ is_word "ALL" e) where
   pub wildcard_of_all : a ≡ true → W.All ≡ wildcard_of e

@@ -17,14 +17,14 @@ use address::read::{V6Read, read_v4, read_v6};
 use text::NumberRead;
 
 // A net and the mask that an address is put under before it is compared with the net.
-#[derive(Drop)]
+#[derive(Clone, Copy)]
 enum NetRead {
     Nothing,
     Net(u32, u32),
 }
 
 // An IPv6 address as its two halves, and how many of its leading bits are compared.
-#[derive(Drop)]
+#[derive(Clone, Copy)]
 enum PrefixRead {
     Nothing,
     Prefix(u64, u64, u32),

@@ -16,7 +16,7 @@ use address::Addr;
 use text::equal_fold;
 
 // The wildcard that a text is.
-#[derive(Drop)]
+#[derive(Clone, Copy)]
 pub enum Wildcard {
     Nothing,
     All,
@@ -27,7 +27,7 @@ pub enum Wildcard {
 }
 
 // What a pattern that is no wildcard is read as.
-#[derive(Drop)]
+#[derive(Clone, Copy)]
 pub enum Form {
     Domain,
     Bracket,

@@ -1,7 +1,7 @@
 -- Laws that tie what the code computes to the definitions of the decision.
 -- Assumes nothing.
 use Prim.Native.Nat.{ℕ, ◌+◌, ◌<◌, ◌≤◌}
-use mathlib.Core.Bool.{Bool, true, false, not, ◌&&◌, ◌||◌, or_false, or_assoc}
+use mathlib.Core.Bool.{Bool, true, false, not, ◌&&◌, ◌||◌, or-false, or_assoc}
 use mathlib.Core.List.{List, [], ◌∷◌, map}
 use mathlib.Core.Option.{Option, none, some}
 use mathlib.Core.Path.{◌≡◌, refl, sym, ap, ap₂, ◌∙◌}
@@ -86,7 +86,7 @@ entry_fault_walk b n g (some x ∷ es) = entry_fault_walk b (n + 1) (g || grants
 
 any_walk : (b : Bind) (n : ℕ) (g h : Bool) (es : List (Option Entry)) → walk b n g es ≡ Sound h → h ≡ (g || any (holds λ grants. grants b) (map grants_of es))
 unfolding walk any
-any_walk b n g h [] e = let q : h ≡ g = cc in q ∙ sym (or_false g)
+any_walk b n g h [] e = let q : h ≡ g = cc in q ∙ sym (or-false g)
 any_walk b n g h (none ∷ es) e = let z : ◌≡◌ {A = ℕ} 0 1 = cc in absurd (omega arith)
 any_walk b n g h (some x ∷ es) e = any_walk b (n + 1) (g || grants_to x b) h es e ∙ or_assoc g (grants_to x b) (any (holds λ grants. grants b) (map grants_of es))
 

@@ -3,6 +3,8 @@
 //   is_entry(s) == s is of the form of an entry
 //   check(text) == the refusal of the first entry that is not of its form
 //   note_ports(tcp, udp, text, uid) == the same, and the ports that the entries of a user id grant
+#![tactic(auto)]
+
 ghost use Rattle.std.specs.Prelude.{false, [], ◌∷◌, ◌≡◌, eqb};
 ghost use Rattle.std.proofs.Math.Option.{some};
 ghost use Rattle.text.specs.Basics.{if◌then◌else◌, is_some, any};
@@ -16,7 +18,7 @@ use section::{Fault, Refusal};
 use text::NumberRead;
 
 // The words of the decision.
-#[derive(Drop)]
+#[derive(Clone, Copy)]
 pub enum Decision {
     NotRuled,
     Exempt,
@@ -24,14 +26,14 @@ pub enum Decision {
     Denied,
 }
 
-#[derive(Drop)]
+#[derive(Clone, Copy)]
 pub enum Protocol {
     Tcp,
     Udp,
 }
 
 // The four settings of mac_portacl(4).
-#[derive(Drop)]
+#[derive(Clone, Copy)]
 pub struct Settings {
     pub enabled: u32,
     pub port_high: u32,
@@ -40,21 +42,21 @@ pub struct Settings {
 }
 
 // What decide answers: a refusal, or the decision.
-#[derive(Drop)]
+#[derive(Clone, Copy)]
 pub enum Ruling {
     Refused(Refusal),
     Answered(Decision),
 }
 
 // What check answers: the refusal of a bad entry, or that there is none.
-#[derive(Drop)]
+#[derive(Clone, Copy)]
 pub enum Checked {
     Sound,
     Refused(Refusal),
 }
 
 // Who may bind what: the user id, or the group id, a port of a protocol.
-#[derive(Drop)]
+#[derive(Clone, Copy)]
 struct Entry {
     pub group: bool,
     pub id: u32,
@@ -63,14 +65,14 @@ struct Entry {
 }
 
 // An entry that was read, or none.
-#[derive(Drop)]
+#[derive(Clone, Copy)]
 enum EntryRead {
     Nothing,
     Value(Entry),
 }
 
 // What the walk over the entries finds: the number of the first bad one, or whether one grants.
-#[derive(Drop)]
+#[derive(Clone, Copy)]
 enum Walked {
     Bad(usize),
     Sound(bool),

@@ -1,4 +1,6 @@
 // How the programs write what the gate answers.
+#![tactic(auto)]
+
 use libc::STDOUT_FILENO;
 
 // The places of the words that are written; a decision's word is at its own number.

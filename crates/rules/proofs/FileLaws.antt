@@ -8,7 +8,7 @@ use mathlib.Core.Bool.{Bool, true, false, not, ◌&&◌, ◌||◌, true≢false}
 use mathlib.Core.List.{List, [], ◌∷◌, ◌++◌}
 use mathlib.Core.Option.{Option, none, some}
 use mathlib.Core.Path.{◌≡◌, refl, sym, ap, ap₂, subst, ◌∙◌}
-use borrow.Author.Tests.{eqb-true, ltb-true, ltb-false, lt-ltb, le-ltb, not_false}
+use borrow.Author.Tests.{eqb-true, ltb-true, ltb-false, lt-ltb, le-ltb, not-false}
 use lib.Dec.{eqb, ltb}
 use lib.ListN.{length, take, drop, length-drop, drop_of_length-le}
 use lib.Seq.{take_at, drop-nil}
@@ -230,7 +230,7 @@ module _ (s : List ℕ) (l : LineSpan) (x : LineKind) (is_x : x ≡ line_kind (l
   unfolding has_bad_byte
   ruled_clean =
       let c : first_among "#" (join s) ≡ false = (or_false (first_among "#" (join s)) (all (among " \t") (join s)) tests.1.1).0 in
-      all_no_newline (join s) (not_false (all is_line_byte (join s)) (rw c at tests.0))
+      all_no_newline (join s) (not-false (all is_line_byte (join s)) (rw c at tests.0))
 
   pub ruled_short : length (join s) ≤ 2047
   ruled_short = ltb-false 2047 (length (join s)) tests.1.0

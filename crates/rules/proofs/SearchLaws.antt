@@ -5,7 +5,7 @@
 -- Assumes nothing.
 use Prim.Native.Nat.{ℕ, zero, suc, ◌+◌, ◌≤◌}
 use native.Mathlib.Omega.{arith}
-use mathlib.Core.Bool.{Bool, true, false, not, ◌&&◌, ◌||◌, true≢false, or_false}
+use mathlib.Core.Bool.{Bool, true, false, not, ◌&&◌, ◌||◌, true≢false, or-false}
 use mathlib.Core.List.{List, [], ◌∷◌}
 use mathlib.Core.Option.{Option, none, some, get_or}
 use mathlib.Core.Path.{◌≡◌, refl, sym, ap, ap₂, fun_ext, subst, ◌∙◌}
@@ -401,7 +401,7 @@ module _ (allow deny t : List ℕ) (whole : tables_in t ≡ tables_of t) (r : Re
           (is_some (hosts_fault S.deny deny)) (is_some (missing_fault ts S.deny deny)) (is_some (depth_fault ts S.deny deny))
           ∙ sym (contents_some ∙ rw (clear.0, clear.1.0, clear.1.1)
           (ap (λ (b : Bool). (is_some (hosts_fault S.allow allow) || is_some (hosts_fault S.deny deny)) || b)
-          (or_false _)))
+          (or-false _)))
 
       same_found_lem : query_found (record { view = v; request = r }) ≡ rule_found (match_of ts) r
       unfolding noted

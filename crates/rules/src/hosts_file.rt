@@ -29,7 +29,7 @@ use patterns::{Host, Name};
 use section::{Fault, Part, Refusal};
 
 // What a text, or a line, gives: a refusal, else an answer where a rule matches or asks.
-#[derive(Drop)]
+#[derive(Clone, Copy)]
 pub enum Pass {
     Faulty(Refusal),
     Unmatched,
@@ -37,14 +37,14 @@ pub enum Pass {
 }
 
 // A pass, and how many elements were looked at for it: none where there is a fault.
-#[derive(Drop)]
+#[derive(Clone, Copy)]
 pub struct Tally {
     pub pass: Pass,
     pub looked: u64,
 }
 
 // What a line is before its rule is read: faulty, a comment or blank, or a rule.
-#[derive(Drop)]
+#[derive(Clone, Copy)]
 pub enum LineKind {
     Faulty(Fault),
     Skipped,
@@ -52,14 +52,14 @@ pub enum LineKind {
 }
 
 // What a line tells: its lowest fault, else what it finds of the request and looks at.
-#[derive(Drop)]
+#[derive(Clone, Copy)]
 pub enum Examined {
     Faulty(Fault),
     Finds(Looked),
 }
 
 // Where the next line starts, its number, and what this one gives.
-#[derive(Drop)]
+#[derive(Clone, Copy)]
 pub struct Step {
     pub next: usize,
     pub number: usize,

@@ -7,6 +7,8 @@
 //   command_part(allow, deny, answer) == the bytes of the answer's raw command
 // A search judges the lines and the tables that they name in one pass, and finds the answer where there is no fault. Where there is one, the
 // texts are read again, fault by fault, for the one that comes first.
+#![tactic(auto)]
+
 pub mod hosts_file;
 pub mod naming;
 pub mod search;
@@ -32,7 +34,7 @@ use section::{Fault, Part, Refusal, part_of};
 use tables::entry::Framing;
 
 // The words of the verdict.
-#[derive(Drop)]
+#[derive(Clone, Copy)]
 pub enum Verdict {
     Granted,
     Denied,
@@ -40,7 +42,7 @@ pub enum Verdict {
 }
 
 // The deciding file, if any.
-#[derive(Drop)]
+#[derive(Clone, Copy)]
 pub enum File {
     Neither,
     Allow,
@@ -48,7 +50,7 @@ pub enum File {
 }
 
 // The verdict with its file, its line (0 where none decided) and the raw command, a part of that file.
-#[derive(Drop)]
+#[derive(Clone, Copy)]
 pub struct Answer {
     pub verdict: Verdict,
     pub file: File,
@@ -57,14 +59,14 @@ pub struct Answer {
 }
 
 // What a decision answers: a refusal, or the verdict.
-#[derive(Drop)]
+#[derive(Clone, Copy)]
 pub enum Ruling {
     Refused(Refusal),
     Answered(Answer),
 }
 
 // A ruling, and how many elements were looked at for it: 0 at a refusal.
-#[derive(Drop)]
+#[derive(Clone, Copy)]
 pub struct Reported {
     pub ruling: Ruling,
     pub looked: u64,

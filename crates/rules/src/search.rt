@@ -21,14 +21,14 @@ use tables::entry::count;
 use views::Viewing;
 
 // An answer, and how many elements were looked at for it.
-#[derive(Drop)]
+#[derive(Clone, Copy)]
 pub struct Searched {
     pub answer: Answer,
     pub looked: u64,
 }
 
 // What a search finds: an answer, or a fault, which is not told.
-#[derive(Drop)]
+#[derive(Clone, Copy)]
 pub enum Finding {
     Answer(Searched),
     Doubtful,

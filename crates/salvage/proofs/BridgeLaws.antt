@@ -5,7 +5,7 @@
 -- Assumes nothing.
 use Prim.Native.Nat.{ℕ, suc, ◌+◌, ◌<◌, ◌≤◌}
 use mathlib.Core.Bool.{Bool, true, false, not, ◌&&◌, ◌||◌, true≢false}
-use mathlib.Core.List.{List, [], ◌∷◌, ◌++◌, map, flat_map, append_assoc, append_nil}
+use mathlib.Core.List.{List, [], ◌∷◌, ◌++◌, map, flat_map, append_assoc, append-nil}
 use mathlib.Core.Option.{Option, none, some}
 use mathlib.Core.Path.{◌≡◌, refl, sym, ap, ap₂, fun_ext, ◌∙◌}
 use native.Mathlib.Omega.{arith}
@@ -150,7 +150,7 @@ module _ (v : View) where
   bind_lines : (alone : Bool) (n at : ℕ) (w : List ℕ) (ws : List (List ℕ))
       → written K.Byuid v false alone (plain_lines n at (w ∷ ws)) ≡ intercalate (bytes "\n") (map convert_line (w ∷ ws))
   unfolding written written_for text_bytes bind_bytes plain_lines intercalate
-  bind_lines alone n at w [] = append_nil (convert_line w ++ []) ∙ append_nil (convert_line w)
+  bind_lines alone n at w [] = append-nil (convert_line w ++ []) ∙ append-nil (convert_line w)
   bind_lines alone n at w (u ∷ ws) =
       ap (λ (s : List ℕ). (convert_line w ++ bytes "\n") ++ s) (bind_lines (alone && is_bad K.Byuid v w true) (n + 1) (at + length w + 1) u ws)
 
@@ -174,9 +174,9 @@ module _ (v : View) where
 
   joined_cons : (alone : Bool) (w : List ℕ) (ws : List (List ℕ)) → ((if alone then [] else bytes ",") ++ w) ++ joined false ws ≡ joined alone (w ∷ ws)
   unfolding intercalate
-  joined_cons true w [] = append_nil w
+  joined_cons true w [] = append-nil w
   joined_cons true w (u ∷ ws) = sym (append_assoc w (bytes ",") (intercalate (bytes ",") (u ∷ ws)))
-  joined_cons false w [] = append_nil (44 ∷ w)
+  joined_cons false w [] = append-nil (44 ∷ w)
   joined_cons false w (u ∷ ws) = ap (λ (s : List ℕ). 44 ∷ s) (sym (append_assoc w (bytes ",") (intercalate (bytes ",") (u ∷ ws))))
 
   one_entry : (alone : Bool) (w : List ℕ) (ws : List (List ℕ))

@@ -2,7 +2,7 @@
 --   lists_allow, lists_deny == a line of allow, of deny, is listed just where it is bad
 -- Assumes nothing.
 use Prim.Native.Nat.{ℕ}
-use mathlib.Core.Bool.{Bool, true, false, ◌&&◌, ◌||◌, or_false}
+use mathlib.Core.Bool.{Bool, true, false, ◌&&◌, ◌||◌, or-false}
 use mathlib.Core.List.{List, [], ◌∷◌, ◌++◌, map}
 use mathlib.Core.Path.{◌≡◌, refl, ap, ◌∙◌}
 use lib.Dec.{eqb}
@@ -71,7 +71,7 @@ lists_allow ts n =
       other_section 1 n S.portacl refl (bad_entries ts.portacl),
       own_section 1 n S.allow refl (bad_line (tables_of ts.tables)) (lines ts.allow),
     )
-    (or_false _ ∙ or_false _ ∙ or_false _)
+    (or-false _ ∙ or-false _ ∙ or-false _)
 
 pub lists_deny : (ts : Texts) (n : ℕ)
     → lists (changes ts) 2 n ≡ any (λ l. bad_line (tables_of ts.tables) l && eqb l.number n) (lines ts.deny)
@@ -83,4 +83,4 @@ lists_deny ts n =
       other_section 2 n S.portacl refl (bad_entries ts.portacl),
       own_section 2 n S.deny refl (bad_line (tables_of ts.tables)) (lines ts.deny),
     )
-    (or_false _ ∙ or_false _)
+    (or-false _ ∙ or-false _)

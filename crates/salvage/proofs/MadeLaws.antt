@@ -5,7 +5,7 @@
 -- Assumes nothing.
 use Prim.Native.Nat.{ℕ, suc, ◌+◌, ◌-◌, ◌*◌, ◌<◌, ◌≤◌}
 use mathlib.Core.Bool.{Bool, true, false, not, ◌&&◌, true≢false}
-use mathlib.Core.List.{List, [], ◌∷◌, ◌++◌, map, flat_map, append_assoc, append_nil}
+use mathlib.Core.List.{List, [], ◌∷◌, ◌++◌, map, flat_map, append_assoc, append-nil}
 use mathlib.Core.Option.{Option, none, some}
 use mathlib.Core.Path.{◌≡◌, refl, sym, ap, ap₂, ◌∙◌}
 use native.Mathlib.Omega.{arith}
@@ -122,7 +122,7 @@ module _ (k : Kind) (v : View) (listing : Bool) (t : List ℕ) where
       pub putting_end : (stop : ℕ) → stop ≡ stop_of k (length t) → stop ≤ at → Wrote d o whole start place
       putting_end stop is_stop h =
           let e : whole ≡ w.done = w.so_far ∙ ap (λ (ls : List Line). w.done ++ written k v listing alone ls) (lines_stop k t at n (rw is_stop at h))
-          ∙ ap (λ (s : List ℕ). w.done ++ s) (written_nil k v listing alone) ∙ append_nil w.done in
+          ∙ ap (λ (s : List ℕ). w.done ++ s) (written_nil k v listing alone) ∙ append-nil w.done in
           rw e w.wrote
 
       module _ (p : Piece) (f : Found k v t at n p) where

@@ -2,6 +2,8 @@
 //   salvage(out, list, sheet) == the call: every check, then the new sheet and the list of changes
 //   piece == a text by its lines or entries, and what is written of each
 //   write == the new texts and the list, measured and written
+#![tactic(auto)]
+
 ghost use Rattle.std.specs.Prelude.{◌≡◌, true, false, ◌≤◌, length};
 ghost use Rattle.std.proofs.Math.Option.{none};
 ghost use Rattle.elements.specs.Code.{view_of};

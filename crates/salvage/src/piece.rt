@@ -17,7 +17,7 @@ use section::{Allow, Byuid, Deny, Portacl};
 use sheet::pack::put_count;
 
 // The texts that may have bad pieces.
-#[derive(Drop)]
+#[derive(Clone, Copy)]
 pub enum Kind {
     Allow,
     Deny,
@@ -26,7 +26,7 @@ pub enum Kind {
 }
 
 // A piece: its end, whether its mark stands there, the number of the piece after it, and whether it is bad.
-#[derive(Drop)]
+#[derive(Clone, Copy)]
 pub struct Piece {
     pub end: usize,
     pub ended: bool,

@@ -12,7 +12,7 @@ use crate::piece::{Kind, piece_at, piece_len, put_piece, stop_of};
 use sheet::pack::put_count;
 
 // How long the new texts are.
-#[derive(Drop)]
+#[derive(Clone, Copy)]
 pub struct Sizes {
     pub allow: usize,
     pub deny: usize,

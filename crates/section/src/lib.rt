@@ -5,6 +5,8 @@
 //     over(n)            == n bytes are over the section's limit
 //     refusal(f, line)   == the refusal by f at a line of the section
 //     cursor(at)         == a cursor at the section's count; the tables have none
+#![tactic(auto)]
+
 ghost use Rattle.std.specs.Prelude.{◌≡◌, ltb};
 ghost use Rattle.section.specs.Refusal.{fault_number, refusal, placeless};
 ghost use Rattle.section.specs.Section as S;
@@ -12,7 +14,7 @@ ghost use Rattle.section.specs.Section.{bytes_at};
 ghost use Rattle.section.specs.Code.{cursor_at};
 
 // Why something is refused; fault_number gives document 01's number.
-#[derive(Drop)]
+#[derive(Clone, Copy)]
 pub enum Fault {
     CutShort,
     OverLimit,
@@ -39,7 +41,7 @@ pub enum Fault {
 }
 
 // A refusal carries number, section and line.
-#[derive(Drop)]
+#[derive(Clone, Copy)]
 pub struct Refusal {
     pub fault: Fault,
     pub section: u8,
@@ -47,7 +49,7 @@ pub struct Refusal {
 }
 
 // A part of some bytes: its place and length.
-#[derive(Drop)]
+#[derive(Clone, Copy)]
 pub struct Part {
     pub place: usize,
     pub len: usize,
@@ -70,21 +72,21 @@ pub fn part_of(s: &[u8], part: Part) -> &[u8]
 }
 
 // What a call that writes into a lent output answers: a refusal, or how many bytes it wrote.
-#[derive(Drop)]
+#[derive(Clone, Copy)]
 pub enum Written {
     Refused(Refusal),
     Count(usize),
 }
 
 // What a call answers that writes into two outputs: a refusal, or how many bytes it wrote into each.
-#[derive(Drop)]
+#[derive(Clone, Copy)]
 pub enum WrittenTwo {
     Refused(Refusal),
     Counts(usize, usize),
 }
 
 // A place in a sheet where a section's count stands, with that section's limit and order.
-#[derive(Drop)]
+#[derive(Clone, Copy)]
 pub struct Cursor {
     pub at: usize,
     pub limit: usize,
@@ -132,7 +134,7 @@ pub fn placeless(f: Fault) -> Refusal
 }
 
 // The section of the allow text.
-#[derive(Drop)]
+#[derive(Clone, Copy)]
 pub struct Allow;
 
 impl Allow {
@@ -168,7 +170,7 @@ impl Allow {
 }
 
 // The section of the deny text.
-#[derive(Drop)]
+#[derive(Clone, Copy)]
 pub struct Deny;
 
 impl Deny {
@@ -204,7 +206,7 @@ impl Deny {
 }
 
 // The section of the byuid text.
-#[derive(Drop)]
+#[derive(Clone, Copy)]
 pub struct Byuid;
 
 impl Byuid {
@@ -240,7 +242,7 @@ impl Byuid {
 }
 
 // The section of the portacl text.
-#[derive(Drop)]
+#[derive(Clone, Copy)]
 pub struct Portacl;
 
 impl Portacl {
@@ -276,7 +278,7 @@ impl Portacl {
 }
 
 // The section of the tables: their counts say where it ends, so it has no count of bytes and no cursor.
-#[derive(Drop)]
+#[derive(Clone, Copy)]
 pub struct Tables;
 
 impl Tables {

@@ -11,14 +11,14 @@ use crate::Parts;
 use section::{Allow, Byuid, Cursor, Deny, Fault, Part, Portacl, Refusal};
 
 // What reading a section answers: a refusal, or the part that holds its text.
-#[derive(Drop)]
+#[derive(Clone, Copy)]
 pub enum SectionRead {
     Refused(Refusal),
     Found(Part),
 }
 
 // What reading a frame answers.
-#[derive(Drop)]
+#[derive(Clone, Copy)]
 pub enum Framed {
     Refused(Refusal),
     Parts(Parts),

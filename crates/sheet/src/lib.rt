@@ -4,6 +4,8 @@
 //   unpack  == the frame and the checks
 //   pack    == the sheet of five texts
 //   upgrade == a sheet of four sections with an empty fifth
+#![tactic(auto)]
+
 pub mod frame;
 pub mod pack;
 pub mod texts;
@@ -11,7 +13,7 @@ pub mod unpack;
 pub mod upgrade;
 
 // The place and length of each text of a sheet.
-#[derive(Drop)]
+#[derive(Clone, Copy)]
 pub struct Parts {
     pub allow: section::Part,
     pub deny: section::Part,

@@ -17,7 +17,7 @@ use tables::entry;
 use tables::entry::Framing;
 
 // What a check answers: a refusal, or that there is none.
-#[derive(Drop)]
+#[derive(Clone, Copy)]
 pub enum Checked {
     Sound,
     Refused(Refusal),

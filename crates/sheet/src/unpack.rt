@@ -10,7 +10,7 @@ use crate::{Parts, frame, texts};
 use section::{Refusal, part_of};
 
 // What unpacking answers.
-#[derive(Drop)]
+#[derive(Clone, Copy)]
 pub enum Unpacked {
     Refused(Refusal),
     Parts(Parts),

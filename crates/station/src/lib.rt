@@ -3,6 +3,8 @@
 //   decide_byuid(sheet, ..), decide_portacl(sheet, ..) == the port decisions
 //   command(sheet, answer)    == the bytes of the answer's raw command
 // For a verdict the frame is read, then all is checked and searched in one pass; where there is a doubt, the sheet is unpacked for its refusal.
+#![tactic(auto)]
+
 ghost use Rattle.std.specs.Prelude.{◌≡◌, ◌+◌, ◌<◌};
 ghost use Rattle.std.proofs.Math.Option.{some};
 ghost use Rattle.section.specs.Refusal.{answered};

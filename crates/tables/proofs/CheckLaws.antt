@@ -1,7 +1,7 @@
 -- Laws of the faults of the tables themselves, shaped as the calls and tests of the code hand their facts over.
 -- Assumes nothing.
 use Prim.Native.Nat.{ℕ, zero, suc, ◌+◌, ◌-◌, ◌≤◌, ◌<◌}
-use mathlib.Core.Bool.{Bool, true, false, not, ◌||◌, true≢false, or_false}
+use mathlib.Core.Bool.{Bool, true, false, not, ◌||◌, true≢false, or-false}
 use mathlib.Core.List.{List, [], ◌∷◌}
 use mathlib.Core.Option.{Option, none, some}
 use mathlib.Core.Path.{◌≡◌, refl, sym, ap, ap₂, ◌∙◌, subst}
@@ -359,8 +359,8 @@ pub clean_more : (ts : List Table) (w : List ℕ) (ws : List (List ℕ)) → wor
 unfolding words_checked any
 clean_more ts w ws a b =
     ap₂ (λ (x y : Bool). text_checked x y)
-    (ap₂ (λ (x y : Bool). x || y) (sym (or_false (word_missing ts w)) ∙ ap (λ (c : TextCheck). c.missing) a) (ap (λ (c : TextCheck). c.missing) b))
-    (ap₂ (λ (x y : Bool). x || y) (sym (or_false (is_bad_pattern w)) ∙ ap (λ (c : TextCheck). c.bad) a) (ap (λ (c : TextCheck). c.bad) b))
+    (ap₂ (λ (x y : Bool). x || y) (sym (or-false (word_missing ts w)) ∙ ap (λ (c : TextCheck). c.missing) a) (ap (λ (c : TextCheck). c.missing) b))
+    (ap₂ (λ (x y : Bool). x || y) (sym (or-false (is_bad_pattern w)) ∙ ap (λ (c : TextCheck). c.bad) a) (ap (λ (c : TextCheck). c.bad) b))
 
 -- a pattern of another kind
 pub clean_plain : (ts : List Table) (w : List ℕ) → first_among "/" w ≡ false → is_except w ≡ false → is_some (host_pattern w) ≡ true

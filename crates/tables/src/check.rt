@@ -16,14 +16,14 @@ use patterns::pattern::host_read;
 use patterns::{Host, Name};
 
 // What is found of a table's patterns: one names a table that is missing, one is none.
-#[derive(Drop)]
+#[derive(Clone, Copy)]
 pub struct TextCheck {
     pub missing: bool,
     pub bad: bool,
 }
 
 // The number of the first table that is named like another before it or names one that is missing, and of the first that is unsound.
-#[derive(Drop)]
+#[derive(Clone, Copy)]
 pub struct TablesCheck {
     pub misnamed: usize,
     pub unsound: usize,

@@ -11,7 +11,7 @@ ghost use Rattle.tables.specs.Code.{table_count, tables_in, cut_entry, entry_spa
 use text::equal_fold;
 
 // Where the name and the text of an entry end; cut: whether it is not whole.
-#[derive(Drop)]
+#[derive(Clone, Copy)]
 pub struct EntrySpan {
     pub cut: bool,
     pub name_end: usize,
@@ -19,7 +19,7 @@ pub struct EntrySpan {
 }
 
 // What the counts of a section five tell: they fit its bytes, run past their end, or leave some.
-#[derive(Drop)]
+#[derive(Clone, Copy)]
 pub enum Framing {
     Sound,
     Cut,
@@ -27,7 +27,7 @@ pub enum Framing {
 }
 
 // Where a table stands among all.
-#[derive(Drop)]
+#[derive(Clone, Copy)]
 pub enum Place {
     Missing,
     At(usize),

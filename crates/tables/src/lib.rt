@@ -3,6 +3,8 @@
 //   start == where to begin to look for a name
 //   word  == the patterns of a table's text
 //   check == the faults of the tables themselves
+#![tactic(auto)]
+
 pub mod check;
 pub mod entry;
 pub mod start;

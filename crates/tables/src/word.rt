@@ -11,7 +11,7 @@ ghost use Rattle.tables.specs.Code.{is_parting, is_word_byte, word_span, first_w
 use patterns::pattern::is_name;
 
 // Where a word starts and ends; both are the text's length where there is none.
-#[derive(Drop)]
+#[derive(Clone, Copy)]
 pub struct WordSpan {
     pub start: usize,
     pub end: usize,

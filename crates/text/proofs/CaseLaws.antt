@@ -5,12 +5,12 @@
 use Prim.Native.Nat.{ℕ, zero, suc, ◌+◌, ◌-◌, ◌≤◌, ◌<◌}
 use Prim.Native.Char.{Char, code}
 use Prim.Native.String.{String, [] as end, ◌∷◌ as ◌then◌}
-use mathlib.Core.Bool.{Bool, true, false, not, ◌&&◌, ◌||◌, true≢false, or_true}
+use mathlib.Core.Bool.{Bool, true, false, not, ◌&&◌, ◌||◌, true≢false, or-true}
 use mathlib.Core.List.{List, [], ◌∷◌, ◌++◌, map, reverse}
 use mathlib.Core.Option.{Option, none, some}
 use mathlib.Core.Path.{◌≡◌, refl, sym, ap, ap₂, ◌∙◌}
 use native.Mathlib.Omega.{arith}
-use borrow.Author.Tests.{eqb-true, eqb-false, eq-eqb, leb-true, not_true}
+use borrow.Author.Tests.{eqb-true, eqb-false, eq-eqb, leb-true, not-true}
 use lib.Dec.{eqb, leb}
 use lib.ListN.{length, take, drop}
 use Rattle.text.specs.Basics.{if◌then◌else◌, any, all}
@@ -122,7 +122,7 @@ no_letter_lem p (suc n) k e h =
   where
     by : (c : Bool) → eqb k n ≡ c → not (p (65 + n)) ≡ true → not (p (97 + n)) ≡ true
         → (k < n → (p (65 + k) ≡ false) × (p (97 + k) ≡ false)) → (p (65 + k) ≡ false) × (p (97 + k) ≡ false)
-    by true f u v ih = rw (eqb-true k n f) (not_true (p (65 + n)) u, not_true (p (97 + n)) v)
+    by true f u v ih = rw (eqb-true k n f) (not-true (p (65 + n)) u, not-true (p (97 + n)) v)
     by false f u v ih = ih (omega (arith, eqb-false k n f))
 
 -- ## Texts
@@ -216,7 +216,7 @@ module _ (m : List ℕ) (clear : (c : ℕ) → any (eqb c) m ≡ true → Blindl
   starts (c ∷ k) h (x ∷ xs) (y ∷ ys) a =
       rw (
         blind (λ z. eqb c z) (clear c (h c (rw (eq-eqb c c refl)))) x y a.0,
-        starts k (λ b e. h b (rw e (or_true (eqb b c)))) xs ys a.1,
+        starts k (λ b e. h b (rw e (or-true (eqb b c)))) xs ys a.1,
       )
 
   pub alike_split_once : (xs ys : List ℕ) → Alike xs ys → AlikePair (split_once m xs) (split_once m ys)

@@ -5,12 +5,12 @@
 use Prim.Native.Nat.{ℕ, ◌<◌}
 use Prim.Native.Char.{Char, code}
 use Prim.Native.String.{String, [] as end, ◌∷◌ as ◌then◌}
-use mathlib.Core.Bool.{Bool, true, false, not, ◌&&◌, ◌||◌, true≢false, or_assoc, or_false, or_true, and_false}
+use mathlib.Core.Bool.{Bool, true, false, not, ◌&&◌, ◌||◌, true≢false, or_assoc, or-false, or-true, and-false}
 use mathlib.Core.List.{List, [], ◌∷◌, ◌++◌, map, append_assoc}
 use mathlib.Core.Option.{Option, none, some}
 use mathlib.Core.Path.{◌≡◌, refl, sym, ap, subst, ◌∙◌}
 use native.Mathlib.Omega.{arith}
-use borrow.Author.Tests.{eqb-false, eq-eqb, ne_eqb, not_true}
+use borrow.Author.Tests.{eqb-false, eq-eqb, ne_eqb, not-true}
 use lib.Dec.{eqb}
 use lib.ListN.{length, take, drop, take-append-drop}
 use Rattle.text.specs.Basics.{if◌then◌else◌, ◌>>=◌, any, all, each, is_empty}
@@ -27,7 +27,7 @@ module _ {A : Type 0} (p : A → Bool) where
   any_append (x ∷ s) t = rw (any_append s t) (sym (or_assoc (p x) (any p s) (any p t)))
 
   pub any_between : (s m t : List A) → any p m ≡ true → any p (s ++ m ++ t) ≡ true
-  any_between s m t e = any_append (s ++ m) t ∙ ap (λ (b : Bool). b || any p t) (any_append s m ∙ ap (λ (b : Bool). any p s || b) e ∙ or_true (any p s))
+  any_between s m t e = any_append (s ++ m) t ∙ ap (λ (b : Bool). b || any p t) (any_append s m ∙ ap (λ (b : Bool). any p s || b) e ∙ or-true (any p s))
 
   pub all_append_left : (s t : List A) → all p (s ++ t) ≡ true → all p s ≡ true
   unfolding all
@@ -47,7 +47,7 @@ module _ {A : Type 0} (p : A → Bool) where
     where
       by : (t : Bool) → q x ≡ t → (any q l ≡ true → all p l ≡ false) → (p x && all p l) ≡ false
       by true d ih = rw (h x d)
-      by false d ih = rw (ih (rw d at e)) (and_false (p x))
+      by false d ih = rw (ih (rw d at e)) (and-false (p x))
 
   pub all_map : {B : Type 0} (f : B → A) → ((b : B) → p (f b) ≡ true) → (l : List B) → all p (map f l) ≡ true
   unfolding all
@@ -84,7 +84,7 @@ any_split marks p h [] = refl
 any_split marks p h (x ∷ t) = by (among marks x) refl (any_split marks p h t)
   where
     head : (ws : List (List ℕ)) → any (any p) (cons_head x ws) ≡ (p x || any (any p) ws)
-    head [] = or_false (p x || false)
+    head [] = or-false (p x || false)
     head (w ∷ ws) = or_assoc (p x) (any p w) (any (any p) ws)
 
     by : (m : Bool) → among marks x ≡ m → any (any p) (split marks t) ≡ any p t
@@ -122,19 +122,19 @@ is_empty_intercalate c m (y ∷ v) ws e = rw (intercalate_cons m y v ws)
 module _ (c : Char) where
   pub among_one : (b : ℕ) → among (c then end) b ≡ eqb b (code c)
   unfolding any
-  among_one b = or_false (eqb b (code c))
+  among_one b = or-false (eqb b (code c))
 
   pub split_free : (w : List ℕ) → free (code c) w ≡ true → split (c then end) w ≡ w ∷ []
   unfolding split all
   split_free [] e = refl
   split_free (x ∷ w) e = let a = and_true (not (eqb x (code c))) (free (code c) w) e in
-      rw (among_one x, not_true (eqb x (code c)) a.0, split_free w a.1)
+      rw (among_one x, not-true (eqb x (code c)) a.0, split_free w a.1)
 
   pub split_append : (w t : List ℕ) → free (code c) w ≡ true → split (c then end) (w ++ code c ∷ t) ≡ w ∷ split (c then end) t
   unfolding split all
   split_append [] t e = rw (among_one (code c), eq-eqb (code c) (code c) refl)
   split_append (x ∷ w) t e = let a = and_true (not (eqb x (code c))) (free (code c) w) e in
-      rw (among_one x, not_true (eqb x (code c)) a.0, split_append w t a.1)
+      rw (among_one x, not-true (eqb x (code c)) a.0, split_append w t a.1)
 
   pub split_intercalate : (ws : List (List ℕ)) → 0 < length ws → all (free (code c)) ws ≡ true → split (c then end) (intercalate (code c ∷ []) ws) ≡ ws
   unfolding intercalate all
@@ -193,7 +193,7 @@ module _ (c : ℕ) where
   split_once_free m [] t e = sym (append_first_nil (split_once (c ∷ m) t))
   split_once_free m (x ∷ w) t e =
       let a = and_true (not (eqb x c)) (free c w) e in
-      rw (ne_eqb c x (λ q. eqb-false x c (not_true (eqb x c) a.0) (sym q)), split_once_free m w t a.1) (append_first_cons x w (split_once (c ∷ m) t))
+      rw (ne_eqb c x (λ q. eqb-false x c (not-true (eqb x c) a.0) (sym q)), split_once_free m w t a.1) (append_first_cons x w (split_once (c ∷ m) t))
 
   -- one mark before a text u that begins with none
   split_once_lone : (u v t : List ℕ) (y : ℕ) → u ≡ y ∷ v → eqb y c ≡ false → split_once (c ∷ c ∷ []) (c ∷ (u ++ t))
@@ -219,7 +219,7 @@ module _ (c : ℕ) where
   split_once_intercalate (w ∷ [] ∷ ws) t e = absurd (true≢false (sym (and_true (is_field c w) false e).1))
   split_once_intercalate (w ∷ (y ∷ v) ∷ ws) t e =
       let a = and_true (is_field c w) (all (is_field c) ((y ∷ v) ∷ ws)) e in
-      let n = not_true (eqb y c) (and_true (not (eqb y c)) (free c v) (and_true (free c (y ∷ v)) (all (is_field c) ws) a.1).0).0 in
+      let n = not-true (eqb y c) (and_true (not (eqb y c)) (free c v) (and_true (free c (y ∷ v)) (all (is_field c) ws) a.1).0).0 in
       split_once_next
       w
       (intercalate (c ∷ []) ((y ∷ v) ∷ ws))

@@ -2,7 +2,7 @@
 -- Assumes nothing.
 use Prim.Native.Nat.{ℕ, zero, suc, ◌+◌, ◌-◌, ◌*◌, ◌/◌, ◌%◌, ◌^◌, ◌<◌, ◌≤◌}
 use mathlib.Core.Bool.{Bool, true, false}
-use mathlib.Core.List.{List, [], ◌∷◌, ◌++◌, append_assoc, append_nil}
+use mathlib.Core.List.{List, [], ◌∷◌, ◌++◌, append_assoc, append-nil}
 use mathlib.Core.Path.{◌≡◌, refl, sym, ap, ◌∙◌}
 use native.Mathlib.Numerals.{add-one}
 use native.Mathlib.Omega.{arith}
@@ -71,7 +71,7 @@ written_start d at n k e =
     (record {
       within = omega arith;
       long = refl;
-      text = rw (drop-length (decimal n), append_nil (take (at + length (decimal n)) d)) (sym (take-append-drop (at + length (decimal n)) d));
+      text = rw (drop-length (decimal n), append-nil (take (at + length (decimal n)) d)) (sym (take-append-drop (at + length (decimal n)) d));
       left = λ h. rw (f, take-length (decimal n));
     })
 

@@ -1,4 +1,6 @@
 // Bytes, texts and numbers: what every chapter is written in.
+#![tactic(auto)]
+
 ghost use Rattle.std.specs.Prelude.{◌≡◌, ◌&&◌, ◌+◌, ◌-◌, ◌≤◌, eqb, ltb, length, drop};
 ghost use Rattle.text.specs.Text.{is_digit, is_letter};
 ghost use Rattle.text.specs.Text.{lower as lowerOf, equal as equalTo, equal_fold};
@@ -6,7 +8,7 @@ ghost use Rattle.text.specs.Scan.{index_of, as_number, put_at};
 ghost use Rattle.text.specs.Number.{decimal, read_decimal};
 
 // A number that was read, or none.
-#[derive(Drop)]
+#[derive(Clone, Copy)]
 pub enum NumberRead {
     Nothing,
     Value(u32),

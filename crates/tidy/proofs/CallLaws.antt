@@ -7,7 +7,7 @@
 --   nothing_dropped        == where nothing is named the file stays as it is
 -- Assumes nothing.
 use Prim.Native.Nat.{ℕ, zero, suc, ◌+◌, ◌*◌, ◌^◌, ◌≤◌, ◌<◌}
-use mathlib.Core.Bool.{Bool, true, false, not, ◌&&◌, ◌||◌, true≢false, or_true}
+use mathlib.Core.Bool.{Bool, true, false, not, ◌&&◌, ◌||◌, true≢false, or-true}
 use mathlib.Core.List.{List, [], ◌∷◌, ◌++◌, map, flat_map, append_assoc}
 use mathlib.Core.Option.{Option, none, some, get_or}
 use mathlib.Core.Path.{◌≡◌, refl, sym, ap, ap₂, subst, ◌∙◌}
@@ -200,7 +200,7 @@ accepted_rules t ns e =
   where
     by : (ms : List ℕ) → ((n : ℕ) → any (eqb n) ms ≡ true → any (is_rule_line n) (lines t) ≡ true) → all (λ n. any (is_rule_line n) (lines t)) ms ≡ true
     by [] h = refl
-    by (m ∷ ms) h = rw (h m (rw (eq-eqb m m refl)), by ms (λ n k. h n (rw k (or_true (eqb n m)))))
+    by (m ∷ ms) h = rw (h m (rw (eq-eqb m m refl)), by ms (λ n k. h n (rw k (or-true (eqb n m)))))
 
 -- ## The proposal as numbers
 

@@ -6,7 +6,7 @@ use native.Mathlib.Nat.{add-sub_cancel_left}
 use native.Mathlib.Numerals.{add-one}
 use native.Mathlib.Omega.{arith}
 use mathlib.Core.Bool.{Bool, true, false, not}
-use mathlib.Core.List.{List, [], ◌∷◌, ◌++◌, flat_map, append_assoc, append_nil}
+use mathlib.Core.List.{List, [], ◌∷◌, ◌++◌, flat_map, append_assoc, append-nil}
 use mathlib.Core.Path.{◌≡◌, refl, sym, ap, ap₂, ◌∙◌}
 use borrow.Author.Tests.{eq-eqb, ne_eqb}
 use lib.Dec.{eqb}
@@ -198,7 +198,7 @@ module _ (d text marks out : List ℕ) (at i n : ℕ) (h : Keeping d text marks 
   keeping_end l =
       h.written
       ∙ ap (λ (s : List ℕ). after s d)
-      (sym (h.rest ∙ (ap (λ (s : List ℕ). h.done ++ s) (ap (kept_bytes marks) (logical_lines_end text i n i l) ∙ kept_nil marks) ∙ append_nil h.done)))
+      (sym (h.rest ∙ (ap (λ (s : List ℕ). h.done ++ s) (ap (kept_bytes marks) (logical_lines_end text i n i l) ∙ kept_nil marks) ∙ append-nil h.done)))
 
   module _ (l : i < length text) (r : LineSpan) (is-r : r ≡ span_at i (scan_line (drop i text))) where
     abbrev own : List ℕ

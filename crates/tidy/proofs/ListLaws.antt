@@ -6,7 +6,7 @@ use native.Mathlib.Omega.{arith}
 use mathlib.Core.Bool.{Bool, true, false, not, ◌&&◌, ◌||◌, true≢false}
 use mathlib.Core.List.{List, [], ◌∷◌}
 use mathlib.Core.Path.{◌≡◌, refl, sym, ap, ◌∙◌}
-use borrow.Author.Tests.{eq-eqb, ne_eqb, eqb-true, eqb-false, not_true, not_false}
+use borrow.Author.Tests.{eq-eqb, ne_eqb, eqb-true, eqb-false, not-true, not-false}
 use lib.Dec.{eqb}
 use lib.ListN.{length, take, drop, get_or, drop_of_length-le}
 use lib.Seq.{drop-cons}
@@ -70,7 +70,7 @@ module _ (a b s t w v : List ℕ) (so_far : same_list (words a) (words b) ≡ sa
         by true e = sym (so_far ∙ rw (words_more s w (after_element s) is-w full refl, words_none t v is_v (eqb-true (length v) 0 e)))
         by false e =
             sym (so_far
-            ∙ rw (words_more s w (after_element s) is-w full refl, words_more t v (after_element t) is_v (eqb-false (length v) 0 e) refl, ← is_x, not_true x n))
+            ∙ rw (words_more s w (after_element s) is-w full refl, words_more t v (after_element t) is_v (eqb-false (length v) 0 e) refl, ← is_x, not-true x n))
 
     pub same_more : not x ≡ false → (s' t' : List ℕ) → s' ≡ after_element s → t' ≡ after_element t → same_list (words a) (words b) ≡ same_list (words s') (words t')
     unfolding same_list
@@ -78,10 +78,10 @@ module _ (a b s t w v : List ℕ) (so_far : same_list (words a) (words b) ≡ sa
       where
         by : (c : Bool) → eqb (length v) 0 ≡ c → same_list (words a) (words b) ≡ same_list (words s') (words t')
         by true e =
-            absurd (true≢false (sym (not_false x n) ∙ (is_x ∙ equal_fold_lengths w v (λ q. full (q ∙ eqb-true (length v) 0 e)))))
+            absurd (true≢false (sym (not-false x n) ∙ (is_x ∙ equal_fold_lengths w v (λ q. full (q ∙ eqb-true (length v) 0 e)))))
         by false e =
             so_far
-            ∙ rw (words_more s w s' is-w full is-s, words_more t v t' is_v (eqb-false (length v) 0 e) is-t, ← is_x, not_false x n)
+            ∙ rw (words_more s w s' is-w full is-s, words_more t v t' is_v (eqb-false (length v) 0 e) is-t, ← is_x, not-false x n)
 
 -- ## ALL alone
 
@@ -101,7 +101,7 @@ module _ (s w : List ℕ) (is-w : w ≡ first_element s) (x : Bool) (is_x : x �
   alone_other n = by (eqb (length w) 0) refl
     where
       head : (vs : List (List ℕ)) → false ≡ all_alone (w ∷ vs)
-      head [] = sym (sym is_x ∙ not_true x n)
+      head [] = sym (sym is_x ∙ not-true x n)
       head (v ∷ vs) = refl
 
       by : (c : Bool) → eqb (length w) 0 ≡ c → false ≡ all_alone (words s)
@@ -110,10 +110,10 @@ module _ (s w : List ℕ) (is-w : w ≡ first_element s) (x : Bool) (is_x : x �
 
   pub alone_ended : not x ≡ false → (rest v : List ℕ) → rest ≡ after_element s → v ≡ first_element rest → eqb (length v) 0 ≡ all_alone (words s)
   alone_ended n rest v is-rest is_v =
-      rw (words_more s w rest is-w (λ z. true≢false (sym (not_false x n) ∙ (is_x ∙ empty_not w z))) is-rest) (by (eqb (length v) 0) refl)
+      rw (words_more s w rest is-w (λ z. true≢false (sym (not-false x n) ∙ (is_x ∙ empty_not w z))) is-rest) (by (eqb (length v) 0) refl)
     where
       by : (c : Bool) → eqb (length v) 0 ≡ c → c ≡ all_alone (w ∷ words rest)
-      by true e = rw (words_none rest v is_v (eqb-true (length v) 0 e)) (sym (sym is_x ∙ not_false x n))
+      by true e = rw (words_none rest v is_v (eqb-true (length v) 0 e)) (sym (sym is_x ∙ not-false x n))
       by false e = rw (words_more rest v (after_element rest) is_v (eqb-false (length v) 0 e) refl)
 
 -- ## The parts of a rule

@@ -6,12 +6,12 @@
 use Prim.Native.Nat.{ℕ, zero, suc, ◌+◌, ◌*◌, ◌-◌, ◌/◌, ◌%◌, ◌<◌, ◌≤◌}
 use native.Mathlib.Numerals.{add-one}
 use native.Mathlib.Omega.{arith}
-use mathlib.Core.Bool.{Bool, true, false, not, ◌&&◌, ◌||◌, true≢false, or_true}
-use mathlib.Core.List.{List, [], ◌∷◌, ◌++◌, append_assoc, append_nil}
+use mathlib.Core.Bool.{Bool, true, false, not, ◌&&◌, ◌||◌, true≢false, or-true}
+use mathlib.Core.List.{List, [], ◌∷◌, ◌++◌, append_assoc, append-nil}
 use mathlib.Core.Option
 use mathlib.Core.Option.{Option, none, some}
 use mathlib.Core.Path.{◌≡◌, refl, sym, ap, ap₂, subst, ◌∙◌}
-use borrow.Author.Tests.{eq-eqb, ne_eqb, eqb-true, eqb-false, lt-ltb, le-ltb, not_true, not_false}
+use borrow.Author.Tests.{eq-eqb, ne_eqb, eqb-true, eqb-false, lt-ltb, le-ltb, not-true, not-false}
 use lib.Dec.{eqb, ltb}
 use lib.ListN.{length, take, drop, get_or, set, length-set, length-append, length-drop, drop_of_length-le}
 use lib.Seq.{paste-zero, drop-drop, get_or-set_same, get_or-set_other}
@@ -54,7 +54,7 @@ words_append (n ∷ a) b = ap (λ (t : List ℕ). to_digits 256 4 n ++ t) (words
 
 words_one : (n : ℕ) → word_bytes (n ∷ []) ≡ to_digits 256 4 n
 unfolding word_bytes
-words_one n = append_nil (to_digits 256 4 n)
+words_one n = append-nil (to_digits 256 4 n)
 
 pub length_words : (a : List ℕ) → length (word_bytes a) ≡ 4 * length a
 unfolding word_bytes
@@ -165,7 +165,7 @@ module _ (d marks out : List ℕ) (at n : ℕ) (h : PutNumbers d marks out at n)
   pub putting_end : length marks ≤ n → out ≡ after (marked_bytes marks) d
   unfolding marked_bytes
   putting_end l =
-      h.text ∙ ap (λ (ns : List ℕ). after (word_bytes ns) d) (sym (h.rest ∙ (ap (λ (ns : List ℕ). h.done ++ ns) (from_end marks n l) ∙ append_nil h.done)))
+      h.text ∙ ap (λ (ns : List ℕ). after (word_bytes ns) d) (sym (h.rest ∙ (ap (λ (ns : List ℕ). h.done ++ ns) (from_end marks n l) ∙ append-nil h.done)))
 
   module _ (l : n < length marks) where
     more : marked_from marks (length marks) 0 ≡ (h.done ++ marked_here marks n) ++ marked_from marks (length marks - (n + 1)) (n + 1)
@@ -277,7 +277,7 @@ set_zero : (marks : List ℕ) (m : ℕ) → not (eqb (get_or marks m 0) 0) ≡ t
 set_zero marks m e k = by (eqb k m) refl
   where
     by : (b : Bool) → eqb k m ≡ b → eqb (get_or (set marks m 2) k 0) 0 ≡ eqb (get_or marks k 0) 0
-    by true q = rw (eqb-true k m q) (ap (λ (x : ℕ). eqb x 0) (get_or-set_same marks m 2 0 (inside marks m e)) ∙ sym (not_true (eqb (get_or marks m 0) 0) e))
+    by true q = rw (eqb-true k m q) (ap (λ (x : ℕ). eqb x 0) (get_or-set_same marks m 2 0 (inside marks m e)) ∙ sym (not-true (eqb (get_or marks m 0) 0) e))
     by false q = ap (λ (x : ℕ). eqb x 0) (get_or-set_other marks m k 2 0 (eqb-false k m q))
 
 all_set : (marks : List ℕ) (m : ℕ) → not (eqb (get_or marks m 0) 0) ≡ true → (ns : List ℕ)
@@ -408,7 +408,7 @@ module _ (marks₀ p marks : List ℕ) (i : ℕ) (h : Naming marks₀ p marks i)
   module _ (l : length p ≤ i) where
     all_read : read_words p ≡ some h.pre
     unfolding read_words
-    all_read = h.read ∙ (ap (λ (t : List ℕ). read_words t >>= λ ns. some (h.pre ++ ns)) (drop_of_length-le p l) ∙ ap some (append_nil h.pre))
+    all_read = h.read ∙ (ap (λ (t : List ℕ). read_words t >>= λ ns. some (h.pre ++ ns)) (drop_of_length-le p l) ∙ ap some (append-nil h.pre))
 
     pub naming_end : true ≡ names_marked marks₀ p
     unfolding names_marked
@@ -512,7 +512,7 @@ named_get (n ∷ ns) marks e m =
     by k true q =
         rw q
         (ap (λ (x : ℕ). eqb x 2 || any (eqb m) ns) (ap (λ (y : ℕ). get_or (set marks n 2) y 0) (eqb-true m n q) ∙ get_or-set_same marks n 2 0 (inside marks n k))
-        ∙ sym (or_true (eqb (get_or marks m 0) 2)))
+        ∙ sym (or-true (eqb (get_or marks m 0) 2)))
     by k false q = rw q (ap (λ (x : ℕ). eqb x 2 || any (eqb m) ns) (get_or-set_other marks n m 2 0 (eqb-false m n q)))
 
 pub named_by : (t marks : List ℕ) → Marked marks (proposal t) → (p : List ℕ) → names_marked marks p ≡ true → (m : ℕ)

@@ -6,7 +6,7 @@
 --   accepts_proposed  so a proposal is accepted exactly if it names such lines alone
 -- Assumes nothing.
 use Prim.Native.Nat.{ℕ, suc, ◌+◌, ◌*◌, ◌≤◌, ◌<◌}
-use mathlib.Core.Bool.{Bool, true, false, not, ◌&&◌, ◌||◌, true≢false, or_true}
+use mathlib.Core.Bool.{Bool, true, false, not, ◌&&◌, ◌||◌, true≢false, or-true}
 use mathlib.Core.List.{List, [], ◌∷◌, ◌++◌, append_assoc}
 use mathlib.Core.Option.{Option, none, some}
 use mathlib.Core.Path.{◌≡◌, refl, sym, ap, ap₂, ◌∙◌}
@@ -70,7 +70,7 @@ covers_through w u v e f =
         → (c : Bool) → (same_list u.daemons v.daemons && same_list u.clients v.clients) ≡ c
         → (c || all_alone u.daemons && all_alone u.clients) ≡ true
         → (same_list w.daemons v.daemons && same_list w.clients v.clients || all_alone w.daemons && all_alone w.clients) ≡ true
-    by false p h c q k = rw h (or_true (same_list w.daemons v.daemons && same_list w.clients v.clients))
+    by false p h c q k = rw h (or-true (same_list w.daemons v.daemons && same_list w.clients v.clients))
     by true p h true q k =
         let a = and_true (same_list w.daemons u.daemons) (same_list w.clients u.clients) p in
         let b = and_true (same_list u.daemons v.daemons) (same_list u.clients v.clients) q in
@@ -79,7 +79,7 @@ covers_through w u v e f =
         let a = and_true (same_list w.daemons u.daemons) (same_list w.clients u.clients) p in
         let b = and_true (all_alone u.daemons) (all_alone u.clients) k in
         rw (all_alone_back w.daemons u.daemons a.0 b.0, all_alone_back w.clients u.clients a.1 b.1)
-        (or_true (same_list w.daemons v.daemons && same_list w.clients v.clients))
+        (or-true (same_list w.daemons v.daemons && same_list w.clients v.clients))
 
 -- ## The most
 
@@ -99,7 +99,7 @@ less_both (some u) us vs h v e = by (covers u v) e
 pub less_right : (o : Option Rule) (us vs : List Rule) → CoverLess us vs → CoverLess us (with_rule o vs)
 unfolding any
 less_right none us vs h v e = h v e
-less_right (some u) us vs h v e = rw (h v e) (or_true (covers u v))
+less_right (some u) us vs h v e = rw (h v e) (or-true (covers u v))
 
 pub less_covered : (us vs : List Rule) (l : Line) → CoverLess us vs → covered_by us l ≡ true → covered_by vs l ≡ true
 less_covered us vs l h e = by (rule_of l) e
@@ -116,7 +116,7 @@ Among ns ms (l ∷ ls) = (named ns l ≡ true → any (eqb l.number) ms ≡ true
 among_more : (ns ms ks : List ℕ) (ls : List Line) → Among ns ms ls → Among ns (ks ++ ms) ls
 among_more ns ms ks [] h = tt
 among_more ns ms ks (l ∷ ls) h = (
-  λ e. any_append (eqb l.number) ks ms ∙ ap (λ (b : Bool). any (eqb l.number) ks || b) (h.0 e) ∙ or_true (any (eqb l.number) ks),
+  λ e. any_append (eqb l.number) ks ms ∙ ap (λ (b : Bool). any (eqb l.number) ks || b) (h.0 e) ∙ or-true (any (eqb l.number) ks),
   among_more ns ms ks ls h.1,
 )
 
@@ -239,7 +239,7 @@ through_kept (some u) seen kept h e v k = by (covers u v) refl k
         first : (b : Bool) → covers w u ≡ b → (b || any (λ w. covers w u) ws) ≡ true → (any (λ w. covers w u) ws ≡ true → any (λ w. covers w v) ws ≡ true)
             → (covers w v || any (λ w. covers w v) ws) ≡ true
         first true c z ih = rw (covers_through w u v c q)
-        first false c z ih = rw (ih z) (or_true (covers w v))
+        first false c z ih = rw (ih z) (or-true (covers w v))
 
     by : (b : Bool) → covers u v ≡ b → (b || any (λ u. covers u v) seen) ≡ true → any (λ u. covers u v) kept ≡ true
     by true q z = through kept e q
@@ -284,7 +284,7 @@ unfolding covered_lines any all
 lines_of seen [] ms h = refl
 lines_of seen (l ∷ ls) ms h =
     by (covered_by seen l)
-    (lines_of (with_rule (rule_of l) seen) ls ms (λ n e. h n (rw e (or_true (eqb l.number n)))))
+    (lines_of (with_rule (rule_of l) seen) ls ms (λ n e. h n (rw e (or-true (eqb l.number n)))))
     (h l.number (rw (eq-eqb l.number l.number refl)))
   where
     by : (b : Bool) → are_lines (covered_lines (with_rule (rule_of l) seen) ls) ms ≡ true → any (λ (m : Line). eqb m.number l.number) ms ≡ true
@@ -342,7 +342,7 @@ all_within ms (n ∷ ns) e m k =
 pub within_all : (ms ns : List ℕ) → Within ns ms → all (λ n. any (eqb n) ms) ns ≡ true
 unfolding all any
 within_all ms [] h = refl
-within_all ms (n ∷ ns) h = rw (h n (rw (eq-eqb n n refl)), within_all ms ns (λ m k. h m (rw k (or_true (eqb m n)))))
+within_all ms (n ∷ ns) h = rw (h n (rw (eq-eqb n n refl)), within_all ms ns (λ m k. h m (rw k (or-true (eqb m n)))))
 
 regroup : (pre : List ℕ) (seen : List Rule) (l : Line) (ls : List Line) (m : ℕ) → any (eqb m) (pre ++ covered_lines seen (l ∷ ls)) ≡ true
     → any (eqb m) ((pre ++ (if covered_by seen l then l.number ∷ [] else [])) ++ covered_lines (with_rule (rule_of l) seen) ls) ≡ true
@@ -379,18 +379,18 @@ is_line seen (l ∷ ls) n e = by (covered_by seen l) e (is_line (with_rule (rule
     own : (c : Bool) → eqb n l.number ≡ c → (c || any (eqb n) rest) ≡ true → (any (eqb n) rest ≡ true → any (λ (l : Line). eqb l.number n) ls ≡ true)
         → (eqb l.number n || any (λ (l : Line). eqb l.number n) ls) ≡ true
     own true q k ih = rw (eqb-true n l.number q, eq-eqb l.number l.number refl)
-    own false q k ih = rw (ih k) (or_true (eqb l.number n))
+    own false q k ih = rw (ih k) (or-true (eqb l.number n))
 
     by : (b : Bool) → any (eqb n) ((if b then l.number ∷ [] else []) ++ rest) ≡ true
         → (any (eqb n) rest ≡ true → any (λ (l : Line). eqb l.number n) ls ≡ true)
         → (eqb l.number n || any (λ (l : Line). eqb l.number n) ls) ≡ true
     by true k ih = own (eqb n l.number) refl k ih
-    by false k ih = rw (ih k) (or_true (eqb l.number n))
+    by false k ih = rw (ih k) (or-true (eqb l.number n))
 
 within_lines : (ls : List Line) (ns : List ℕ) → ((n : ℕ) → any (eqb n) ns ≡ true → any (λ (l : Line). eqb l.number n) ls ≡ true) → are_lines ns ls ≡ true
 unfolding all any
 within_lines ls [] h = refl
-within_lines ls (n ∷ ns) h = rw (h n (rw (eq-eqb n n refl)), within_lines ls ns (λ m k. h m (rw k (or_true (eqb m n)))))
+within_lines ls (n ∷ ns) h = rw (h n (rw (eq-eqb n n refl)), within_lines ls ns (λ m k. h m (rw k (or-true (eqb m n)))))
 
 -- what is proposed of a proposal's lines
 among_within : (ns ms : List ℕ) (ls : List Line) → Among ns ms ls → (n : ℕ) → any (λ (l : Line). eqb l.number n) ls ≡ true → any (eqb n) ns ≡ true

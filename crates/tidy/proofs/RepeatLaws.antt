@@ -6,11 +6,11 @@ use Prim.Native.Nat.{ℕ, zero, suc, ◌+◌, ◌*◌, ◌-◌, ◌<◌, ◌≤�
 use native.Mathlib.Nat.{add-sub_cancel_left}
 use native.Mathlib.Numerals.{add-one}
 use native.Mathlib.Omega.{arith}
-use mathlib.Core.Bool.{Bool, true, false, not, ◌&&◌, ◌||◌, true≢false, or_true}
-use mathlib.Core.List.{List, [], ◌∷◌, ◌++◌, append_assoc, append_nil}
+use mathlib.Core.Bool.{Bool, true, false, not, ◌&&◌, ◌||◌, true≢false, or-true}
+use mathlib.Core.List.{List, [], ◌∷◌, ◌++◌, append_assoc, append-nil}
 use mathlib.Core.Option.{Option, none, some}
 use mathlib.Core.Path.{◌≡◌, refl, sym, ap, ap₂, ◌∙◌}
-use borrow.Author.Tests.{eq-eqb, ne_eqb, eqb-true, eqb-false, lt-ltb, le-ltb, le-leb, lt-leb, ltb-true, ltb-false, not_true, not_false}
+use borrow.Author.Tests.{eq-eqb, ne_eqb, eqb-true, eqb-false, lt-ltb, le-ltb, le-leb, lt-leb, ltb-true, ltb-false, not-true, not-false}
 use lib.Dec.{eqb, ltb, leb}
 use lib.ListN.{length, take, drop, get_or, set, replicate, length-set, length-replicate, get_or-replicate}
 use lib.Seq.{take_at, get_or-set_same, get_or-set_other}
@@ -338,7 +338,7 @@ pub marked_more : (marks ns : List ℕ) (n : ℕ) → Marked marks ns → n < 16
 marked_more marks ns n h l = record { long = length-set marks n 1 ∙ h.long; marks_of = λ m. rw (any_snoc m n ns) (by m (eqb m n) refl) }
   where
     by : (m : ℕ) (b : Bool) → eqb m n ≡ b → get_or (set marks n 1) m 0 ≡ flag (any (eqb m) ns || b)
-    by m true e = rw (eqb-true m n e) (get_or-set_same marks n 1 0 (rw h.long l) ∙ sym (ap flag (or_true (any (eqb n) ns))))
+    by m true e = rw (eqb-true m n e) (get_or-set_same marks n 1 0 (rw h.long l) ∙ sym (ap flag (or-true (any (eqb n) ns))))
     by m false e =
         get_or-set_other marks n m 1 0 (eqb-false m n e) ∙ (h.marks_of m ∙ ap flag (right (any (eqb m) ns)))
       where
@@ -391,7 +391,7 @@ rule_some raw v e = by (is_comment (line 0 0 raw true) || is_blank (line 0 0 raw
 module _ (text marks links : List ℕ) (all : Bool) (i n : ℕ) (h : Marking text marks links all i n) where
   pub marking_end : length text ≤ i → Marked marks (proposal text)
   unfolding covered_lines
-  marking_end l = rw (h.rest, logical_lines_end text i n i l, append_nil h.done) h.marked
+  marking_end l = rw (h.rest, logical_lines_end text i n i l, append-nil h.done) h.marked
 
   module _ (l : i < length text) (r : LineSpan) (is-r : r ≡ span_at i (scan_line (drop i text))) where
     abbrev raw : List ℕ
@@ -421,7 +421,7 @@ module _ (text marks links : List ℕ) (all : Bool) (i n : ℕ) (h : Marking tex
       done = h.done ++ [];
       at = next;
       short = h.short;
-      marked = rw (append_nil h.done) h.marked;
+      marked = rw (append-nil h.done) h.marked;
       long = h.long;
       rest = rw e at (split_off false (rw e));
       hung = λ f. hung_on text links i (r.end + 1) h.seen (omega (arith, at_from text i n h.at l r is-r)) (h.hung f);
@@ -460,7 +460,7 @@ module _ (text marks links : List ℕ) (all : Bool) (i n : ℕ) (h : Marking tex
         done = h.done ++ [];
         at = next;
         short = h.short;
-        marked = rw (append_nil h.done) h.marked;
+        marked = rw (append-nil h.done) h.marked;
         long = length_linked links i (join raw) ∙ h.long;
         rest = rw e at (split_off false (covered_is ∙ c));
         hung = λ g.
@@ -479,7 +479,7 @@ module _ (text marks links : List ℕ) (all : Bool) (i n : ℕ) (h : Marking tex
       ruled = by all refl (is_repeat text links (join raw)) refl
         where
           every : all ≡ true → any (λ u. covers u v) h.seen ≡ true
-          every f = any_covers v h.seen ∙ rw (← h.all_is, f) (or_true (any (λ u. same_lists u v) h.seen))
+          every f = any_covers v h.seen ∙ rw (← h.all_is, f) (or-true (any (λ u. same_lists u v) h.seen))
 
           same : all ≡ false → any (λ u. covers u v) h.seen ≡ is_repeat text links (join raw)
           same f =
@@ -570,42 +570,42 @@ module _ (text links marks raw : List ℕ) (i n : ℕ) (all : Bool) (x : Bool) (
   module _ (e : not x ≡ true) where
     pub none_all : all ≡ step_all text links all raw
     unfolding step_all
-    none_all = rw (← is_x, not_true x e)
+    none_all = rw (← is_x, not-true x e)
 
     pub none_marks : marks ≡ step_marks text links all n raw marks
     unfolding step_marks
-    none_marks = rw (← is_x, not_true x e)
+    none_marks = rw (← is_x, not-true x e)
 
     pub none_links : links ≡ step_links text links all i raw
     unfolding step_links
-    none_links = rw (← is_x, not_true x e)
+    none_links = rw (← is_x, not-true x e)
 
   module _ (e : not x ≡ false) where
     module _ (a : all ≡ true) where
       pub all_all : true ≡ step_all text links all raw
       unfolding step_all
-      all_all = rw (← is_x, not_false x e, a)
+      all_all = rw (← is_x, not-false x e, a)
 
       pub all_marks : set marks n 1 ≡ step_marks text links all n raw marks
       unfolding step_marks
-      all_marks = rw (← is_x, not_false x e, a)
+      all_marks = rw (← is_x, not-false x e, a)
 
       pub all_links : links ≡ step_links text links all i raw
       unfolding step_links
-      all_links = rw (← is_x, not_false x e, a)
+      all_links = rw (← is_x, not-false x e, a)
 
     module _ (a : all ≡ false) where
       pub rule_all_lem : (r : Bool) → r ≡ rule_all text links (join raw) → r ≡ step_all text links all raw
       unfolding step_all
-      rule_all_lem r h = h ∙ rw (← is_x, not_false x e, a)
+      rule_all_lem r h = h ∙ rw (← is_x, not-false x e, a)
 
       pub rule_marks_lem : (m : List ℕ) → m ≡ rule_marks text links n (join raw) marks → m ≡ step_marks text links all n raw marks
       unfolding step_marks
-      rule_marks_lem m h = h ∙ rw (← is_x, not_false x e, a)
+      rule_marks_lem m h = h ∙ rw (← is_x, not-false x e, a)
 
       pub rule_links_lem : (l : List ℕ) → l ≡ rule_links text links i (join raw) → l ≡ step_links text links all i raw
       unfolding step_links
-      rule_links_lem l h = h ∙ rw (← is_x, not_false x e, a)
+      rule_links_lem l h = h ∙ rw (← is_x, not-false x e, a)
 
       module _ (k : ℕ) (z : k ≡ 0) (p : k ≡ 0 → join raw ≡ raw) where
         pub plain_all : (r : Bool) → r ≡ rule_all text links raw → r ≡ step_all text links all raw

@@ -4,11 +4,11 @@
 use Prim.Native.Nat.{ℕ, zero, suc, ◌+◌, ◌*◌, ◌-◌, ◌<◌, ◌≤◌}
 use native.Mathlib.Nat.{add-sub_cancel_left}
 use native.Mathlib.Omega.{arith}
-use mathlib.Core.Bool.{Bool, true, false, not, ◌&&◌, ◌||◌, or_true}
+use mathlib.Core.Bool.{Bool, true, false, not, ◌&&◌, ◌||◌, or-true}
 use mathlib.Core.List.{List, [], ◌∷◌, ◌++◌}
 use mathlib.Core.Option.{Option, none, some, get_or}
 use mathlib.Core.Path.{◌≡◌, refl, sym, ap, ◌∙◌}
-use borrow.Author.Tests.{ltb-false, not_false}
+use borrow.Author.Tests.{ltb-false, not-false}
 use lib.Dec.{ltb}
 use lib.ListN.{length, take, drop}
 use Rattle.text.specs.Basics.{if◌then◌else◌, ◌or_else◌, ◌>>=◌, any, first}
@@ -94,7 +94,7 @@ no_client : (s : List ℕ) → rule_fault (parted (some (s, []))) ≡ none → �
 unfolding split_separator
 no_client s h =
     let e : (has_no_element (elements s) || has_no_element (elements [])) ≡ false = both_elements _ h in
-    let z : ◌≡◌ {A = Bool} true false = sym (ap (λ (b : Bool). has_no_element (elements s) || b) none_of_none ∙ or_true (has_no_element (elements s))) ∙ e in
+    let z : ◌≡◌ {A = Bool} true false = sym (ap (λ (b : Bool). has_no_element (elements s) || b) none_of_none ∙ or-true (has_no_element (elements s))) ∙ e in
     let n : ◌≡◌ {A = ℕ} 0 1 = cc in omega arith
 
 -- a sound rule has a daemon, a separator and a client
@@ -142,7 +142,7 @@ module _ (text : List ℕ) (i n : ℕ) (h : At text i n) (l : i < length text) (
   bounds = scan_line_bounds text i r (omega arith) is-r
 
   pub at_ended : r.ended ≡ true
-  at_ended = not_false r.ended (line_tests (line n i raw r.ended) both.0).0
+  at_ended = not-false r.ended (line_tests (line n i raw r.ended) both.0).0
 
   pub at_below : r.end < length text
   at_below = bounds.below at_ended

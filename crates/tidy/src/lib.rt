@@ -2,6 +2,8 @@
 //   propose(out, text, tables, section) == the numbers of the lines to drop, written to the front of out
 //   drop_rules(out, text, tables, section, proposal) == the text without the lines that an accepted proposal names, written to the front of out
 // Both look for the rules that an earlier one covers, in one pass: a proposal is accepted exactly if it names such lines alone.
+#![tactic(auto)]
+
 pub mod kept;
 pub mod numbers;
 pub mod repeats;
@@ -26,7 +28,7 @@ use section::{Fault, Refusal, Written};
 use tables::entry::Framing;
 
 // What checks find.
-#[derive(Drop)]
+#[derive(Clone, Copy)]
 pub enum Checked {
     Refused(Refusal),
     Sound,

@@ -1,5 +1,7 @@
 // upgrader FILE: appends the two zero bytes of no tables to a station sheet of four sections, from before there were tables, and writes
 // it to standard output. What is no such sheet, or can't be read, gets a message on standard error, and nothing is written.
+#![tactic(auto)]
+
 use libc::{STDERR_FILENO, STDOUT_FILENO};
 
 fn tell(s: &[u8]) {

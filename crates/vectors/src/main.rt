@@ -1,5 +1,7 @@
 // Runs the cases of its standard input, and writes what the gate's exports answer. The head of the file stdin says how a case is
 // written. A case is handed on as the block that `cases` reads it into.
+#![tactic(auto)]
+
 use codes::GateAnswer;
 use libc::STDIN_FILENO;
 
@@ -92,7 +94,7 @@ fn text_at(text: usize, place: u64, n: u64) {
 // ## The calls
 
 // A request as the gate takes it, but for its texts.
-#[derive(Drop)]
+#[derive(Clone, Copy)]
 struct Request {
     client_state: u32,
     client_kind: u32,
@@ -265,7 +267,7 @@ fn sheet_name_matters(case: &[u8]) {
 }
 
 // A request for a byuid decision, in the fields 1 to 3: port, address, uid.
-#[derive(Drop)]
+#[derive(Clone, Copy)]
 struct ByuidRequest {
     port: u32,
     kind: u32,
@@ -299,7 +301,7 @@ fn sheet_byuid(case: &[u8]) {
 }
 
 // A request for a portacl decision, in the fields 1 to 7: the four settings, uid, protocol, port. Its groups are in the fields from 9 on.
-#[derive(Drop)]
+#[derive(Clone, Copy)]
 struct PortaclRequest {
     enabled: u32,
     port_high: u32,

@@ -3,7 +3,7 @@
 use Prim.Native.Nat.{ℕ, zero, suc, ◌+◌, ◌-◌, ◌*◌, ◌/◌, ◌%◌, ◌^◌, ◌≤◌, ◌<◌}
 use native.Mathlib.Nat.{mod-lt, div-eq_of_lt, zero-div, pow-suc}
 use native.Mathlib.Omega.{arith}
-use mathlib.Core.Bool.{Bool, true, false, not, ◌&&◌, ◌||◌, true≢false, not_not, and_true, and_false, or_false}
+use mathlib.Core.Bool.{Bool, true, false, not, ◌&&◌, ◌||◌, true≢false, not-not, and-true, and-false, or-false}
 use mathlib.Core.List.{List}
 use mathlib.Core.Path.{◌≡◌, refl, sym, ap, ap₂, subst, ◌∙◌}
 use lib.Bits.{bit_or, bit_and, and_le_r, or_shr, and_shr, or_mod, and_mod, and_mask, shifted_even}
@@ -93,7 +93,7 @@ mark_on m i b on e is_b k h = rw e (bit_or_lem k m b ∙ ap (λ (t : Bool). bit_
 
 pub mark_off : (m i : ℕ) (on : Bool) → on ≡ false → Marks m 64 (λ k. bit_at k m || (on && eqb k i))
 unfolding Marks
-mark_off m i on e k h = rw e (sym (or_false (bit_at k m)))
+mark_off m i on e k h = rw e (sym (or-false (bit_at k m)))
 
 pub bit_marks : (i : ℕ) → i < 64 → Marks (1 * 2 ^ i % 2 ^ 64) 64 (λ k. eqb k i)
 unfolding Marks
@@ -161,7 +161,7 @@ pub record Stepped (names : List ℕ) (own below made i : ℕ) : Type 0 where
 pub stepped_start : (names : List ℕ) (own below : ℕ) → Stepped names own below own 0
 stepped_start names own below = record {
   within = omega arith;
-  so_far = λ k h. sym (rw (le-ltb k 0 (omega arith)) (or_false (bit_at k own)));
+  so_far = λ k h. sym (rw (le-ltb k 0 (omega arith)) (or-false (bit_at k own)));
 }
 
 -- a test of the places below i + 1 and one of those below i
@@ -179,8 +179,8 @@ next_bit k i o l s h = by (eqb k i) refl
     by : (t : Bool) → eqb k i ≡ t → ((o || (ltb k i && l)) || (s && t)) ≡ (o || (ltb k (i + 1) && l))
     by true e =
         let q : k ≡ i = eqb-true k i e in
-        rw (le-ltb k i (omega arith), lt-ltb k (i + 1) (omega arith), h q, and_true s, or_false o)
-    by false e = rw (and_false s, or_false (o || (ltb k i && l))) (ap (λ (t : Bool). o || (t && l)) (ltb_next k i (eqb-false k i e)))
+        rw (le-ltb k i (omega arith), lt-ltb k (i + 1) (omega arith), h q, and-true s, or-false o)
+    by false e = rw (and-false s, or-false (o || (ltb k i && l))) (ap (λ (t : Bool). o || (t && l)) (ltb_next k i (eqb-false k i e)))
 
 pub stepped_more : (names : List ℕ) (own below made i : ℕ) → Stepped names own below made i → i < 64 → below < 2 ^ 64 → (on : Bool)
     → on ≡ not (eqb (bit_and (get_or names i 0) below) 0) → (r : ℕ) → Marks r 64 (λ k. bit_at k made || (on && eqb k i)) → Stepped names own below r (i + 1)
@@ -189,7 +189,7 @@ stepped_more names own below made i s l small on is-on r is-r = record {
   within = omega arith;
   so_far = λ k h. is-r k h ∙ ap (λ (t : Bool). t || (on && eqb k i)) (s.so_far k h)
       ∙ next_bit k i (bit_at k own) (names_below names below k) on
-      (λ e. ap (names_below names below) e ∙ sym (is-on ∙ ap not (common (get_or names i 0) below small) ∙ not_not (names_below names below i)));
+      (λ e. ap (names_below names below) e ∙ sym (is-on ∙ ap not (common (get_or names i 0) below small) ∙ not-not (names_below names below i)));
 }
 
 pub stepped_end : (names : List ℕ) (own below made i : ℕ) → Stepped names own below made i → 64 ≤ i

@@ -4,7 +4,7 @@ use Prim.Native.Nat.{ℕ, zero, suc, ◌+◌, ◌-◌, ◌/◌, ◌%◌, ◌≤�
 use native.Mathlib.Nat.{mod-lt}
 use native.Mathlib.Omega.{arith}
 use native.Mathlib.Numerals.{add-one}
-use mathlib.Core.Bool.{Bool, true, false, ◌&&◌, ◌||◌, and_false, or_false}
+use mathlib.Core.Bool.{Bool, true, false, ◌&&◌, ◌||◌, and-false, or-false}
 use mathlib.Core.List.{List, [], ◌∷◌}
 use mathlib.Core.Option.{Option, none, some}
 use mathlib.Core.Path.{◌≡◌, refl, sym, ap, ap₂, ◌∙◌}
@@ -66,7 +66,7 @@ module _ (notes : List ℕ) (i k r : ℕ) (on : Bool) (is-k : k ≡ i / 64 + 2) 
       by false e =
           let q : m / 64 ≡ i / 64 → ⊥ = eqb-false (m / 64) (i / 64) e in
           let s : eqb m i ≡ false = ne_eqb m i (λ z. q (ap (λ (x : ℕ). x / 64) z)) in
-          rw (get_or-set_other notes k (2 + m / 64) r 0 (λ z. q (omega arith)), s, and_false on) (sym (or_false (bit_at (m % 64) (get_or notes (2 + m / 64) 0))))
+          rw (get_or-set_other notes k (2 + m / 64) r 0 (λ z. q (omega arith)), s, and-false on) (sym (or-false (bit_at (m % 64) (get_or notes (2 + m / 64) 0))))
 
 -- ## The loop over the tables
 

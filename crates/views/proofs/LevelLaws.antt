@@ -5,7 +5,7 @@
 -- Assumes nothing.
 use Prim.Native.Nat.{ℕ, zero, suc, ◌+◌, ◌-◌, ◌*◌, ◌^◌, ◌≤◌, ◌<◌}
 use native.Mathlib.Omega.{arith}
-use mathlib.Core.Bool.{Bool, true, false, not, ◌&&◌, ◌||◌, true≢false, or_false, and-or_distrib_right}
+use mathlib.Core.Bool.{Bool, true, false, not, ◌&&◌, ◌||◌, true≢false, or-false, and-or_distrib_right}
 use mathlib.Core.List.{List, [], ◌∷◌}
 use mathlib.Core.Option.{Option, none, some}
 use mathlib.Core.Path.{◌≡◌, refl, sym, ap, ap₂, subst, ◌∙◌}
@@ -15,7 +15,7 @@ use lib.Seq.{get_or-set_same, get_or-set_other}
 use borrow.Author.Tests.{eqb-true, eqb-false, ltb-true, ltb-false, ne_eqb, lt-ltb}
 use Rattle.text.specs.Basics.{if◌then◌else◌, ◌>>=◌, given, holds, any, sum_until}
 use Rattle.text.specs.Text.{first_among}
-use Rattle.text.proofs.BasicLaws.{or_false as or_none}
+use Rattle.text.proofs.BasicLaws.{or-false as or_none}
 use Rattle.patterns.specs.Host.{Endpoint}
 use Rattle.patterns.specs.Pattern.{host_pattern}
 use Rattle.patterns.specs.Code.{matches_pattern, host_matches}
@@ -68,7 +68,7 @@ any_below_one p k (suc n) h = by (eqb n k) refl (any_below_one p k n)
     by : (b : Bool) → eqb n k ≡ b → (k < n → any_below (λ j. eqb j k && p j) n ≡ p k) → ((b && p n) || any_below (λ j. eqb j k && p j) n) ≡ p k
     by true e ih =
         let q : n ≡ k = eqb-true n k e in
-        rw (none_else p k n (omega arith)) (or_false (p n) ∙ ap p q)
+        rw (none_else p k n (omega arith)) (or-false (p n) ∙ ap p q)
     by false e ih = let q : n ≡ k → ⊥ = eqb-false n k e in ih (omega arith)
 
 -- ## Any word
@@ -162,7 +162,7 @@ module _ (ts : List Table) (h : Endpoint) (d : ℕ) where
           ≡ (not b && matches_pattern (host_pattern w) h || holds (λ n. in_table ts d n h) (if b then o else none))
       by true none = refl
       by true (some n) = refl
-      by false o = sym (or_false (matches_pattern (host_pattern w) h))
+      by false o = sym (or-false (matches_pattern (host_pattern w) h))
 
 module _ (ts : List Table) (h : Endpoint) (d : ℕ) (w : List ℕ) where
   word_at : word_matches ts h (suc d) w ≡ (is_own h w || holds (matches_at ts h d) (word_place ts w))
@@ -208,8 +208,8 @@ module _ (ts : List Table) (h : Endpoint) where
   word_alone w = word_matches_lem ts h 0 w ∙ by (is_own h w) (table_name w)
     where
       by : (b : Bool) (o : Option (List ℕ)) → (b || holds (λ (n : List ℕ). false) o) ≡ b
-      by b none = or_false b
-      by b (some n) = or_false b
+      by b none = or-false b
+      by b (some n) = or-false b
 
   count_alone : (w : List ℕ) → word_count ts h 0 w ≡ 1
   unfolding tried_in

@@ -4,7 +4,7 @@
 use Prim.Native.Nat.{ℕ, zero, suc, ◌+◌, ◌-◌, ◌*◌, ◌%◌, ◌≤◌, ◌<◌}
 use native.Mathlib.Numerals.{add-one}
 use native.Mathlib.Omega.{arith}
-use mathlib.Core.Bool.{Bool, true, false, ◌&&◌, ◌||◌, true≢false, and_false}
+use mathlib.Core.Bool.{Bool, true, false, ◌&&◌, ◌||◌, true≢false, and-false}
 use mathlib.Core.List.{List, [], ◌∷◌, map}
 use mathlib.Core.Option.{Option, none, some}
 use mathlib.Core.Path.{◌≡◌, refl, sym, ap, ap₂, ◌∙◌, subst}
@@ -281,11 +281,11 @@ module _ (t notes n : List ℕ) (h : NamesNoted t notes) where
       by true e =
           let q : get_or notes (131 + i) 0 ≡ hash_of n = (h.names_told i l).name_hash ∙ sym (hash_same n (get_or (tables_in t) i no_table).name e) in
           rw (eq-eqb (get_or notes (131 + i) 0) (hash_of n) q)
-      by false e = and_false (eqb (get_or notes (131 + i) 0) (hash_of n))
+      by false e = and-false (eqb (get_or notes (131 + i) 0) (hash_of n))
 
   hit_past : (i : ℕ) → length (tables_in t) ≤ i → i < 64 → is_hit t notes n i ≡ false
   unfolding is_named_at
-  hit_past i l m = rw (h.names_past i l m) (and_false (eqb (get_or notes (131 + i) 0) (hash_of n)))
+  hit_past i l m = rw (h.names_past i l m) (and-false (eqb (get_or notes (131 + i) 0) (hash_of n)))
 
   none_past : (k i : ℕ) → k + i ≤ 64 → length (tables_in t) ≤ i → hashed_from t notes n k i ≡ none
   unfolding hashed_from

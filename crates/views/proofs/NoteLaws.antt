@@ -2,7 +2,7 @@
 -- Assumes nothing.
 use Prim.Native.Nat.{ℕ, ◌+◌, ◌-◌, ◌*◌, ◌/◌, ◌%◌, ◌≤◌, ◌<◌}
 use native.Mathlib.Omega.{arith}
-use mathlib.Core.Bool.{Bool, true, false, true≢false, and_false}
+use mathlib.Core.Bool.{Bool, true, false, true≢false, and-false}
 use mathlib.Core.List.{List, [], ◌∷◌}
 use mathlib.Core.Option.{Option, none, some}
 use mathlib.Core.Path.{◌≡◌, refl, sym, ap, ap₂, ◌∙◌}
@@ -52,7 +52,7 @@ module _ (notes : List ℕ) (i : ℕ) where
     marked_far h = sym (rw (le-ltb i 64 h))
 
     pub marked_outside : length notes ≤ k → false ≡ marked_at k notes i
-    marked_outside h = sym (rw (get_or-eq_default notes 0 h, bit_none i) (and_false (ltb i 64)))
+    marked_outside h = sym (rw (get_or-eq_default notes 0 h, bit_none i) (and-false (ltb i 64)))
 
     pub marked_inside : i < 64 → (r : Bool) → r ≡ bit_at i (get_or notes k 0) → r ≡ marked_at k notes i
     marked_inside h r e = sym (rw (lt-ltb i 64 h) (sym e))

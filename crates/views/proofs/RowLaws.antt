@@ -2,7 +2,7 @@
 -- Assumes nothing.
 use Prim.Native.Nat.{ℕ, zero, suc, ◌+◌, ◌-◌, ◌*◌, ◌^◌, ◌≤◌, ◌<◌}
 use native.Mathlib.Omega.{arith}
-use mathlib.Core.Bool.{Bool, true, false, not, ◌&&◌, ◌||◌, or_false, or_assoc, true≢false}
+use mathlib.Core.Bool.{Bool, true, false, not, ◌&&◌, ◌||◌, or-false, or_assoc, true≢false}
 use mathlib.Core.List.{List, [], ◌∷◌}
 use mathlib.Core.Option.{Option, none, some}
 use mathlib.Core.Path.{◌≡◌, refl, sym, ap, subst, ◌∙◌}
@@ -109,7 +109,7 @@ module _ (ts : List Table) (client server : Endpoint) (w : List ℕ) (x : Bool) 
       → RowOf ts client server (w ∷ []) (row b false false 1 1 (not (eqb b 0)))
   unfolding Marks words_name any
   row_slash e b small is_b = record {
-    row_names = λ j h. is_b j h ∙ sym (or_false (word_names ts w j));
+    row_names = λ j h. is_b j h ∙ sym (or-false (word_names ts w j));
     row_client = rw (← is_x, e);
     row_server = rw (← is_x, e);
     row_client_tried = one_word (is_own client) w;
@@ -124,7 +124,7 @@ module _ (ts : List Table) (client server : Endpoint) (w : List ℕ) (x : Bool) 
 
     own_seen : (h : Endpoint) (c : HostSeen) → c ≡ pattern_seen true (host_pattern w) h → c.matches ≡ any (is_own h) (w ∷ [])
     unfolding pattern_seen host_matches any
-    own_seen h c is_c = ap (λ (z : HostSeen). z.matches) is_c ∙ rw (← is_x, e) (sym (or_false (matches_pattern (host_pattern w) h)))
+    own_seen h c is_c = ap (λ (z : HostSeen). z.matches) is_c ∙ rw (← is_x, e) (sym (or-false (matches_pattern (host_pattern w) h)))
 
     clean_seen : (h : Endpoint) (c : HostSeen) → c ≡ pattern_seen true (host_pattern w) h → (y : Bool) → y ≡ is_word "EXCEPT" w
         → CleanWords (c.sound && not y) ts (w ∷ [])
@@ -192,7 +192,7 @@ rowed_start ts client server t h = record {
 
 any_more : (p : List ℕ → Bool) (w : List ℕ) (ws : List (List ℕ)) (a b : Bool) → b ≡ any p (w ∷ []) → (a || any p (w ∷ ws)) ≡ ((a || b) || any p ws)
 unfolding any
-any_more p w ws a b is_b = rw (is_b, or_false (p w)) (sym (or_assoc a (p w) (any p ws)))
+any_more p w ws a b is_b = rw (is_b, or-false (p w)) (sym (or_assoc a (p w) (any p ws)))
 
 running_end : (p : List ℕ → Bool) (ended : Bool) (n : ℕ) → running p [] ended n ≡ n
 unfolding sum_until
@@ -203,7 +203,7 @@ running_more : (p : List ℕ → Bool) (w : List ℕ) (ws : List (List ℕ)) (en
     → running p (w ∷ ws) ended n ≡ running p ws (ended || b) c
 unfolding any sum_until
 running_more p w ws true b n c is_b is_c = omega arith
-running_more p w ws false b n c is_b is_c = rw (is_b, or_false (p w), is_c) (by (p w) (sum_until p (λ w. 1) ws))
+running_more p w ws false b n c is_b is_c = rw (is_b, or-false (p w), is_c) (by (p w) (sum_until p (λ w. 1) ws))
   where
     by : (b : Bool) (s : ℕ) → n + (1 + (if b then 0 else s)) ≡ n + 1 + (if b then 0 else s)
     by true s = omega arith
@@ -220,9 +220,9 @@ module _ (ts : List Table) (client server : Endpoint) (t rest : List ℕ) (r : R
   rowed_end z =
       let e : words rest ≡ [] = words_none rest w is-w z in
       record {
-        row_names = λ j h. sym (so_far.rowed_names j h ∙ rw e (or_false (bit_at j r.names)));
-        row_client = sym (so_far.rowed_client ∙ rw e (or_false r.client));
-        row_server = sym (so_far.rowed_server ∙ rw e (or_false r.server));
+        row_names = λ j h. sym (so_far.rowed_names j h ∙ rw e (or-false (bit_at j r.names)));
+        row_client = sym (so_far.rowed_client ∙ rw e (or-false r.client));
+        row_server = sym (so_far.rowed_server ∙ rw e (or-false r.server));
         row_client_tried = record {
           count = sym (so_far.rowed_client_tried ∙ rw e (running_end (is_own client) r.client r.client_tried));
           fits = omega (arith, so_far.rowed_client_room, so_far.rowed_short);

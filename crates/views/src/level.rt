@@ -15,14 +15,14 @@ use tables::entry::{Place, after_count, after_entry, entry_span, entry_text, tab
 use tables::word::{after_word, names_table, word, word_span};
 
 // How many words of a text are left to try for a host, and what was tried.
-#[derive(Drop)]
+#[derive(Clone, Copy)]
 pub struct Tally {
     pub left: u64,
     pub tried: u64,
 }
 
 // What is tried for the client and for the server.
-#[derive(Drop)]
+#[derive(Clone, Copy)]
 pub struct Counts {
     pub client: u64,
     pub server: u64,

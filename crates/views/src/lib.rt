@@ -4,6 +4,8 @@
 //   look_up(tables, notes, k, name)      == what the notes say of a named table
 // The patterns of each text are matched once: what it names becomes a word with a bit for each table, and a table is then matched by the words
 // of the tables that it names, with the remaining depth falling. Only the texts of tables that lead on are gone over again, to count.
+#![tactic(auto)]
+
 ghost use Rattle.std.specs.Prelude.{◌≡◌, ◌&&◌, ◌||◌, [], ◌∷◌, ◌+◌, ◌≤◌, ◌<◌, eqb, length, get_or};
 ghost use Rattle.patterns.specs.Host.{endpoint};
 ghost use Rattle.tables.specs.Code.{tables_in, words};
@@ -25,7 +27,7 @@ pub mod level;
 pub mod names;
 
 // Whether a table may be named: it is there and leads no more than four deep.
-#[derive(Drop)]
+#[derive(Clone, Copy)]
 pub enum Naming {
     Sound,
     Missing,
@@ -33,7 +35,7 @@ pub enum Naming {
 }
 
 // What is found of a named table.
-#[derive(Drop)]
+#[derive(Clone, Copy)]
 pub struct Reference {
     pub naming: Naming,
     pub matches: bool,
@@ -42,7 +44,7 @@ pub struct Reference {
 
 // What one text gives: the tables that it names, whether a pattern of its own matches the client, the server, how many patterns stand up to
 // the first that does, and whether all are known to be sound.
-#[derive(Drop)]
+#[derive(Clone, Copy)]
 pub struct Row {
     pub names: u64,
     pub client: bool,
@@ -53,7 +55,7 @@ pub struct Row {
 }
 
 // The rows of all tables: what each names, the rest as notes, and whether all patterns are known to be sound.
-#[derive(Drop)]
+#[derive(Clone, Copy)]
 pub struct Rows {
     pub names: [u64; 64],
     pub notes: [u64; 131],
@@ -61,7 +63,7 @@ pub struct Rows {
 }
 
 // Notes on the tables, and whether all their patterns are known to be sound.
-#[derive(Drop)]
+#[derive(Clone, Copy)]
 pub struct Viewing {
     pub notes: [u64; 259],
     pub clean: bool,

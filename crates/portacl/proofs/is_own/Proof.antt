@@ -1,6 +1,6 @@
 -- `portacl::is_own` meets its contract: a group's id is looked for among the groups, a user's is compared.
 -- Assumes nothing.
-use mathlib.Core.Bool.{or_false}
+use mathlib.Core.Bool.{or-false}
 use mathlib.Core.Path.{sym}
 use Rattle.text.specs.Basics.{any}
 use borrow.Author.Rules.{rules}
@@ -9,7 +9,7 @@ use Rattle.portacl.proofs.is_own.Tie as tie
 
 returns-2 : tie.Need-returns-2
 unfolding any
-returns-2 c = rw c.if1.false (sym (or_false _))
+returns-2 c = rw c.if1.false (sym (or-false _))
 
 pub is-own-spec : {M : Type 1} → statement M
 is-own-spec =
