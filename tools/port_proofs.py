@@ -1,0 +1,327 @@
+#!/usr/bin/env python3
+"""Writes a function's Proof.antt of the older form, which answers its goals by their places, as Invariants.antt and Answers.antt.
+
+usage: tools/port_proofs.py NAMES.json CRATE [FOLDER..]
+
+NAMES.json is what `rt check --generated DIR --old-names` writes for the crate. Each goal, step and loop gets today's name; an answer
+that only says `search rules` is left out. A Proof.antt that it can't read stays, and a line says why.
+"""
+import json
+import pathlib
+import re
+import sys
+
+ID = r"[^\s(){}.;,@\"«»\[\]\\]+"
+SPEC = re.compile(r"(?ms)^(\S+[-_]spec)\b[^\n:=]*=(.*?)(?=^\S|\Z)")
+GENERATED = re.compile(r"^use Rattle\.\w+\.proofs\.(?:\S+\.)?(?:Statement|Tie|Goals|Given|Lts)\b")
+
+
+def plain(name):
+    return name.replace("_", "-").lower()
+
+
+def snake(name):
+    if name[0].isupper():
+        return name.replace("-", "_")
+    return re.sub(r"(?<=[a-z0-9])[A-Z]", lambda m: "_" + m[0].lower(), name).replace("-", "_")
+
+
+def atoms(text):
+    """A call's arguments: what stands in brackets is one."""
+    out, i = [], 0
+    while i < len(text):
+        if text[i].isspace():
+            i += 1
+            continue
+        j, depth = i, 0
+        while j < len(text) and (depth or not text[j].isspace()):
+            depth += {"(": 1, "{": 1, "[": 1, ")": -1, "}": -1, "]": -1}.get(text[j], 0)
+            j += 1
+        out.append(text[i:j])
+        i = j
+    return out
+
+
+def chunks(text):
+    """The top-level parts of a file: a comment or use line, or a declaration with its clauses."""
+    found = []
+    for line in text.split("\n"):
+        head = re.match(rf"((?:abbrev |pub |unfoldable )*)({ID})", line)
+        if line[:1].isspace() or not line.strip():
+            if found:
+                found[-1][1].append(line)
+            continue
+        if line.startswith(("--", "use ", "infix", "module ")):
+            found.append([None, [line]])
+        elif line.startswith("unfolding ") and found and found[-1][0]:
+            found[-1][1].append(line)
+        elif found and found[-1][0] and head and head[2] == found[-1][0]:
+            found[-1][1].append(line)
+        else:
+            found.append([head[2] if head else None, [line]])
+    return [(name, "\n".join(lines).rstrip()) for name, lines in found]
+
+
+class Function:
+    def __init__(self, names):
+        self.needs = [tuple(it) for it in names["needs"]]
+        self.places = {}
+        self.parent = {}
+        for old, parent, (step, new), *_ in names["places"]:
+            self.parent[old] = parent
+            self.places[old] = (step, new)
+        self.at = [it[0] for it in names["asked_at"]]
+        self.loops = names["loops"]
+        self.changed = names["changed"]
+        self.steps = {}
+        for old, new in self.places.values():
+            if old:
+                self.steps.setdefault(plain(old), set()).add(new)
+
+    def step(self, word, place):
+        """Today's name of a step that is before this place."""
+        at = place
+        while at:
+            old, new = self.places[at]
+            if old and plain(old) == plain(word):
+                return new
+            at = self.parent[at]
+        found = self.steps.get(plain(word), set())
+        return next(iter(found)) if len(found) == 1 else None
+
+
+def turn_paths(body, fn, place, roots):
+    """The body with each path from a record of facts in today's names."""
+    roots = set(roots)
+    while True:
+        for m in re.finditer(rf"\blet ({ID})(?: : {ID})? = ({ID})((?:\.{ID})*) in\b", body):
+            if m[2] in roots and m[1] not in roots and all(p == "before" for p in m[3].split(".")[1:]):
+                roots.add(m[1])
+                break
+        else:
+            break
+
+    def turn(m):
+        root, parts = m[1], m[2].split(".")[1:]
+        if root not in roots:
+            return m[0]
+        parts = [p for p in parts if p != "before"]
+        out, head = [root], True
+        for p in parts:
+            if head and p not in ("args", "requires", "ranges", "well-formed", "well_formed", "type_inv", "type-inv", "initial", "lifetimes"):
+                new = fn.step(p, place)
+                out.append(new or p)
+            elif head:
+                out.append(p.replace("-", "_"))
+            else:
+                out.append(p)
+            head = False
+        return ".".join(out)
+
+    return re.sub(rf"(?<![^\s(){{}},\[]) *({ID})((?:\.{ID})+)".replace(" *", ""), turn, body)
+
+
+def drop_outright(body):
+    return body
+
+
+def is_plain(body):
+    return re.sub(r"\s+", " ", body.strip()) == "search rules"
+
+
+def loop_params(fn, k):
+    names, changed = fn.loops[k][1], fn.changed[k]
+    first = [(f"{v}₀" if c else v, f"l.initial.{v}" if c else f"l.{v}") for v, c in zip(names, changed)]
+    last = [(v, f"l.{v}") for v, c in zip(names, changed) if c]
+    return first + last
+
+
+def convert(path, names, crate, module):
+    text = path.read_text(encoding="utf-8")
+    fn = Function(names)
+    parts = chunks(text)
+    spec = SPEC.search(re.sub(r"--[^\n]*", lambda m: " " * len(m[0]), text))
+    if not spec:
+        raise ValueError("no proof of the function")
+    body = spec[2].strip()
+    call = re.fullmatch(r"tie\.close\s*\(\s*tie\.spec(.*)\)", body, re.S) or re.fullmatch(r"let facts = tie\.spec(.*?)\bin\s+tie\.close facts", body, re.S)
+    if not call:
+        raise ValueError("another form")
+    args = atoms(call[1])
+    loops = len(fn.loops)
+    want = 2 * loops + len(fn.needs)
+    if len(args) != want:
+        args = align(args, fn, want)
+    head = [t for n, t in parts if n is None and not GENERATED.match(t)]
+    comments = [t for t in head if t.startswith("--")]
+    uses = [t for t in head if t.startswith("use ")]
+    own = {n: t for n, t in parts if n and n != spec[1]}
+    invariants, answers, helpers, used = [], [], [], set()
+    here = f"Rattle.{crate}.proofs.{module}"
+
+    # loops
+    inv = args[: 2 * loops]
+    for k in range(loops):
+        new = fn.loops[k][0][1]
+        for word, arg in zip(("invariant", "decreases"), inv[2 * k : 2 * k + 2]):
+            used.add(arg)
+            decl = own.get(arg)
+            params = loop_params(fn, k)
+            if arg.startswith("("):
+                m = re.fullmatch(r"\(λ ([^.]*)\. (.*)\)", arg, re.S)
+                if not m:
+                    raise ValueError("a loop's term: " + arg[:60])
+                binders, term = m[1].split(), m[2]
+            else:
+                if not decl:
+                    raise ValueError("no " + arg)
+                m = re.search(rf"(?m)^{re.escape(arg)}((?: [^\s=]+)*) =(.*)\Z", decl, re.S)
+                if not m:
+                    raise ValueError("cannot read " + arg)
+                binders, term = m[1].split(), m[2].strip()
+            if len(binders) != len(params):
+                raise ValueError(f"{arg} has {len(binders)} arguments, and the loop {len(params)}")
+            sub = {b: to for b, (_, to) in zip(binders, params) if b != "_"}
+            term = re.sub(rf"(?<![^\s(){{}},\[.])({ID})", lambda m: sub.get(m[1], m[1]), term)
+            opened = re.search(r"(?m)^unfolding .*$", decl or "")
+            invariants.append(f"abbrev pub {word}-{new} : goal.{word}-{new}\n" + (opened[0] + "\n" if opened else "") + f"{word}-{new} l = {term}")
+    # goals
+    for k, arg in enumerate(args[2 * loops :]):
+        if arg is None:
+            continue
+        old, new = fn.needs[k]
+        place = fn.at[k] if k < len(fn.at) else None
+        if arg.startswith("("):
+            m = re.fullmatch(r"\(λ ([^.]*)\. (.*)\)", arg, re.S)
+            if m:
+                binders, term, opened = m[1].split(), m[2].strip(), None
+            else:
+                binders, term, opened = ["c"], arg + " c", None
+        elif arg in own:
+            used.add(arg)
+            decl = own[arg]
+            m = re.search(rf"(?m)^{re.escape(arg)}((?: [^\s=]+)*) =(.*)\Z", decl, re.S)
+            if not m:
+                raise ValueError("cannot read " + arg)
+            if "tie." not in decl.split("\n")[0]:
+                binders, term, opened = ["c"], arg + " c", None
+                used.discard(arg)
+            else:
+                binders, term = m[1].split(), m[2].strip()
+                opened = re.search(r"(?m)^unfolding .*$", decl)
+                if not binders:
+                    raise ValueError(arg + " takes no facts")
+        else:
+            binders, term, opened = ["c"], arg + " c", None
+        if is_plain(term):
+            continue
+        root = binders[0]
+        term = turn_paths(term, fn, place, {root})
+        if root != "c":
+            term = re.sub(rf"(?<![^\s(){{}},\[]){re.escape(root)}(?![^\s(){{}},.\]])", "c", term)
+        answers.append(f"pub {new} : goal.{new}\n" + (opened[0] + "\n" if opened else "") + f"{new} c = {term}")
+    for name, decl in own.items():
+        if name not in used:
+            helpers.append((name, decl))
+    folder = path.parent
+    words = " ".join(invariants)
+    result = {}
+    note = "\n".join(comments)
+    if invariants:
+        result["Invariants.antt"] = "\n".join(comments) + "\n" + "\n".join(u for u in uses) + f"\nuse {here}.Given as goal\n\n" + "\n\n".join(invariants) + "\n"
+    if answers or helpers:
+        result["Answers.antt"] = ("\n".join(comments) + "\n" if not invariants else "") + "\n".join(uses) + f"\nuse {here}.Goals as goal\n\n" + "\n\n".join([d for _, d in helpers] + answers) + "\n"
+    path.unlink()
+    for name, text in result.items():
+        (folder / name).write_text(trim_uses(text), encoding="utf-8")
+    if not result:
+        for p in [folder, *folder.parents]:
+            if p.name == "proofs" or any(p.iterdir()):
+                break
+            p.rmdir()
+    return bool(result)
+
+
+def trim_uses(text):
+    """Without the imports of names that the text does not use."""
+    lines, out = text.split("\n"), []
+    code = "\n".join(re.sub(r"--.*", "", l) for l in lines if not l.startswith("use "))
+    words = set(re.findall(ID, code)) | set(re.findall(r"[^\s(){}.;,@\"«»\[\]\\:]+", code))
+    operators = {w for w in words}
+    for line in lines:
+        m = re.fullmatch(r"use (\S+)\.\{(.*)\}", line)
+        if m:
+            keep = []
+            for it in m[2].split(","):
+                it = it.strip()
+                local = it.split(" as ")[-1]
+                pieces = [p for p in local.split("◌") if p]
+                if "◌" in local and all(p in words for p in pieces) or local in words or local == "[]" and "[]" in code:
+                    keep.append(it)
+            if keep:
+                out.append(f"use {m[1]}.{{{', '.join(keep)}}}")
+        elif (m := re.fullmatch(r"use (\S+) as (\S+)", line)):
+            if re.search(rf"(?<![^\s(){{}},\[]){re.escape(m[2])}\.", code):
+                out.append(line)
+        else:
+            out.append(line)
+    return "\n".join(out)
+
+
+def align(args, fn, want):
+    """Leaves out arguments that only search, where today fewer goals are asked for."""
+    loops = 2 * len(fn.loops)
+    head, rest = args[:loops], args[loops:]
+    surplus = len(args) - want
+    if surplus < 0:
+        raise ValueError(f"{len(args)} arguments, and {want} goals")
+    flat = [re.sub(r"\s+", " ", a) for a in rest]
+    trivial = [bool(re.fullmatch(r"\(λ [^.]*\. search rules\)", a)) for a in flat]
+    # the last goals keep their places; a named answer fits a goal of its own old name
+    n, m = len(rest), len(fn.needs)
+    NO = -10**9
+    best = [[NO] * (m + 1) for _ in range(n + 1)]
+    best[n][m] = 0
+    step = {}
+    for i in range(n, -1, -1):
+        for j in range(m, -1, -1):
+            if i < n and trivial[i] and best[i + 1][j] > NO and best[i + 1][j] >= best[i][j]:
+                best[i][j], step[i, j] = best[i + 1][j], "drop"
+            if i < n and j < m and best[i + 1][j + 1] > NO:
+                name = plain(rest[i]) if not rest[i].startswith("(") else ""
+                gain = 3 if name and name == plain(fn.needs[j][0]) else 1 if (not trivial[i]) == fn.needs[j][0].startswith("returns") else 0
+                if best[i + 1][j + 1] + gain > best[i][j]:
+                    best[i][j], step[i, j] = best[i + 1][j + 1] + gain, "take"
+    if best[0][0] <= NO:
+        raise ValueError("its arguments fit no goals")
+    out, i, j = [], 0, 0
+    while (i, j) in step and (i < n or j < m):
+        if step[i, j] == "take":
+            out.append(rest[i])
+            j += 1
+        i += 1
+    return head + out
+
+
+def main(argv):
+    names = json.loads(pathlib.Path(argv[0]).read_text(encoding="utf-8"))
+    crate = argv[1]
+    root = pathlib.Path("crates") / crate / "proofs"
+    done = 0
+    for path in sorted(root.rglob("Proof.antt")):
+        module = ".".join(path.parent.relative_to(root).parts)
+        if argv[2:] and module not in argv[2:]:
+            continue
+        key = f"Rattle-{crate}-proofs.{module}.Lts"
+        try:
+            if key not in names:
+                raise ValueError("no names")
+            convert(path, names[key], crate, module)
+            done += 1
+        except ValueError as why:
+            print(f"left: {path}: {why}")
+    print(f"port_proofs: {crate}: {done} turned")
+
+
+if __name__ == "__main__":
+    sys.exit(main(sys.argv[1:]))
