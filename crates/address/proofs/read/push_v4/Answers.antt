@@ -1,0 +1,7 @@
+-- `address::read::push_v4` meets its contract: the bits that leave the low word enter the high one. Assumes nothing.
+use borrow.Author.Rules.{rules}
+use Rattle.address.proofs.WordLaws.{pushed}
+use Rattle.address.proofs.read.push_v4.Goals as goal
+
+pub returns : goal.returns
+returns c = pushed 32 32 _ _ _ (search rules) (search rules) (search rules)

@@ -1,0 +1,9 @@
+-- `address_format::longer_zeros` meets its contract. Assumes nothing.
+use borrow.Author.Tests.{eq-eqb, ne_eqb}
+use Rattle.address_format.proofs.longer_zeros.Goals as goal
+
+pub returns-then-g-eq0 : goal.returns-then-g-eq0
+returns-then-g-eq0 c = rw (eq-eqb _ _ c.if-g-eq0.true)
+
+pub returns-else-g-eq0 : goal.returns-else-g-eq0
+returns-else-g-eq0 c = rw (ne_eqb _ _ c.if-g-eq0.false)

@@ -1,0 +1,29 @@
+-- `address_format::put_address` meets its contract, by the kind of address. Assumes nothing.
+use borrow.Author.Rules.{rules}
+use Rattle.address_format.proofs.WriteLaws.{addr_text_unknown, addr_text_v4, addr_text_v6}
+use Rattle.address_format.proofs.put_address.Goals as goal
+
+pub put-requires : goal.put-requires
+put-requires c = let a = c in rw (addr_text_unknown a.args.a (search rules)) at a.requires
+
+pub put_v4-requires : goal.put_v4-requires
+put_v4-requires c = let a = c in
+    rw (addr_text_v4 a.args.a c.a-1.given.0.0 (search rules)) at a.requires
+
+pub put_v6-requires : goal.put_v6-requires
+put_v6-requires c = let a = c in
+    let g = c.a-in-V6-1.given.0 in
+    rw (addr_text_v6 a.args.a g.0 g.1.0 (search rules)) at a.requires
+
+pub returns-in-Unknown : goal.returns-in-Unknown
+returns-in-Unknown c = let a = c in
+    rw (addr_text_unknown a.args.a (search rules)) c.put.ensures
+
+pub returns-in-V4 : goal.returns-in-V4
+returns-in-V4 c = let a = c in
+    rw (addr_text_v4 a.args.a c.a-1.given.0.0 (search rules)) c.put_v4.ensures
+
+pub returns-in-V6 : goal.returns-in-V6
+returns-in-V6 c = let a = c in
+    let g = c.a-in-V6-1.given.0 in
+    rw (addr_text_v6 a.args.a g.0 g.1.0 (search rules)) c.put_v6.ensures

@@ -1,0 +1,31 @@
+-- `address_format::put_group` meets its contract: at most two digits, or the last two after them. Assumes nothing.
+use borrow.Author.Rules.{rules}
+use Rattle.text.proofs.Search.{outright}
+use Rattle.address_format.proofs.WriteLaws.{group_pair_room, group_pair, group_room, group_third_room, group_last_room, group_four}
+use Rattle.address_format.proofs.put_group.Goals as goal
+
+pub put_pair-requires : goal.put_pair-requires
+put_pair-requires c = outright (search (group_pair_room, rules))
+
+pub returns-then-g-lt256 : goal.returns-then-g-lt256
+returns-then-g-lt256 c = group_pair _ _ _ c.requires
+    c.if-g-lt256.true _ _ c.put_pair.ensures
+
+pub put_pair-p-requires : goal.put_pair-p-requires
+put_pair-p-requires c = search (group_room, rules)
+
+pub put_digit-q-requires : goal.put_digit-q-requires
+put_digit-q-requires c = search (group_third_room, rules)
+
+pub put_digit-requires : goal.put_digit-requires
+put_digit-requires c = let p2 = c in
+    let p1 = p2 in
+    let e = p1 in
+    (group_last_room _ _ _ e.requires e.if-g-lt256.false _ _ p1.put_pair-p.ensures _ _ p2.put_digit-q.ensures, search rules)
+
+pub returns : goal.returns
+returns c = let p3 = c in
+    let p2 = p3 in
+    let p1 = p2 in
+    let e = p1 in
+    group_four _ _ _ e.requires e.if-g-lt256.false _ _ p1.put_pair-p.ensures _ _ p2.put_digit-q.ensures _ _ p3.put_digit.ensures

@@ -1,0 +1,29 @@
+-- `authbind::put_address_in` meets its contract, by the file. Assumes nothing.
+use borrow.Author.Rules.{rules}
+use Rattle.text.proofs.Search.{outright}
+use Rattle.authbind.proofs.NameLaws.{address_in_room, behind_room, text_all, in_address, third_in_room, third_in, in_port, in_uid}
+use Rattle.authbind.proofs.put_address_in.Goals as goal
+
+pub enum_told-in-Address : goal.enum_told-in-Address
+enum_told-in-Address c = outright (search (address_in_room, rules))
+
+pub put-requires : goal.put-requires
+put-requires c = let s = c in
+    behind_room _ _ _ _ _ (in_address _ _ (search rules)) s.requires _ _ c.put_address-comma.ensures
+
+pub put_third-requires : goal.put_third-requires
+put_third-requires c = outright (search (third_in_room, rules))
+
+pub returns-in-Port : goal.returns-in-Port
+returns-in-Port c = in_port _ _ (search rules) _ _
+
+pub returns-in-Address : goal.returns-in-Address
+returns-in-Address c = let s = c in
+    text_all _ _ _ _ _ (in_address _ _ (search rules)) s.requires _ _ c.put_address-comma.ensures _ _
+    c.put.ensures
+
+pub returns-in-Third : goal.returns-in-Third
+returns-in-Third c = third_in _ _ _ _ (search rules) _ _ c.put_third.ensures
+
+pub returns-in-Uid : goal.returns-in-Uid
+returns-in-Uid c = in_uid _ _ (search rules) _ _

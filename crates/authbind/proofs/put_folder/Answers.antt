@@ -1,0 +1,30 @@
+-- `authbind::put_folder` meets its contract, by the file. Assumes nothing.
+use borrow.Author.Rules.{rules}
+use Rattle.text.proofs.Search.{outright}
+use Rattle.authbind.proofs.NameLaws.{port_room, address_room, third_test_room, uid_room, port_folder, address_folder, third_folder, uid_folder}
+use Rattle.authbind.proofs.put_folder.Goals as goal
+
+pub enum_told-1 : goal.enum_told-1
+enum_told-1 c = outright (search (port_room, rules))
+
+pub put-requires : goal.put-requires
+put-requires c = outright (search (address_room, rules))
+
+pub enum_told-in-Third : goal.enum_told-in-Third
+enum_told-in-Third c = outright (search (third_test_room, rules))
+
+pub put-requires-in-Uid : goal.put-requires-in-Uid
+put-requires-in-Uid c = outright (search (uid_room, rules))
+
+pub returns-in-Port : goal.returns-in-Port
+returns-in-Port c = port_folder c.args.file _ _ _ (search rules) c.put.ensures
+
+pub returns-in-Address : goal.returns-in-Address
+returns-in-Address c = address_folder c.args.file _ _ _ (search rules)
+    c.put-in-Address.ensures
+
+pub returns-in-Third : goal.returns-in-Third
+returns-in-Third c = third_folder c.args.file _ _ _ (search rules) c.put-in-Third.ensures
+
+pub returns-in-Uid : goal.returns-in-Uid
+returns-in-Uid c = uid_folder c.args.file _ _ _ (search rules) c.put-in-Uid.ensures

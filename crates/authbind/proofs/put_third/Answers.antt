@@ -1,0 +1,30 @@
+-- `authbind::put_third` meets its contract: a text and the mark behind it, by the kind of address. Assumes nothing.
+use borrow.Author.Rules.{rules}
+use Rattle.text.proofs.Search.{outright}
+use Rattle.authbind.proofs.NameLaws.{text_room, behind_room, text_all, third_v4, third_v6, third_none}
+use Rattle.authbind.proofs.put_third.Goals as goal
+
+pub enum_told-1 : goal.enum_told-1
+enum_told-1 c = outright (search (text_room, third_v4, rules))
+
+pub put_address-colon-requires : goal.put_address-colon-requires
+put_address-colon-requires c = outright (search (behind_room, third_v4, rules))
+
+pub enum_known-addr : goal.enum_known-addr
+enum_known-addr c = outright (search (text_room, third_v6, rules))
+
+pub put-requires-in-V6 : goal.put-requires-in-V6
+put-requires-in-V6 c = outright (search (behind_room, third_v6, rules))
+
+pub returns-in-Unknown : goal.returns-in-Unknown
+returns-in-Unknown c = third_none _ (search rules) _ _
+
+pub returns-in-V4 : goal.returns-in-V4
+returns-in-V4 c = let s = c in
+    text_all _ _ _ _ _ (search (third_v4, rules)) s.requires _ _ c.put_address-colon.ensures _ _
+    c.put.ensures
+
+pub returns-in-V6 : goal.returns-in-V6
+returns-in-V6 c = let s = c in
+    text_all _ _ _ _ _ (search (third_v6, rules)) s.requires _ _ c.put_unabbreviated-comma.ensures _ _
+    c.put-in-V6.ensures

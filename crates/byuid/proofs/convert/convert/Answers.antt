@@ -1,0 +1,15 @@
+-- `byuid::convert::convert` meets its contract: the limit, then room, then the lines. Assumes nothing.
+use Rattle.byuid.proofs.ConvertLaws.{convert_over, convert_no_room, convert_count}
+use Rattle.byuid.proofs.convert.convert.Goals as goal
+
+pub returns-then-over : goal.returns-then-over
+returns-then-over c = convert_over _ _ _ c.over.ensures c.if-over.true _ c.refusal.ensures
+
+pub returns-then-out-text : goal.returns-then-out-text
+returns-then-out-text c = (λ c.
+    convert_no_room _ _ _ c.over.ensures c.if-over.false c.if-out-text.true _ c.placeless.ensures) c
+
+pub returns : goal.returns
+returns c = (λ c.
+    let p = c in
+    convert_count _ _ _ p.over.ensures p.if-over.false p.if-out-text.false _ c.put_lines.ensures) c

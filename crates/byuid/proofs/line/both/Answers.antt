@@ -1,0 +1,8 @@
+-- `byuid::line::both` meets its contract. Assumes nothing.
+use borrow.Author.Rules.{rules}
+use Rattle.text.proofs.Search.{outright}
+use Rattle.byuid.proofs.LineLaws.{both_is}
+use Rattle.byuid.proofs.line.both.Goals as goal
+
+pub returns-in-Is-b : goal.returns-in-Is-b
+returns-in-Is-b c = outright (search (both_is, rules))

@@ -1,0 +1,30 @@
+-- `carry::carry` meets its contract: what is noted is what the list has. Assumes nothing.
+use Rattle.carry.proofs.CarryLaws.{carry_over, carry_bad, carry_root, carry_written}
+use borrow.Author.Rules.{rules}
+use Rattle.carry.proofs.carry.Goals as goal
+
+pub returns-then-over : goal.returns-then-over
+returns-then-over c = carry_over _ _ _ _ _ c.over.ensures c.if-over.true _ c.refusal.ensures
+
+pub returns-then-uid-eq0 : goal.returns-then-uid-eq0
+returns-then-uid-eq0 c = carry_root _ _ _ _ _ c.over.ensures
+    c.if-over.false _
+    c.note_ports.ensures.0 (search rules) c.if-uid-eq0.true _ c.placeless.ensures
+
+pub returns-in-Refused : goal.returns-in-Refused
+returns-in-Refused c = carry_bad _ _ _ _ _ c.over.ensures
+    c.if-over.false _ c.note_ports.ensures.0 _
+    (search rules)
+
+pub returns-else-uid-eq0 : goal.returns-else-uid-eq0
+returns-else-uid-eq0 c = carry_written _ _
+    c.args.plain.now
+    c.args.marked.now
+    _
+    c.over.ensures
+    c.if-over.false
+    _ c.note_ports.ensures.0
+    (search rules) c.if-uid-eq0.false _ _
+    c.note_ports.ensures.1.0
+    c.note_ports.ensures.1.1 _
+    _ _ c.write_texts.ensures

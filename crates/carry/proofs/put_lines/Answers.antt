@@ -1,0 +1,15 @@
+-- `carry::put_lines` meets its contract: the two lines, one after the other. Assumes nothing.
+use Rattle.carry.proofs.SpanLaws.{lines_room, lines_room_2, lines_all}
+use borrow.Author.Rules.{rules}
+use Rattle.text.proofs.Search.{outright}
+use Rattle.carry.proofs.put_lines.Goals as goal
+
+pub put_line-next-requires : goal.put_line-next-requires
+put_line-next-requires c = outright (search (lines_room, rules))
+
+pub put_line-requires : goal.put_line-requires
+put_line-requires c = outright (search (lines_room_2, rules))
+
+pub returns : goal.returns
+returns c = lines_all _ _ _ c.requires _ _
+    c.put_line-next.ensures _ _ c.put_line.ensures

@@ -1,0 +1,17 @@
+-- `carry::write_texts` meets its contract: both are measured before the first byte is written. Assumes nothing.
+use Rattle.carry.proofs.CarryLaws.{no_plain_room, no_marked_room, both_written}
+use Rattle.carry.proofs.write_texts.Goals as goal
+
+pub returns-then-plain-measure : goal.returns-then-plain-measure
+returns-then-plain-measure c = no_plain_room _ _ _ _ c.measure.ensures c.if-plain-measure.true _ c.placeless.ensures
+
+pub returns-then-marked-measure : goal.returns-then-marked-measure
+returns-then-marked-measure c = no_marked_room _ _ _ _ c.measure.ensures c.if-plain-measure.false _
+    c.measure-2.ensures c.if-marked-measure.true _ c.placeless-then-marked-measure.ensures
+
+pub returns : goal.returns
+returns c = both_written _ _ _ _ c.measure.ensures
+    c.if-plain-measure.false _
+    c.measure-2.ensures
+    c.if-marked-measure.false _ _ _ _
+    c.put_span-lower.ensures c.put_span-upper.ensures

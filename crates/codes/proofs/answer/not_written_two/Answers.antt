@@ -1,0 +1,5 @@
+-- The number is the fault's. Assumes nothing.
+use Rattle.codes.proofs.answer.not_written_two.Goals as goal
+
+pub returns : goal.returns
+returns c = rw c.fault_number.ensures

@@ -1,0 +1,5 @@
+-- `directive::has_at` meets its contract, by the states. Assumes nothing.
+use Rattle.expansion.proofs.directive.has_at.Goals as goal
+
+pub returns : goal.returns
+returns c = cc

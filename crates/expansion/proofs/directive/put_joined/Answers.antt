@@ -1,0 +1,29 @@
+-- `directive::put_joined` meets its contract: the name, the `@` and the text one after the other. Assumes nothing.
+use mathlib.Core.Path.{◌∙◌}
+use native.Mathlib.Omega.{arith}
+use lib.ListN.{length-set}
+use Rattle.expansion.proofs.TextLaws.{name_room, at_room, text_room, text_all}
+use Rattle.expansion.proofs.directive.put_joined.Goals as goal
+
+pub put_safe-p-requires : goal.put_safe-p-requires
+put_safe-p-requires c = let s = c in name_room s.args.out.now s.args.name.now s.args.text.now s.args.at s.requires
+
+pub bounds-out-p : goal.bounds-out-p
+bounds-out-p c = let p = c in let s = p in
+    at_room s.args.out.now s.args.name.now s.args.text.now s.args.at s.requires _ _ p.put_safe-p.ensures
+
+pub overflow_add-p : goal.overflow_add-p
+overflow_add-p c = let p = c in let s = p in
+    omega (arith, at_room s.args.out.now s.args.name.now s.args.text.now s.args.at s.requires _ _ p.put_safe-p.ensures)
+
+pub put_safe-requires : goal.put_safe-requires
+put_safe-requires c = let p = c in let s = p in
+    text_room s.args.out.now s.args.name.now s.args.text.now s.args.at s.requires _ _ p.put_safe-p.ensures
+
+pub shape_of-out : goal.shape_of-out
+shape_of-out c = c.put_safe.auto.0 ∙ simp length-set c.put_safe-p.auto.0
+
+pub returns : goal.returns
+returns c = let p = c in let s = p in
+    text_all s.args.out.now s.args.name.now s.args.text.now s.args.at
+    s.requires _ _ p.put_safe-p.ensures _ _ c.put_safe.ensures

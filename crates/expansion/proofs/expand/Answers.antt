@@ -1,0 +1,22 @@
+-- `expand` meets its contract, by its two checks of the joined command. Assumes nothing.
+use native.Mathlib.Omega.{arith}
+use Rattle.elements.specs.Places.{request_at}
+use Rattle.expansion.proofs.CallLaws.{byte_refused, line_length, length_refused, line_written}
+use Rattle.expansion.proofs.expand.Goals as goal
+
+pub expand_line-requires : goal.expand_line-requires
+expand_line-requires c = let a = c.args in
+    line_length a.command.now (request_at a.names.now a.request) a.process a.out.now _ c.joined-measured.ensures
+    (omega (arith, c.if-len-le2047.true))
+
+pub returns-then-len-le2047 : goal.returns-then-len-le2047
+returns-then-len-le2047 c = line_written _ _ _ c.args.out.now _
+    c.joined-measured.ensures c.if-clean.true
+    (omega (arith, c.if-len-le2047.true)) _ _ c.expand_line.ensures
+
+pub returns-then-clean : goal.returns-then-clean
+returns-then-clean c = length_refused _ _ _ _ _ c.joined-measured.ensures c.if-clean.true
+    (omega (arith, c.if-len-le2047.false)) _ c.placeless.ensures
+
+pub returns : goal.returns
+returns c = byte_refused _ _ _ _ _ c.joined-measured.ensures c.if-clean.false _ c.placeless-2.ensures

@@ -1,0 +1,20 @@
+-- `expand_trimmed` meets its contract, by its two checks. Assumes nothing.
+use mathlib.Core.Path.{sym, ◌∙◌}
+use Rattle.expansion.proofs.CallLaws.{percent_refused, request_refused, request_written}
+use Rattle.expansion.proofs.expand_trimmed.Goals as goal
+
+pub returns-then-has_bad_percent : goal.returns-then-has_bad_percent
+returns-then-has_bad_percent c = percent_refused _ _ _ _ _ c.has_bad_percent.ensures c.if-has_bad_percent.true _ c.placeless.ensures
+
+pub expand_request-requires : goal.expand_request-requires
+expand_request-requires c = (c.requires, sym c.fits2.ensures ∙ c.if-fits.true)
+
+pub returns-then-fits : goal.returns-then-fits
+returns-then-fits c = request_written _ _ _ c.args.out.now _
+    c.has_bad_percent.ensures
+    c.if-has_bad_percent.false _ c.fits2.ensures
+    c.if-fits.true _ _ c.expand_request.ensures
+
+pub returns : goal.returns
+returns c = request_refused _ _ _ _ _ c.has_bad_percent.ensures
+    c.if-has_bad_percent.false _ c.fits2.ensures c.if-fits.false _ c.placeless-2.ensures

@@ -1,0 +1,8 @@
+-- The same tests, and one that is false. Assumes nothing.
+use mathlib.Core.Bool.{or_assoc, or-false}
+use Rattle.text.specs.Basics.{any}
+use Rattle.expansion.proofs.is_safe_mark.Goals as goal
+
+pub returns : goal.returns
+unfolding any
+returns c = simp (or_assoc, or-false)

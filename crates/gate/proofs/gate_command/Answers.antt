@@ -1,0 +1,10 @@
+-- A refusal, or what the calls answered together. Assumes nothing.
+use borrow.Author.Rules.{rules}
+use Rattle.gate.proofs.Laws.{command_refused, command_kept, command_answer_lem, command_holds}
+use Rattle.gate.proofs.gate_command.Goals as goal
+
+pub returns-in-Refused : goal.returns-in-Refused
+returns-in-Refused c = (search (command_refused, rules), search (command_kept, rules))
+
+pub returns-in-Answered : goal.returns-in-Answered
+returns-in-Answered c = (search (command_answer_lem, rules), search (command_holds, rules))

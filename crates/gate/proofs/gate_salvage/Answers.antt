@@ -1,0 +1,7 @@
+-- What the call answered, as numbers, and what it wrote. Assumes nothing.
+use borrow.Author.Rules.{rules}
+use Rattle.codes.proofs.AnswerLaws.{written_two_numbers_lem}
+use Rattle.gate.proofs.gate_salvage.Goals as goal
+
+pub returns : goal.returns
+returns c = (search (written_two_numbers_lem, rules), (search rules, search rules))

@@ -1,0 +1,8 @@
+-- What the calls answered, together. Assumes nothing.
+use borrow.Author.Rules.{rules}
+use Rattle.text.proofs.Search.{outright}
+use Rattle.gate.proofs.Laws.{tables_matters_by}
+use Rattle.gate.proofs.gate_tables_name_matters.Goals as goal
+
+pub returns : goal.returns
+returns c = outright (search (tables_matters_by, rules))

@@ -1,0 +1,7 @@
+-- What the calls answered, together. Assumes nothing.
+use borrow.Author.Rules.{rules}
+use Rattle.codes.proofs.AnswerLaws.{written_numbers_lem}
+use Rattle.gate.proofs.gate_verdicts.Goals as goal
+
+pub returns : goal.returns
+returns c = (search (written_numbers_lem, rules), search rules)

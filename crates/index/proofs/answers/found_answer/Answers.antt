@@ -1,0 +1,8 @@
+-- `answers::found_answer` meets its contract. Assumes nothing.
+use borrow.Author.Rules.{rules}
+use Rattle.text.proofs.Search.{outright}
+use Rattle.index.proofs.AnswerLaws.{found_numbers_lem}
+use Rattle.index.proofs.answers.found_answer.Goals as goal
+
+pub returns : goal.returns
+returns c = outright (search (found_numbers_lem, rules))

@@ -1,0 +1,14 @@
+-- `requests::host_at` meets its contract. Assumes nothing.
+use borrow.Author.Rules.{rules}
+use Rattle.text.proofs.Search.{outright}
+use Rattle.index.proofs.RequestLaws.{host_short, host_cut, host_whole}
+use Rattle.index.proofs.requests.host_at.Goals as goal
+
+pub returns-then-bytes-at-lt18 : goal.returns-then-bytes-at-lt18
+returns-then-bytes-at-lt18 c = outright (search (host_short, rules))
+
+pub returns-in-Cut : goal.returns-in-Cut
+returns-in-Cut c = outright (search (host_cut, rules))
+
+pub returns-in-Text : goal.returns-in-Text
+returns-in-Text c = outright (search (host_whole, rules))

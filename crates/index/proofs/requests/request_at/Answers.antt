@@ -1,0 +1,14 @@
+-- `requests::request_at` meets its contract. Assumes nothing.
+use borrow.Author.Rules.{rules}
+use Rattle.text.proofs.Search.{outright}
+use Rattle.index.proofs.RequestLaws.{request_cut, daemon_within, request_whole}
+use Rattle.index.proofs.requests.request_at.Goals as goal
+
+pub client_from-requires : goal.client_from-requires
+client_from-requires c = outright (search (daemon_within, rules))
+
+pub returns-in-Cut : goal.returns-in-Cut
+returns-in-Cut c = outright (search (request_cut, rules))
+
+pub returns-in-Text : goal.returns-in-Text
+returns-in-Text c = outright (search (request_whole, rules))

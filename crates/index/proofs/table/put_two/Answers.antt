@@ -1,0 +1,8 @@
+-- `table::put_two` meets its contract: two numbers, one after the other. Assumes nothing.
+use borrow.Author.Rules.{rules}
+use Rattle.index.proofs.TableLaws.{put_two}
+use Rattle.index.proofs.table.put_two.Goals as goal
+
+pub returns : goal.returns
+returns c = let p₂ = c in let p₁ = p₂ in
+    put_two _ _ _ _ _ _ _ _ (search rules) p₁.put_count-second.ensures p₂.put_count.ensures

@@ -1,0 +1,21 @@
+-- `verdicts` meets its contract. Assumes nothing.
+use borrow.Author.Rules.{rules}
+use Rattle.text.proofs.Search.{outright}
+use Rattle.index.proofs.CallLaws.{verdicts_refused, verdicts_untouched, unpack_is, index_is, verdicts_answer, verdicts_holds, verdicts_wrong}
+use Rattle.index.proofs.CallLaws.{wrong_untouched}
+use Rattle.index.proofs.verdicts.Goals as goal
+
+pub is_index-requires : goal.is_index-requires
+is_index-requires c = outright (search (unpack_is, rules))
+
+pub answer_parts-requires : goal.answer_parts-requires
+answer_parts-requires c = outright (search (unpack_is, index_is, rules))
+
+pub returns-then-is_index : goal.returns-then-is_index
+returns-then-is_index c = (search (verdicts_answer, rules), search (verdicts_holds, rules))
+
+pub returns-in-Refused : goal.returns-in-Refused
+returns-in-Refused c = (search (verdicts_refused, rules), search (verdicts_untouched, rules))
+
+pub returns-else-is_index : goal.returns-else-is_index
+returns-else-is_index c = (search (verdicts_wrong, rules), search (wrong_untouched, rules))

@@ -1,0 +1,14 @@
+-- `write_index` meets its contract. Assumes nothing.
+use borrow.Author.Rules.{rules}
+use Rattle.text.proofs.Search.{outright}
+use Rattle.index.proofs.CallLaws.{write_refused, write_untouched, unpack_is, write_answer, write_holds}
+use Rattle.index.proofs.write_index.Goals as goal
+
+pub write_parts-requires : goal.write_parts-requires
+write_parts-requires c = outright (search (unpack_is, rules))
+
+pub returns-in-Refused : goal.returns-in-Refused
+returns-in-Refused c = (search (write_refused, rules), search (write_untouched, rules))
+
+pub returns-in-Parts : goal.returns-in-Parts
+returns-in-Parts c = (search (write_answer, rules), search (write_holds, rules))

@@ -1,0 +1,14 @@
+use borrow.Author.Rules.{rules}
+use Rattle.text.proofs.ScanLaws.{span_len_end}
+use Rattle.text.proofs.Search.{outright}
+use Rattle.lines.proofs.RuleLaws.{passed_more, passed_stop}
+use Rattle.lines.proofs.command.blank_length.Goals as goal
+
+pub loop-i-preserved : goal.loop-i-preserved
+loop-i-preserved c = outright (search (passed_more, rules))
+
+pub returns-else-is_blank_byte : goal.returns-else-is_blank_byte
+returns-else-is_blank_byte c = outright (search (passed_stop, rules))
+
+pub returns : goal.returns
+returns c = outright (search (span_len_end, rules))

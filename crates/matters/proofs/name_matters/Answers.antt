@@ -1,0 +1,18 @@
+-- `name_matters` meets its contract. Assumes nothing.
+use borrow.Author.Rules.{rules}
+use Rattle.text.proofs.Search.{outright}
+use Rattle.rules.proofs.DecideLaws.{untabled}
+use Rattle.matters.proofs.CallLaws.{texts_unfit, texts_refused, texts_sound, texts_unasked, texts_settled}
+use Rattle.matters.proofs.name_matters.Goals as goal
+
+pub returns-then-not-fits : goal.returns-then-not-fits
+returns-then-not-fits c = outright (search (texts_unfit, rules))
+
+pub settle_by-requires : goal.settle_by-requires
+settle_by-requires c = (search (untabled, rules), (search (texts_sound, rules), search (texts_unasked, rules)))
+
+pub returns-in-Refused : goal.returns-in-Refused
+returns-in-Refused c = outright (search (texts_refused, rules))
+
+pub returns-in-Answered : goal.returns-in-Answered
+returns-in-Answered c = outright (search (texts_settled, rules))

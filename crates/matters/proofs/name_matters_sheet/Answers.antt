@@ -1,0 +1,14 @@
+-- `name_matters_sheet` meets its contract. Assumes nothing.
+use borrow.Author.Rules.{rules}
+use Rattle.text.proofs.Search.{outright}
+use Rattle.matters.proofs.SheetLaws.{sheet_unfit, sheet_fits, sheet_refused, sheet_answered}
+use Rattle.matters.proofs.name_matters_sheet.Goals as goal
+
+pub returns-then-not-fits : goal.returns-then-not-fits
+returns-then-not-fits c = outright (search (sheet_unfit, rules))
+
+pub settle_in_sheet-requires : goal.settle_in_sheet-requires
+settle_in_sheet-requires c = (search (sheet_fits, rules), search (sheet_answered, rules))
+
+pub returns-in-Refused : goal.returns-in-Refused
+returns-in-Refused c = outright (search (sheet_refused, rules))

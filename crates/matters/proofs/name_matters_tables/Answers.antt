@@ -1,0 +1,17 @@
+-- `name_matters_tables` meets its contract. Assumes nothing.
+use borrow.Author.Rules.{rules}
+use Rattle.text.proofs.Search.{outright}
+use Rattle.matters.proofs.CallLaws.{tables_unfit, tables_refused, tables_whole, tables_sound, tables_unasked, tables_settled}
+use Rattle.matters.proofs.name_matters_tables.Goals as goal
+
+pub returns-then-not-fits : goal.returns-then-not-fits
+returns-then-not-fits c = outright (search (tables_unfit, rules))
+
+pub settle_by-requires : goal.settle_by-requires
+settle_by-requires c = (search (tables_whole, rules), (search (tables_sound, rules), search (tables_unasked, rules)))
+
+pub returns-in-Refused : goal.returns-in-Refused
+returns-in-Refused c = outright (search (tables_refused, rules))
+
+pub returns-in-Answered : goal.returns-in-Answered
+returns-in-Answered c = outright (search (tables_settled, rules))

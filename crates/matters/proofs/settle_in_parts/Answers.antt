@@ -1,0 +1,11 @@
+-- `settle_in_parts` meets its contract. Assumes nothing.
+use borrow.Author.Rules.{rules}
+use Rattle.text.proofs.Search.{outright}
+use Rattle.matters.proofs.SheetLaws.{parts_whole, parts_sound, parts_unasked, parts_settled}
+use Rattle.matters.proofs.settle_in_parts.Goals as goal
+
+pub settle_by-requires : goal.settle_by-requires
+settle_by-requires c = (search (parts_whole, rules), (search (parts_sound, rules), search (parts_unasked, rules)))
+
+pub returns : goal.returns
+returns c = outright (search (parts_settled, rules))

@@ -1,0 +1,15 @@
+-- `patterns::net::bracket_seen` meets its contract. The length of a prefix that is read is at most 128. Assumes nothing.
+use borrow.Author.Rules.{rules}
+use Rattle.text.proofs.Search.{outright}
+use Rattle.patterns.proofs.CoverLaws.{bracket_prefix_fits}
+use Rattle.patterns.proofs.SeenLaws.{bracket_unread, bracket_read}
+use Rattle.patterns.proofs.net.bracket_seen.Goals as goal
+
+pub prefix_matches-requires : goal.prefix_matches-requires
+prefix_matches-requires c = outright (search (bracket_prefix_fits, rules))
+
+pub returns-in-Nothing : goal.returns-in-Nothing
+returns-in-Nothing c = outright (search (bracket_unread, rules))
+
+pub returns-in-Prefix : goal.returns-in-Prefix
+returns-in-Prefix c = outright (search (bracket_read, rules))

@@ -1,0 +1,6 @@
+-- `patterns::net::pair_prefix` meets its contract. By what was read of both. Assumes nothing.
+use Rattle.patterns.proofs.NetLaws.{prefix_with_values}
+use Rattle.patterns.proofs.net.pair_prefix.Goals as goal
+
+pub returns-in-Value-length : goal.returns-in-Value-length
+returns-in-Value-length c = prefix_with_values _ _ _ _ _ c.address-1.given.1 c.length-1.given.1

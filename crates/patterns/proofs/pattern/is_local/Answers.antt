@@ -1,0 +1,5 @@
+-- `patterns::pattern::is_local` meets its contract. Only a known name is looked at. Assumes nothing.
+use Rattle.patterns.proofs.pattern.is_local.Goals as goal
+
+pub returns-in-Known : goal.returns-in-Known
+returns-in-Known c = rw c.enum_told-in-Known-1.given.1 c.has_no_dot.ensures

@@ -1,0 +1,12 @@
+-- `portacl::check` meets its contract: what the walk finds is the fault of the text, whoever binds what.
+-- Assumes nothing.
+use Rattle.portacl.proofs.DecideLaws.{check_bad, check_sound}
+use borrow.Author.Rules.{rules}
+use Rattle.text.proofs.Search.{outright}
+use Rattle.portacl.proofs.check.Goals as goal
+
+pub returns-in-Bad : goal.returns-in-Bad
+returns-in-Bad c = outright (search (check_bad, rules))
+
+pub returns-in-Sound : goal.returns-in-Sound
+returns-in-Sound c = outright (search (check_sound, rules))

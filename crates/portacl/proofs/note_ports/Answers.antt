@@ -1,0 +1,20 @@
+use Rattle.portacl.proofs.NoteLaws.{note_empty, notes_empty, noting_start, noting_end, noting_end_tcp, noting_end_udp, noting_bad}
+use Rattle.portacl.proofs.NoteLaws.{noting_bad_tcp, noting_bad_udp, noting_on}
+use borrow.Author.Rules.{rules}
+use Rattle.text.proofs.Search.{outright}
+use Rattle.portacl.proofs.note_ports.Goals as goal
+
+pub returns-then-text-eq0 : goal.returns-then-text-eq0
+returns-then-text-eq0 c = (search (note_empty, rules), (search (notes_empty, rules), search (notes_empty, rules)))
+
+pub loop-at-init : goal.loop-at-init
+loop-at-init c = outright (search (noting_start, rules))
+
+pub returns-in-Nothing : goal.returns-in-Nothing
+returns-in-Nothing c = (search (noting_bad, rules), (search (noting_bad_tcp, rules), search (noting_bad_udp, rules)))
+
+pub loop-at-preserved : goal.loop-at-preserved
+loop-at-preserved c = outright (search (noting_on, rules))
+
+pub returns : goal.returns
+returns c = (search (noting_end, rules), (search (noting_end_tcp, rules), search (noting_end_udp, rules)))

@@ -1,0 +1,27 @@
+-- `portacl::read_id` meets its contract: the part before the first colon is a number, and the protocol follows.
+-- Assumes nothing.
+use mathlib.Core.Path.{sym}
+use lib.Seq.{length-take-le}
+use Rattle.text.specs.Number.{read_decimal}
+use Rattle.portacl.specs.Code.{id_data, protocol_data}
+use Rattle.portacl.proofs.EntryLaws.{parts_none, number_first_none, number_first_some}
+use borrow.Author.Rules.{rules}
+use Rattle.portacl.proofs.read_id.Goals as goal
+
+pub returns-then-colon-s : goal.returns-then-colon-s
+unfolding id_data
+returns-then-colon-s c = let a = c.args in
+    search (parts_none (read_decimal 4294967295) (protocol_data a.group), rules)
+
+pub slice_bounds-read_decimal-end : goal.slice_bounds-read_decimal-end
+slice_bounds-read_decimal-end c = sym (length-take-le _ _ (search rules))
+
+pub returns-in-Nothing : goal.returns-in-Nothing
+unfolding id_data
+returns-in-Nothing c = let a = c.args in
+    search (number_first_none 4294967295 (protocol_data a.group), rules)
+
+pub returns-in-Value : goal.returns-in-Value
+unfolding id_data
+returns-in-Value c = let a = c.args in
+    search (number_first_some 4294967295 (protocol_data a.group), rules)

@@ -1,0 +1,25 @@
+use borrow.Author.Rules.{rules}
+use Rattle.text.proofs.Search.{outright}
+use Rattle.rules.proofs.FileLaws.{passing_start, passing_more, passing_found, passing_end, pass_stop, step_less}
+use Rattle.rules.proofs.hosts_file.pass_lines.Goals as goal
+
+pub loop-i-init : goal.loop-i-init
+loop-i-init c = outright (search (passing_start, rules))
+
+pub returns-in-Faulty : goal.returns-in-Faulty
+returns-in-Faulty c = outright (search (pass_stop, rules))
+
+pub loop-i-smaller-in-Unmatched : goal.loop-i-smaller-in-Unmatched
+loop-i-smaller-in-Unmatched c = outright (search (step_less, rules))
+
+pub loop-i-preserved-in-Unmatched : goal.loop-i-preserved-in-Unmatched
+loop-i-preserved-in-Unmatched c = outright (search (passing_more, rules))
+
+pub loop-i-smaller : goal.loop-i-smaller
+loop-i-smaller c = outright (search (step_less, rules))
+
+pub loop-i-preserved : goal.loop-i-preserved
+loop-i-preserved c = outright (search (passing_found, rules))
+
+pub returns : goal.returns
+returns c = outright (search (passing_end, rules))

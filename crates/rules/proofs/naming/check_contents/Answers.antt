@@ -1,0 +1,17 @@
+-- `naming::check_contents` meets its contract. Assumes nothing.
+use borrow.Author.Rules.{rules}
+use Rattle.text.proofs.Search.{outright}
+use Rattle.rules.proofs.OrderLaws.{contents_sound, contents_faulty, contents_rest, contents_never}
+use Rattle.rules.proofs.naming.check_contents.Goals as goal
+
+pub check_naming-requires : goal.check_naming-requires
+check_naming-requires c = outright (search (contents_sound, rules))
+
+pub returns-in-Faulty : goal.returns-in-Faulty
+returns-in-Faulty c = outright (search (contents_faulty, rules))
+
+pub returns-in-Unmatched : goal.returns-in-Unmatched
+returns-in-Unmatched c = outright (search (contents_rest, rules))
+
+pub returns-in-Matched : goal.returns-in-Matched
+returns-in-Matched c = outright (search (contents_never, rules))

@@ -1,0 +1,17 @@
+-- `rule_framed` meets its contract. Assumes nothing.
+use borrow.Author.Rules.{rules}
+use Rattle.text.proofs.Search.{outright}
+use Rattle.rules.proofs.DecideLaws.{framed_cut, framed_trailing, framed_contents, framed_whole}
+use Rattle.rules.proofs.rule_framed.Goals as goal
+
+pub rule_texts-requires : goal.rule_texts-requires
+rule_texts-requires c = outright (search (framed_whole, rules))
+
+pub returns-in-Cut : goal.returns-in-Cut
+returns-in-Cut c = outright (search (framed_cut, rules))
+
+pub returns-in-Trailing : goal.returns-in-Trailing
+returns-in-Trailing c = outright (search (framed_trailing, rules))
+
+pub returns-in-Sound : goal.returns-in-Sound
+returns-in-Sound c = outright (search (framed_contents, rules))

@@ -1,0 +1,20 @@
+-- `salvage::check_sizes` meets its contract. Assumes nothing.
+use borrow.Author.Rules.{rules}
+use Rattle.text.proofs.Search.{outright}
+use Rattle.salvage.proofs.CallLaws.{over_allow, over_deny, over_byuid, over_portacl, within_limits}
+use Rattle.salvage.proofs.check_sizes.Goals as goal
+
+pub returns-then-over : goal.returns-then-over
+returns-then-over c = outright (search (over_allow, rules))
+
+pub returns-then-over-2 : goal.returns-then-over-2
+returns-then-over-2 c = outright (search (over_deny, rules))
+
+pub returns-then-over-3 : goal.returns-then-over-3
+returns-then-over-3 c = outright (search (over_byuid, rules))
+
+pub returns-then-over-4 : goal.returns-then-over-4
+returns-then-over-4 c = outright (search (over_portacl, rules))
+
+pub returns : goal.returns
+returns c = outright (search (within_limits, rules))

@@ -1,0 +1,26 @@
+-- `salvage::piece::put_entry` meets its contract. Assumes nothing.
+use borrow.Author.Rules.{rules}
+use Rattle.text.proofs.Search.{outright}
+use Rattle.salvage.proofs.PieceLaws.{entry_none, first_room, first_all, comma_room, entry_room, entry_all}
+use Rattle.salvage.proofs.piece.put_entry.Goals as goal
+
+pub returns-then-bad : goal.returns-then-bad
+returns-then-bad c = entry_none _ _ _ _ _ (search rules)
+
+pub put-requires : goal.put-requires
+put-requires c = outright (search (first_room, rules))
+
+pub returns-then-alone : goal.returns-then-alone
+returns-then-alone c = first_all _ _ _ _ _ (search rules) (search rules) _ _ (search rules)
+
+pub put-start-requires : goal.put-start-requires
+put-start-requires c = outright (search (comma_room, rules))
+
+pub put-requires-2 : goal.put-requires-2
+put-requires-2 c = outright (search (entry_room, rules))
+
+pub returns : goal.returns
+returns c = entry_all _ _ _ _ _ c.if-bad.false
+    c.if-alone.false
+    c.requires _ _
+    c.put-start.ensures _ _ c.put-2.ensures

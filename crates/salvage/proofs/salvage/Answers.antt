@@ -1,0 +1,17 @@
+-- `salvage::salvage` meets its contract: the frame, then the texts. Assumes nothing.
+use borrow.Author.Rules.{rules}
+use Rattle.text.proofs.Search.{outright}
+use Rattle.salvage.proofs.CallLaws.{call_small, call_refused, call_done}
+use Rattle.salvage.proofs.salvage.Goals as goal
+
+pub salvage_parts-requires : goal.salvage_parts-requires
+salvage_parts-requires c = outright (search (call_small, rules))
+
+pub returns-in-Refused : goal.returns-in-Refused
+returns-in-Refused c = call_refused _ _ _ _ c.frame.ensures _ (search rules)
+
+pub returns-in-Parts : goal.returns-in-Parts
+returns-in-Parts c = call_done _ c.args.out.now
+    c.args.list.now _
+    c.frame.ensures _ _ _ _
+    c.salvage_parts.ensures c.parts-1.given.1

@@ -1,0 +1,20 @@
+-- `salvage::salvage_texts` meets its contract: section five, then what is written. Assumes nothing.
+use borrow.Author.Rules.{rules}
+use Rattle.text.proofs.Search.{outright}
+use Rattle.salvage.proofs.CallLaws.{five_few, five_short, parts_refused, parts_done}
+use Rattle.salvage.proofs.salvage_texts.Goals as goal
+
+pub naming_notes-notes-requires : goal.naming_notes-notes-requires
+naming_notes-notes-requires c = outright (search (five_few, rules))
+
+pub write_both-requires : goal.write_both-requires
+write_both-requires c = (search rules, search (five_short, rules))
+
+pub returns-in-Refused : goal.returns-in-Refused
+returns-in-Refused c = parts_refused _ _ _ _ _ _ _ _ c.check_five.ensures _ (search rules)
+
+pub returns-in-Sound : goal.returns-in-Sound
+returns-in-Sound c = parts_done _ _ _ _ _ c.args.out.now
+    c.args.list.now _ c.check_five.ensures
+    (search rules) _ c.naming_notes-notes.ensures _ _ _
+    c.write_both.ensures

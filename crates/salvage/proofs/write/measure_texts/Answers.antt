@@ -1,0 +1,25 @@
+-- `salvage::write::measure_texts` meets its contract. Assumes nothing.
+use Rattle.salvage.proofs.CallLaws.{sizes_measured}
+use Rattle.salvage.proofs.write.measure_texts.Goals as goal
+
+pub measure-requires : goal.measure-requires
+measure-requires c = c.requires.allow
+
+pub measure-requires-2 : goal.measure-requires-2
+measure-requires-2 c = c.requires.deny
+
+pub measure-requires-3 : goal.measure-requires-3
+measure-requires-3 c = c.requires.byuid
+
+pub measure-requires-4 : goal.measure-requires-4
+measure-requires-4 c = c.requires.portacl
+
+pub returns : goal.returns
+returns c = (
+      sizes_measured _ _ _ _ _ _ _ _ _ _ c.measure.ensures.0 c.measure-2.ensures.0
+          c.measure-3.ensures.0 c.measure-4.ensures.0,
+      (
+        c.measure.ensures.1,
+        (c.measure-2.ensures.1, (c.measure-3.ensures.1, c.measure-4.ensures.1)),
+      ),
+    )

@@ -1,0 +1,44 @@
+-- `salvage::write_both` meets its contract: all is measured before the first byte is written. Assumes nothing.
+use borrow.Author.Rules.{rules}
+use native.Mathlib.Omega.{arith}
+use Rattle.salvage.proofs.CallLaws.{no_sheet_room, no_list_room, both_grown, both_written}
+use Rattle.salvage.proofs.write_both.Goals as goal
+
+pub returns-then-out-sizes : goal.returns-then-out-sizes
+returns-then-out-sizes c = no_sheet_room _ _ _ _ _ _ _ _ _ c.measure_texts-sizes.ensures.0 _
+    c.check_sizes.ensures (search rules) c.if-out-sizes.true _
+    c.placeless.ensures
+
+pub returns-then-list-measure_list : goal.returns-then-list-measure_list
+returns-then-list-measure_list c = no_list_room _ _ _ _ _ _ _ _ _ c.measure_texts-sizes.ensures.0 _ c.check_sizes.ensures (search rules)
+    c.if-out-sizes.false _ c.measure_list.ensures c.if-list-measure_list.true _ c.placeless-then-list-measure_list.ensures
+
+pub put_sheet-bytes-requires : goal.put_sheet-bytes-requires
+put_sheet-bytes-requires c = (
+      c.requires.0,
+      (
+        c.measure_texts-sizes.ensures.0,
+        c.if-out-sizes.false,
+      ),
+    )
+
+pub put_list-listed-requires : goal.put_list-listed-requires
+put_list-listed-requires c = (
+      c.requires.0,
+      omega (
+        arith,
+        c.measure_list.ensures,
+        c.if-list-measure_list.false,
+      ),
+    )
+
+pub returns-in-Refused : goal.returns-in-Refused
+returns-in-Refused c = both_grown _ _ _ _ _ _ _ _ _ c.measure_texts-sizes.ensures.0 _
+    c.check_sizes.ensures _ (search rules)
+
+pub returns-else-list-measure_list : goal.returns-else-list-measure_list
+returns-else-list-measure_list c = both_written _ _ _ _ _ _ _ _ _ c.measure_texts-sizes.ensures.0 _
+    c.check_sizes.ensures (search rules) c.if-out-sizes.false _
+    c.measure_list.ensures
+    c.if-list-measure_list.false _ _ _ _
+    c.put_sheet-bytes.ensures c.put_list-listed.ensures

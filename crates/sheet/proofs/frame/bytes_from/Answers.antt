@@ -1,0 +1,12 @@
+-- `sheet::frame::bytes_from` meets its contract.
+-- Assumes nothing.
+use borrow.Author.Rules.{rules}
+use Rattle.text.proofs.Search.{outright}
+use Rattle.sheet.proofs.ReadLaws.{past_end, from_place}
+use Rattle.sheet.proofs.frame.bytes_from.Goals as goal
+
+pub returns-then-s-at : goal.returns-then-s-at
+returns-then-s-at c = outright (search (past_end, rules))
+
+pub returns : goal.returns
+returns c = outright (search (from_place, rules))

@@ -1,0 +1,8 @@
+-- `sheet::pack::put_counted` meets its contract: the count, then the text. Assumes nothing.
+use Rattle.sheet.proofs.PackLaws.{put_counted}
+use Rattle.sheet.proofs.pack.put_counted.Goals as goal
+
+pub returns : goal.returns
+returns c = (λ c.
+    let p = c in
+    put_counted _ _ _ _ _ _ _ p.put_count-start.ensures c.put.ensures p.requires) c

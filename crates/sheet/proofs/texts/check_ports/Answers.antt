@@ -1,0 +1,12 @@
+-- `sheet::texts::check_ports` meets its contract.
+-- Assumes nothing.
+use borrow.Author.Rules.{rules}
+use Rattle.text.proofs.Search.{outright}
+use Rattle.sheet.proofs.TextsLaws.{ports_portacl, ports_byuid}
+use Rattle.sheet.proofs.texts.check_ports.Goals as goal
+
+pub returns-in-Refused : goal.returns-in-Refused
+returns-in-Refused c = outright (search (ports_portacl, rules))
+
+pub returns-in-Sound : goal.returns-in-Sound
+returns-in-Sound c = outright (search (ports_byuid, rules))

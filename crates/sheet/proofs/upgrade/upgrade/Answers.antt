@@ -1,0 +1,15 @@
+-- `sheet::upgrade::upgrade` meets its contract: the check, then room, then the sheet. Assumes nothing.
+use borrow.Author.Rules.{rules}
+use Rattle.sheet.proofs.UpgradeLaws.{upgrade_refused, upgrade_no_room, upgrade_count}
+use Rattle.sheet.proofs.upgrade.upgrade.Goals as goal
+
+pub returns-then-out-sheet : goal.returns-then-out-sheet
+returns-then-out-sheet c = upgrade_no_room _ _ c.check_four.ensures (search rules) _ c.if-out-sheet.true _ c.placeless.ensures
+
+pub returns-in-Refused : goal.returns-in-Refused
+returns-in-Refused c = upgrade_refused _ _ c.check_four.ensures _ (search rules) _
+
+pub returns-else-out-sheet : goal.returns-else-out-sheet
+returns-else-out-sheet c = (λ c.
+    let p = c in
+    upgrade_count _ _ p.check_four.ensures (search rules) _ _ _ p.if-out-sheet.false c.put_upgraded.ensures) c

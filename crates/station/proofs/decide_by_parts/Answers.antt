@@ -1,0 +1,14 @@
+-- `decide_by_parts` meets its contract: the command stands within its file, and the file within the sheet. Assumes nothing.
+use borrow.Author.Rules.{rules}
+use Rattle.text.proofs.Search.{outright}
+use Rattle.station.proofs.DecideLaws.{command_fits, parts_doubtful, parts_answered}
+use Rattle.station.proofs.decide_by_parts.Goals as goal
+
+pub in_sheet-requires : goal.in_sheet-requires
+in_sheet-requires c = outright (search (command_fits, rules))
+
+pub returns-in-Doubtful : goal.returns-in-Doubtful
+returns-in-Doubtful c = outright (search (parts_doubtful, rules))
+
+pub returns-in-Answer : goal.returns-in-Answer
+returns-in-Answer c = outright (search (parts_answered, rules))

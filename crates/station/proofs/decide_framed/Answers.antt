@@ -1,0 +1,11 @@
+-- A list that gave a decision is sound, and then the other texts decide whether it stands. Assumes nothing.
+use borrow.Author.Rules.{rules}
+use Rattle.text.proofs.Search.{outright}
+use Rattle.station.proofs.ListLaws.{others_refused, others_sound}
+use Rattle.station.proofs.decide_framed.Goals as goal
+
+pub returns-in-Refused-check_others : goal.returns-in-Refused-check_others
+returns-in-Refused-check_others c = outright (search (others_refused, rules))
+
+pub returns-in-Sound : goal.returns-in-Sound
+returns-in-Sound c = outright (search (others_sound, rules))

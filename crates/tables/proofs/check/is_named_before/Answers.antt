@@ -1,0 +1,11 @@
+-- `check::is_named_before` meets its contract. Assumes nothing.
+use borrow.Author.Rules.{rules}
+use Rattle.text.proofs.Search.{outright}
+use Rattle.tables.proofs.CheckLaws.{before_none, before_found}
+use Rattle.tables.proofs.check.is_named_before.Goals as goal
+
+pub returns-in-Missing : goal.returns-in-Missing
+returns-in-Missing c = outright (search (before_none, rules))
+
+pub returns-in-At : goal.returns-in-At
+returns-in-At c = outright (search (before_found, rules))

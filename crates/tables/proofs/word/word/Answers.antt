@@ -1,0 +1,17 @@
+-- `word::word` meets its contract, by the laws of a span. Assumes nothing.
+use borrow.Author.Rules.{rules}
+use Rattle.text.proofs.Search.{outright}
+use Rattle.tables.proofs.WordLaws.{word_start, word_end, word_part}
+use Rattle.tables.proofs.word.word.Goals as goal
+
+pub slice_bounds-result-count : goal.slice_bounds-result-count
+slice_bounds-result-count c = outright (search (word_start, rules))
+
+pub slice_bounds-result-start : goal.slice_bounds-result-start
+slice_bounds-result-start c = outright (search (word_start, rules))
+
+pub slice_bounds-result-end : goal.slice_bounds-result-end
+slice_bounds-result-end c = outright (search (word_end, rules))
+
+pub returns : goal.returns
+returns c = outright (search (word_part, rules))

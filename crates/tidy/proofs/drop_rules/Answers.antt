@@ -1,0 +1,13 @@
+-- `tidy::drop_rules` meets its contract: the checks, then the rest. Assumes nothing.
+use borrow.Author.Rules.{rules}
+use Rattle.tidy.proofs.CheckLaws.{passed_short, passed_sound, drop_refused, drop_unwritten, drop_made, drop_written}
+use Rattle.tidy.proofs.drop_rules.Goals as goal
+
+pub drop_sound-requires : goal.drop_sound-requires
+drop_sound-requires c = (search (passed_short, rules), search (passed_sound, rules))
+
+pub returns-in-Refused : goal.returns-in-Refused
+returns-in-Refused c = (search (drop_refused, rules), search (drop_unwritten, rules))
+
+pub returns-in-Sound : goal.returns-in-Sound
+returns-in-Sound c = (search (drop_made, rules), search (drop_written, rules))

@@ -1,0 +1,13 @@
+-- `tidy::propose` meets its contract: the checks, then the numbers of the lines that are marked. Assumes nothing.
+use borrow.Author.Rules.{rules}
+use Rattle.tidy.proofs.CheckLaws.{passed_short, passed_sound, propose_refused, propose_unwritten, propose_made, propose_written}
+use Rattle.tidy.proofs.propose.Goals as goal
+
+pub covered_lines-requires : goal.covered_lines-requires
+covered_lines-requires c = (search (passed_short, rules), search (passed_sound, rules))
+
+pub returns-in-Refused : goal.returns-in-Refused
+returns-in-Refused c = (search (propose_refused, rules), search (propose_unwritten, rules))
+
+pub returns-in-Sound : goal.returns-in-Sound
+returns-in-Sound c = (search (propose_made, rules), search (propose_written, rules))

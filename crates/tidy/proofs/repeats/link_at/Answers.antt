@@ -1,0 +1,10 @@
+-- `tidy::repeats::link_at` meets its contract: a number that is no place is 0. Assumes nothing.
+use borrow.Author.Rules.{rules}
+use Rattle.tidy.proofs.RepeatLaws.{link_past, link_some}
+use Rattle.tidy.proofs.repeats.link_at.Goals as goal
+
+pub returns-then-link-gt16384 : goal.returns-then-link-gt16384
+returns-then-link-gt16384 c = (search (link_past, rules), search rules)
+
+pub returns : goal.returns
+returns c = (search (link_some, rules), search rules)

@@ -1,0 +1,11 @@
+-- `level::tally_place` meets its contract. Assumes nothing.
+use borrow.Author.Rules.{rules}
+use Rattle.text.proofs.Search.{outright}
+use Rattle.views.proofs.TallyLaws.{tally_nowhere, tally_there}
+use Rattle.views.proofs.level.tally_place.Goals as goal
+
+pub returns-in-Missing : goal.returns-in-Missing
+returns-in-Missing c = outright (search (tally_nowhere, rules))
+
+pub returns-in-At : goal.returns-in-At
+returns-in-At c = outright (search (tally_there, rules))
