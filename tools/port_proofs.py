@@ -73,6 +73,15 @@ class Function:
         self.at = [it[0] for it in names["asked_at"]]
         self.loops = names["loops"]
         self.changed = names["changed"]
+        self.clauses, self.fields, self.arms, self.known = {}, {}, {}, {}
+        rows = zip(names["places"], names["clauses"], names["arms"], names["typed"])
+        for (old, _, _, _, renamed), clauses, arm, known in rows:
+            self.fields[old] = dict(map(tuple, renamed))
+            self.clauses[old] = clauses["fields"] if clauses else []
+            self.arms[old] = arm
+            self.known[old] = {plain(step): name for name, step in known}
+        self.pre = names["pre"]["fields"] if names["pre"] else []
+        self.asked = names["asked"]
         self.steps = {}
         for old, new in self.places.values():
             if old:
@@ -106,23 +115,92 @@ def turn_paths(body, fn, place, roots):
         if root not in roots:
             return m[0]
         parts = [p for p in parts if p != "before"]
-        out, head = [root], True
-        for p in parts:
-            if head and p not in ("args", "requires", "ranges", "well-formed", "well_formed", "type_inv", "type-inv", "initial", "lifetimes"):
-                new = fn.step(p, place)
-                out.append(new or p)
-            elif head:
-                out.append(p.replace("-", "_"))
-            else:
-                out.append(p)
-            head = False
-        return ".".join(out)
+        if not parts:
+            return root
+        head, rest = parts[0], parts[1:]
+        if head == "requires":
+            return ".".join([root, head] + by_name(rest, fn.pre))
+        if head in ("args", "ranges", "well-formed", "well_formed", "type_inv", "type-inv", "initial", "lifetimes"):
+            return ".".join([root, head.replace("-", "_")] + rest)
+        at = place
+        while at:
+            known = fn.known[at].get(plain(head))
+            if known and rest[:1] == ["given"]:
+                return ".".join([root, "type_inv", known] + rest[1:])
+            arm = fn.arms[at]
+            for new, step, path in arm[2] if arm else []:
+                if plain(step) == plain(head) and rest[: len(path)] == path and path:
+                    return ".".join([root, arm[0], new] + by_name(rest[len(path):], fn.clauses[at]) if new == "ensures" else [root, arm[0], new] + rest[len(path):])
+            at = fn.parent[at]
+        at = place
+        while at and plain(fn.places[at][0]) != plain(head):
+            at = fn.parent[at]
+        if not at:
+            return ".".join([root, fn.step(head, place) or head.replace("-", "_")] + rest)
+        rest = [fn.fields[at].get(p, p) if k == 0 else p for k, p in enumerate(rest)]
+        if rest[:1] == ["ensures"]:
+            rest = rest[:1] + by_name(rest[1:], fn.clauses[at])
+        return ".".join([root, fn.places[at][1]] + rest)
 
     return re.sub(rf"(?<![^\s(){{}},\[]) *({ID})((?:\.{ID})+)".replace(" *", ""), turn, body)
 
 
-def drop_outright(body):
-    return body
+def by_name(path, fields):
+    """A path into nested pairs, by the names of the clauses that these were made."""
+    n = len(fields)
+    if n < 2 or not path or not path[0].isdigit():
+        return [p.replace("-", "_") if k == 0 and not p.isdigit() and fields else p for k, p in enumerate(path)]
+    if int(path[0]) > 1:
+        return [fields[int(path[0])]] + path[1:]
+    for k in range(n):
+        pairs = ["1"] * k + ["0"] * (k < n - 1)
+        if path[: len(pairs)] == pairs:
+            return [fields[k]] + path[len(pairs):]
+    return [fields[1]] + path[1:]
+
+
+def parts_of(term):
+    """The parts of a pair, or None."""
+    term = term.strip()
+    if not (term.startswith("(") and atoms(term) == [term]):
+        return None
+    found, depth, last = [], 0, 1
+    for k, ch in enumerate(term):
+        depth += {"(": 1, "{": 1, "[": 1, ")": -1, "}": -1, "]": -1}.get(ch, 0)
+        if ch == "," and depth == 1:
+            found.append(term[last:k])
+            last = k + 1
+    found.append(term[last:-1])
+    return found if len(found) > 1 else None
+
+
+def as_record(term, fields):
+    """An answer to several clauses, which were nested pairs, as a record of them."""
+    n = len(fields)
+    lead = re.match(r"(?s)((?:let .*? in\s+)*)(.*)", term)
+    head, body = ("", term)
+    if term.startswith("let "):
+        at = term.rfind(" in ") if " in " in term else -1
+        at = max(at, term.rfind(" in\n"))
+        head, body = term[: at + 4], term[at + 4 :]
+    found = parts_of(body)
+    values = []
+    while found and len(values) < n:
+        if len(found) == n - len(values):
+            values += found
+            break
+        values.append(found[0])
+        if len(values) == n - 1:
+            values.append(", ".join(found[1:]))
+            break
+        found = parts_of(found[1]) if len(found) == 2 else None
+    if len(values) == n:
+        return head + "record { " + "; ".join(f"{f} = {v.strip()}" for f, v in zip(fields, values)) + " }"
+    word = body.strip().lstrip("(").split()[0]
+    if word in ("search", "outright", "absurd", "elim", "cc", "omega", "grind", "record") or found:
+        return term
+    path = lambda k: ".".join(["both"] + ["1"] * k + ["0"] * (k < n - 1))
+    return head + f"let both = {body.strip()} in record {{ " + "; ".join(f"{f} = {path(k)}" for k, f in enumerate(fields)) + " }"
 
 
 def is_plain(body):
@@ -219,6 +297,8 @@ def convert(path, names, crate, module):
         term = turn_paths(term, fn, place, {root})
         if root != "c":
             term = re.sub(rf"(?<![^\s(){{}},\[]){re.escape(root)}(?![^\s(){{}},.\]])", "c", term)
+        if len(fn.asked.get(old, [])) > 1:
+            term = as_record(term, fn.asked[old])
         answers.append(f"pub {new} : goal.{new}\n" + (opened[0] + "\n" if opened else "") + f"{new} c = {term}")
     for name, decl in own.items():
         if name not in used:

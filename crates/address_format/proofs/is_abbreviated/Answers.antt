@@ -13,4 +13,4 @@ longest_run-longest-requires c = ap length c.groups-each.ensures ∙ length_to_d
 
 pub returns : goal.returns
 returns c = let g = c in
-    rw (← g.groups-each.ensures) (is_abbreviated _ _ c.longest_run-longest.ensures.0 (ap length g.groups-each.ensures ∙ length_to_digits 65536 8 _))
+    rw (← g.groups-each.ensures) (is_abbreviated _ _ c.longest_run-longest.ensures.run (ap length g.groups-each.ensures ∙ length_to_digits 65536 8 _))

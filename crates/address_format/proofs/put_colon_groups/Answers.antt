@@ -13,4 +13,4 @@ pub loop-i-preserved : goal.loop-i-preserved
 loop-i-preserved c = outright (search (groups_step, rules))
 
 pub returns : goal.returns
-returns c = groups_end _ _ _ c.requires _ _ _ c.loop-i.invariant c.loop-i-test.false
+returns c = let both = groups_end _ _ _ c.requires _ _ _ c.loop-i.invariant c.loop-i-test.false in record { next = both.0; written = both.1 }

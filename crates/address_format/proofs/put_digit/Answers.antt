@@ -4,7 +4,7 @@ use Rattle.address_format.proofs.WriteLaws.{wrote_low, wrote_high}
 use Rattle.address_format.proofs.put_digit.Goals as goal
 
 pub returns-then-d-lt10 : goal.returns-then-d-lt10
-returns-then-d-lt10 c = wrote_low _ _ _ (search rules) (search rules)
+returns-then-d-lt10 c = let both = wrote_low _ _ _ (search rules) (search rules) in record { next = both.0; written = both.1 }
 
 pub returns : goal.returns
-returns c = wrote_high _ _ _ (search rules) (search rules)
+returns c = let both = wrote_high _ _ _ (search rules) (search rules) in record { next = both.0; written = both.1 }

@@ -13,4 +13,4 @@ shape_of-out c = c.put_decimal.auto.0 ∙ simp length-set
 
 pub returns : goal.returns
 returns c = let b = c in
-    byte_all b.args.out.now (decimal b.args.n) b.args.at 46 b.requires _ _ c.put_decimal.ensures
+let both = byte_all b.args.out.now (decimal b.args.n) b.args.at 46 b.requires _ _ c.put_decimal.ensures in record { next = both.0; written = both.1 }

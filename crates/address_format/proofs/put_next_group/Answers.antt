@@ -13,4 +13,4 @@ shape_of-out c = c.put_group.auto.0 ∙ simp length-set
 
 pub returns : goal.returns
 returns c = let b = c in
-    byte_all b.args.out.now (numeral 16 4 b.args.g) b.args.at 58 b.requires _ _ c.put_group.ensures
+let both = byte_all b.args.out.now (numeral 16 4 b.args.g) b.args.at 58 b.requires _ _ c.put_group.ensures in record { next = both.0; written = both.1 }

@@ -28,5 +28,5 @@ returns c = let p4 = c in
     let p2 = p3 in
     let p1 = p2 in
     let b = p1 in
-    fields_all _ _ _ (search rules)
-    b.requires _ _ p1.put_decimal-p.ensures _ _ p2.put_next_field-q.ensures _ _ p3.put_next_field-s.ensures _ _ p4.put_next_field.ensures
+let both = fields_all _ _ _ (search rules)
+    b.requires _ _ p1.put_decimal-p.ensures _ _ p2.put_next_field-q.ensures _ _ p3.put_next_field-s.ensures _ _ p4.put_next_field.ensures in record { next = both.0; written = both.1 }

@@ -10,7 +10,7 @@ pub put_address-n-requires : goal.put_address-n-requires
 put_address-n-requires c = omega (arith, length_addr_text c.args.a)
 
 pub returns-then-out-n : goal.returns-then-out-n
-returns-then-out-n c = write_refused _ _ _ _ c.put_address-n.ensures _ c.if-out-n.true _ c.placeless.ensures
+returns-then-out-n c = let both = write_refused _ _ _ _ c.put_address-n.ensures _ c.if-out-n.true _ c.placeless.ensures in record { answer = both.0; holds = both.1 }
 
 pub slice_bounds-buffer-end : goal.slice_bounds-buffer-end
 slice_bounds-buffer-end c = buffer_within _ _ _ _ c.put_address-n.ensures refl
@@ -25,5 +25,5 @@ put-count-requires c = omega (
       (buffer_within _ _ _ _ c.put_address-n.ensures refl),
 
 pub returns : goal.returns
-returns c = write_count _ _ _ _ c.put_address-n.ensures _
-    c.if-out-n.false _ _ c.put-count.ensures
+returns c = let both = write_count _ _ _ _ c.put_address-n.ensures _
+    c.if-out-n.false _ _ c.put-count.ensures in record { answer = both.0; holds = both.1 }

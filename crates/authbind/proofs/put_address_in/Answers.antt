@@ -15,15 +15,15 @@ pub put_third-requires : goal.put_third-requires
 put_third-requires c = outright (search (third_in_room, rules))
 
 pub returns-in-Port : goal.returns-in-Port
-returns-in-Port c = in_port _ _ (search rules) _ _
+returns-in-Port c = let both = in_port _ _ (search rules) _ _ in record { next = both.0; written = both.1 }
 
 pub returns-in-Address : goal.returns-in-Address
 returns-in-Address c = let s = c in
-    text_all _ _ _ _ _ (in_address _ _ (search rules)) s.requires _ _ c.put_address-comma.ensures _ _
-    c.put.ensures
+let both = text_all _ _ _ _ _ (in_address _ _ (search rules)) s.requires _ _ c.put_address-comma.ensures _ _
+    c.put.ensures in record { next = both.0; written = both.1 }
 
 pub returns-in-Third : goal.returns-in-Third
-returns-in-Third c = third_in _ _ _ _ (search rules) _ _ c.put_third.ensures
+returns-in-Third c = let both = third_in _ _ _ _ (search rules) _ _ c.put_third.ensures in record { next = both.0; written = both.1 }
 
 pub returns-in-Uid : goal.returns-in-Uid
-returns-in-Uid c = in_uid _ _ (search rules) _ _
+returns-in-Uid c = let both = in_uid _ _ (search rules) _ _ in record { next = both.0; written = both.1 }

@@ -8,8 +8,8 @@ pub put-requires : goal.put-requires
 put-requires c = outright (search (mark_room, rules))
 
 pub returns-then-port : goal.returns-then-port
-returns-then-port c = marked _ c.args.port _ c.if-port.true _ _
-    c.put.ensures
+returns-then-port c = let both = marked _ c.args.port _ c.if-port.true _ _
+    c.put.ensures in record { next = both.0; written = both.1 }
 
 pub returns : goal.returns
-returns c = unmarked _ c.args.port _ c.if-port.false
+returns c = let both = unmarked _ c.args.port _ c.if-port.false in record { next = both.0; written = both.1 }

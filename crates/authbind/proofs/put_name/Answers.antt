@@ -27,5 +27,5 @@ returns c = let n = c in
     let a = n in
     let m = a in
     let f = m in
-    name_all _ _ _ _ _ f.requires _ _ f.put_folder-mark.ensures _ _ m.put_mark-leaf.ensures _ _ a.put_address_in-number.ensures _
-    n.number_in.ensures _ _ c.put_decimal.ensures
+let both = name_all _ _ _ _ _ f.requires _ _ f.put_folder-mark.ensures _ _ m.put_mark-leaf.ensures _ _ a.put_address_in-number.ensures _
+    n.number_in.ensures _ _ c.put_decimal.ensures in record { next = both.0; written = both.1 }

@@ -17,14 +17,14 @@ pub put-requires-in-V6 : goal.put-requires-in-V6
 put-requires-in-V6 c = outright (search (behind_room, third_v6, rules))
 
 pub returns-in-Unknown : goal.returns-in-Unknown
-returns-in-Unknown c = third_none _ (search rules) _ _
+returns-in-Unknown c = let both = third_none _ (search rules) _ _ in record { next = both.0; written = both.1 }
 
 pub returns-in-V4 : goal.returns-in-V4
 returns-in-V4 c = let s = c in
-    text_all _ _ _ _ _ (search (third_v4, rules)) s.requires _ _ c.put_address-colon.ensures _ _
-    c.put.ensures
+let both = text_all _ _ _ _ _ (search (third_v4, rules)) s.requires _ _ c.put_address-colon.ensures _ _
+    c.put.ensures in record { next = both.0; written = both.1 }
 
 pub returns-in-V6 : goal.returns-in-V6
 returns-in-V6 c = let s = c in
-    text_all _ _ _ _ _ (search (third_v6, rules)) s.requires _ _ c.put_unabbreviated-comma.ensures _ _
-    c.put-in-V6.ensures
+let both = text_all _ _ _ _ _ (search (third_v6, rules)) s.requires _ _ c.put_unabbreviated-comma.ensures _ _
+    c.put-in-V6.ensures in record { next = both.0; written = both.1 }

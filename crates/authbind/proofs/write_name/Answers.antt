@@ -12,7 +12,7 @@ put_name-n-requires c = omega (
       c.args.uid,
 
 pub returns-then-out-n : goal.returns-then-out-n
-returns-then-out-n c = name_refused _ _ _ _ c.put_name-n.ensures _ c.if-out-n.true _ c.placeless.ensures
+returns-then-out-n c = let both = name_refused _ _ _ _ c.put_name-n.ensures _ c.if-out-n.true _ c.placeless.ensures in record { answer = both.0; holds = both.1 }
 
 pub slice_bounds-buffer-end : goal.slice_bounds-buffer-end
 slice_bounds-buffer-end c = buffer_within _ _ _ _ c.put_name-n.ensures (length_name _ _ _ _)
@@ -27,5 +27,5 @@ put-count-requires c = omega (
       (buffer_within _ _ _ _ c.put_name-n.ensures (length_name _ _ _ _)),
 
 pub returns : goal.returns
-returns c = name_count _ _ _ _ c.put_name-n.ensures _
-    c.if-out-n.false _ _ c.put-count.ensures
+returns c = let both = name_count _ _ _ _ c.put_name-n.ensures _
+    c.if-out-n.false _ _ c.put-count.ensures in record { answer = both.0; holds = both.1 }

@@ -4,27 +4,27 @@ use borrow.Author.Rules.{rules}
 use Rattle.carry.proofs.carry.Goals as goal
 
 pub returns-then-over : goal.returns-then-over
-returns-then-over c = carry_over _ _ _ _ _ c.over.ensures c.if-over.true _ c.refusal.ensures
+returns-then-over c = let both = carry_over _ _ _ _ _ c.over.ensures c.if-over.true _ c.refusal.ensures in record { answer = both.0; lower = both.1.0; upper = both.1.1 }
 
 pub returns-then-uid-eq0 : goal.returns-then-uid-eq0
-returns-then-uid-eq0 c = carry_root _ _ _ _ _ c.over.ensures
+returns-then-uid-eq0 c = let both = carry_root _ _ _ _ _ c.over.ensures
     c.if-over.false _
-    c.note_ports.ensures.0 (search rules) c.if-uid-eq0.true _ c.placeless.ensures
+    c.note_ports.ensures.answer (search rules) c.if-uid-eq0.true _ c.placeless.ensures in record { answer = both.0; lower = both.1.0; upper = both.1.1 }
 
 pub returns-in-Refused : goal.returns-in-Refused
-returns-in-Refused c = carry_bad _ _ _ _ _ c.over.ensures
-    c.if-over.false _ c.note_ports.ensures.0 _
-    (search rules)
+returns-in-Refused c = let both = carry_bad _ _ _ _ _ c.over.ensures
+    c.if-over.false _ c.note_ports.ensures.answer _
+    (search rules) in record { answer = both.0; lower = both.1.0; upper = both.1.1 }
 
 pub returns-else-uid-eq0 : goal.returns-else-uid-eq0
-returns-else-uid-eq0 c = carry_written _ _
+returns-else-uid-eq0 c = let both = carry_written _ _
     c.args.plain.now
     c.args.marked.now
     _
     c.over.ensures
     c.if-over.false
-    _ c.note_ports.ensures.0
+    _ c.note_ports.ensures.answer
     (search rules) c.if-uid-eq0.false _ _
-    c.note_ports.ensures.1.0
-    c.note_ports.ensures.1.1 _
-    _ _ c.write_texts.ensures
+    c.note_ports.ensures.over_tcp
+    c.note_ports.ensures.over_udp _
+    _ _ c.write_texts.ensures in record { answer = both.0; lower = both.1.0; upper = both.1.1 }

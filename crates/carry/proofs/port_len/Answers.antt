@@ -11,7 +11,7 @@ pub overflow_add-result : goal.overflow_add-result
 overflow_add-result c = omega (arith, ten_digits _ _ c.decimal_len.ensures)
 
 pub returns-then-is_in_both : goal.returns-then-is_in_both
-returns-then-is_in_both c = (search (len_there, rules), search (few_digits, rules))
+returns-then-is_in_both c = record { count = search (len_there, rules); few = search (few_digits, rules) }
 
 pub returns : goal.returns
-returns c = (search (len_none, rules), search rules)
+returns c = record { count = search (len_none, rules); few = search rules }

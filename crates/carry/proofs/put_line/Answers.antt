@@ -15,6 +15,6 @@ put-requires c = line_room_3 _ _ _ _ c.requires _ _
     c.put-number.ensures _ _ c.put_decimal-end.ensures
 
 pub returns : goal.returns
-returns c = line_all _ _ _ _ c.requires _ _
+returns c = let both = line_all _ _ _ _ c.requires _ _
     c.put-number.ensures _ _
-    c.put_decimal-end.ensures _ _ c.put.ensures
+    c.put_decimal-end.ensures _ _ c.put.ensures in record { next = both.0; written = both.1 }

@@ -11,5 +11,5 @@ pub put_line-requires : goal.put_line-requires
 put_line-requires c = outright (search (lines_room_2, rules))
 
 pub returns : goal.returns
-returns c = lines_all _ _ _ c.requires _ _
-    c.put_line-next.ensures _ _ c.put_line.ensures
+returns c = let both = lines_all _ _ _ c.requires _ _
+    c.put_line-next.ensures _ _ c.put_line.ensures in record { next = both.0; written = both.1 }

@@ -7,10 +7,10 @@ pub loop-k-init : goal.loop-k-init
 loop-k-init c = outright (search (putting_start, rules))
 
 pub put_port-next-requires : goal.put_port-next-requires
-put_port-next-requires c = (search rules, search (putting_room, rules))
+put_port-next-requires c = record { span = search rules; room = search (putting_room, rules) }
 
 pub loop-k-preserved : goal.loop-k-preserved
 loop-k-preserved c = outright (search (putting_on, rules))
 
 pub returns : goal.returns
-returns c = (search (putting_end, rules), search (putting_text, rules))
+returns c = record { next = search (putting_end, rules); written = search (putting_text, rules) }

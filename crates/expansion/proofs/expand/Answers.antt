@@ -10,13 +10,13 @@ expand_line-requires c = let a = c.args in
     (omega (arith, c.if-len-le2047.true))
 
 pub returns-then-len-le2047 : goal.returns-then-len-le2047
-returns-then-len-le2047 c = line_written _ _ _ c.args.out.now _
+returns-then-len-le2047 c = let both = line_written _ _ _ c.args.out.now _
     c.joined-measured.ensures c.if-clean.true
-    (omega (arith, c.if-len-le2047.true)) _ _ c.expand_line.ensures
+    (omega (arith, c.if-len-le2047.true)) _ _ c.expand_line.ensures in record { answer = both.0; holds = both.1 }
 
 pub returns-then-clean : goal.returns-then-clean
-returns-then-clean c = length_refused _ _ _ _ _ c.joined-measured.ensures c.if-clean.true
-    (omega (arith, c.if-len-le2047.false)) _ c.placeless.ensures
+returns-then-clean c = let both = length_refused _ _ _ _ _ c.joined-measured.ensures c.if-clean.true
+    (omega (arith, c.if-len-le2047.false)) _ c.placeless.ensures in record { answer = both.0; holds = both.1 }
 
 pub returns : goal.returns
-returns c = byte_refused _ _ _ _ _ c.joined-measured.ensures c.if-clean.false _ c.placeless-2.ensures
+returns c = let both = byte_refused _ _ _ _ _ c.joined-measured.ensures c.if-clean.false _ c.placeless-2.ensures in record { answer = both.0; holds = both.1 }

@@ -32,9 +32,9 @@ write_expansion-requires c = let b = c in
 pub returns : goal.returns
 returns c = let b = c in
     let a = b.args in
-    request_gave a.request a.names.now _ _ _ _ _ _ _ _ _ a.process
+let both = request_gave a.request a.names.now _ _ _ _ _ _ _ _ _ a.process
     c.put-w.ensures
     c.put_address-a.ensures
     c.put_address-b.ensures
     c.put_decimal-n.ensures _ c.given_at.ensures
-    a.out.now _ a.t.now _ c.write_expansion.ensures
+    a.out.now _ a.t.now _ c.write_expansion.ensures in record { answer = both.0; holds = both.1 }

@@ -4,17 +4,17 @@ use Rattle.expansion.proofs.CallLaws.{percent_refused, request_refused, request_
 use Rattle.expansion.proofs.expand_trimmed.Goals as goal
 
 pub returns-then-has_bad_percent : goal.returns-then-has_bad_percent
-returns-then-has_bad_percent c = percent_refused _ _ _ _ _ c.has_bad_percent.ensures c.if-has_bad_percent.true _ c.placeless.ensures
+returns-then-has_bad_percent c = let both = percent_refused _ _ _ _ _ c.has_bad_percent.ensures c.if-has_bad_percent.true _ c.placeless.ensures in record { answer = both.0; holds = both.1 }
 
 pub expand_request-requires : goal.expand_request-requires
 expand_request-requires c = (c.requires, sym c.fits2.ensures ∙ c.if-fits.true)
 
 pub returns-then-fits : goal.returns-then-fits
-returns-then-fits c = request_written _ _ _ c.args.out.now _
+returns-then-fits c = let both = request_written _ _ _ c.args.out.now _
     c.has_bad_percent.ensures
     c.if-has_bad_percent.false _ c.fits2.ensures
-    c.if-fits.true _ _ c.expand_request.ensures
+    c.if-fits.true _ _ c.expand_request.ensures in record { answer = both.0; holds = both.1 }
 
 pub returns : goal.returns
-returns c = request_refused _ _ _ _ _ c.has_bad_percent.ensures
-    c.if-has_bad_percent.false _ c.fits2.ensures c.if-fits.false _ c.placeless-2.ensures
+returns c = let both = request_refused _ _ _ _ _ c.has_bad_percent.ensures
+    c.if-has_bad_percent.false _ c.fits2.ensures c.if-fits.false _ c.placeless-2.ensures in record { answer = both.0; holds = both.1 }

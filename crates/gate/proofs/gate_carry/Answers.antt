@@ -4,4 +4,4 @@ use Rattle.codes.proofs.AnswerLaws.{written_two_numbers_lem}
 use Rattle.gate.proofs.gate_carry.Goals as goal
 
 pub returns : goal.returns
-returns c = (search (written_two_numbers_lem, rules), (search rules, search rules))
+returns c = record { answer = search (written_two_numbers_lem, rules); lower = search rules; upper = search rules }

@@ -4,4 +4,4 @@ use Rattle.gate.proofs.Laws.{expand_answer, expand_holds}
 use Rattle.gate.proofs.gate_expand.Goals as goal
 
 pub returns : goal.returns
-returns c = (search (expand_answer, rules), search (expand_holds, rules))
+returns c = record { answer = search (expand_answer, rules); holds = search (expand_holds, rules) }

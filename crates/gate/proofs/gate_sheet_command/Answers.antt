@@ -4,7 +4,7 @@ use Rattle.gate.proofs.Laws.{sheet_command_refused, sheet_command_kept, sheet_co
 use Rattle.gate.proofs.gate_sheet_command.Goals as goal
 
 pub returns-in-Refused : goal.returns-in-Refused
-returns-in-Refused c = (search (sheet_command_refused, rules), search (sheet_command_kept, rules))
+returns-in-Refused c = record { answer = search (sheet_command_refused, rules); holds = search (sheet_command_kept, rules) }
 
 pub returns-in-Answered : goal.returns-in-Answered
-returns-in-Answered c = (search (sheet_command_answer, rules), search (sheet_command_holds, rules))
+returns-in-Answered c = record { answer = search (sheet_command_answer, rules); holds = search (sheet_command_holds, rules) }

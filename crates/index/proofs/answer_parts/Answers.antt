@@ -5,13 +5,13 @@ use Rattle.index.proofs.CallLaws.{all_unparted, unparted_untouched, all_no_room,
 use Rattle.index.proofs.answer_parts.Goals as goal
 
 pub returns-then-out-n : goal.returns-then-out-n
-returns-then-out-n c = (search (all_no_room, rules), search (no_room_untouched, rules))
+returns-then-out-n c = record { answer = search (all_no_room, rules); holds = search (no_room_untouched, rules) }
 
 pub put_answers-requires : goal.put_answers-requires
 put_answers-requires c = outright (search (all_fitting, rules))
 
 pub returns-in-Unparted : goal.returns-in-Unparted
-returns-in-Unparted c = (search (all_unparted, rules), search (unparted_untouched, rules))
+returns-in-Unparted c = record { answer = search (all_unparted, rules); holds = search (unparted_untouched, rules) }
 
 pub returns-else-out-n : goal.returns-else-out-n
-returns-else-out-n c = (search (all_count, rules), search (all_text_lem, rules))
+returns-else-out-n c = record { answer = search (all_count, rules); holds = search (all_text_lem, rules) }

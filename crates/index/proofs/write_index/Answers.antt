@@ -8,7 +8,7 @@ pub write_parts-requires : goal.write_parts-requires
 write_parts-requires c = outright (search (unpack_is, rules))
 
 pub returns-in-Refused : goal.returns-in-Refused
-returns-in-Refused c = (search (write_refused, rules), search (write_untouched, rules))
+returns-in-Refused c = record { answer = search (write_refused, rules); holds = search (write_untouched, rules) }
 
 pub returns-in-Parts : goal.returns-in-Parts
-returns-in-Parts c = (search (write_answer, rules), search (write_holds, rules))
+returns-in-Parts c = record { answer = search (write_answer, rules); holds = search (write_holds, rules) }

@@ -11,10 +11,10 @@ pub count_rules-of_deny-requires : goal.count_rules-of_deny-requires
 count_rules-of_deny-requires c = outright (search (deny_fits, rules))
 
 pub returns-then-out-of_allow : goal.returns-then-out-of_allow
-returns-then-out-of_allow c = (search (index_no_room, rules), search (index_untouched, rules))
+returns-then-out-of_allow c = record { answer = search (index_no_room, rules); holds = search (index_untouched, rules) }
 
 pub put_index-requires : goal.put_index-requires
 put_index-requires c = outright (search (allow_fits, deny_fits, index_room, rules))
 
 pub returns : goal.returns
-returns c = (search (index_count, rules), search (index_text, rules))
+returns c = record { answer = search (index_count, rules); holds = search (index_text, rules) }

@@ -5,16 +5,16 @@ use Rattle.text.proofs.Search.{outright}
 use Rattle.portacl.proofs.note_ports.Goals as goal
 
 pub returns-then-text-eq0 : goal.returns-then-text-eq0
-returns-then-text-eq0 c = (search (note_empty, rules), (search (notes_empty, rules), search (notes_empty, rules)))
+returns-then-text-eq0 c = record { answer = search (note_empty, rules); over_tcp = search (notes_empty, rules); over_udp = search (notes_empty, rules) }
 
 pub loop-at-init : goal.loop-at-init
 loop-at-init c = outright (search (noting_start, rules))
 
 pub returns-in-Nothing : goal.returns-in-Nothing
-returns-in-Nothing c = (search (noting_bad, rules), (search (noting_bad_tcp, rules), search (noting_bad_udp, rules)))
+returns-in-Nothing c = record { answer = search (noting_bad, rules); over_tcp = search (noting_bad_tcp, rules); over_udp = search (noting_bad_udp, rules) }
 
 pub loop-at-preserved : goal.loop-at-preserved
 loop-at-preserved c = outright (search (noting_on, rules))
 
 pub returns : goal.returns
-returns c = (search (noting_end, rules), (search (noting_end_tcp, rules), search (noting_end_udp, rules)))
+returns c = record { answer = search (noting_end, rules); over_tcp = search (noting_end_tcp, rules); over_udp = search (noting_end_udp, rules) }

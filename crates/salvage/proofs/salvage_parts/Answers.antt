@@ -9,11 +9,11 @@ salvage_texts-requires c = texts_small c.args.sheet.now
     c.part_of-4.ensures c.part_of-5.ensures c.requires
 
 pub returns : goal.returns
-returns c = texts_done c.args.sheet.now c.args.parts _
+returns c = let both = texts_done c.args.sheet.now c.args.parts _
     _ _ _ _ c.part_of.ensures
     c.part_of-2.ensures
     c.part_of-3.ensures c.part_of-4.ensures
     c.part_of-5.ensures
     c.args.out.now
     c.args.list.now _ _ _
-    c.salvage_texts.ensures
+    c.salvage_texts.ensures in record { answer = both.0; sheet = both.1.0; changes = both.1.1 }

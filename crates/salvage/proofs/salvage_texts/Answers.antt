@@ -8,13 +8,13 @@ pub naming_notes-notes-requires : goal.naming_notes-notes-requires
 naming_notes-notes-requires c = outright (search (five_few, rules))
 
 pub write_both-requires : goal.write_both-requires
-write_both-requires c = (search rules, search (five_short, rules))
+write_both-requires c = record { small = search rules; tables_len_bound = search (five_short, rules) }
 
 pub returns-in-Refused : goal.returns-in-Refused
-returns-in-Refused c = parts_refused _ _ _ _ _ _ _ _ c.check_five.ensures _ (search rules)
+returns-in-Refused c = let both = parts_refused _ _ _ _ _ _ _ _ c.check_five.ensures _ (search rules) in record { answer = both.0; sheet = both.1.0; changes = both.1.1 }
 
 pub returns-in-Sound : goal.returns-in-Sound
-returns-in-Sound c = parts_done _ _ _ _ _ c.args.out.now
+returns-in-Sound c = let both = parts_done _ _ _ _ _ c.args.out.now
     c.args.list.now _ c.check_five.ensures
     (search rules) _ c.naming_notes-notes.ensures _ _ _
-    c.write_both.ensures
+    c.write_both.ensures in record { answer = both.0; sheet = both.1.0; changes = both.1.1 }

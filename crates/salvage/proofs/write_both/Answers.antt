@@ -5,40 +5,34 @@ use Rattle.salvage.proofs.CallLaws.{no_sheet_room, no_list_room, both_grown, bot
 use Rattle.salvage.proofs.write_both.Goals as goal
 
 pub returns-then-out-sizes : goal.returns-then-out-sizes
-returns-then-out-sizes c = no_sheet_room _ _ _ _ _ _ _ _ _ c.measure_texts-sizes.ensures.0 _
+returns-then-out-sizes c = let both = no_sheet_room _ _ _ _ _ _ _ _ _ c.measure_texts-sizes.ensures.sizes _
     c.check_sizes.ensures (search rules) c.if-out-sizes.true _
-    c.placeless.ensures
+    c.placeless.ensures in record { answer = both.0; sheet = both.1.0; changes = both.1.1 }
 
 pub returns-then-list-measure_list : goal.returns-then-list-measure_list
-returns-then-list-measure_list c = no_list_room _ _ _ _ _ _ _ _ _ c.measure_texts-sizes.ensures.0 _ c.check_sizes.ensures (search rules)
-    c.if-out-sizes.false _ c.measure_list.ensures c.if-list-measure_list.true _ c.placeless-then-list-measure_list.ensures
+returns-then-list-measure_list c = let both = no_list_room _ _ _ _ _ _ _ _ _ c.measure_texts-sizes.ensures.sizes _ c.check_sizes.ensures (search rules)
+    c.if-out-sizes.false _ c.measure_list.ensures c.if-list-measure_list.true _ c.placeless-then-list-measure_list.ensures in record { answer = both.0; sheet = both.1.0; changes = both.1.1 }
 
 pub put_sheet-bytes-requires : goal.put_sheet-bytes-requires
-put_sheet-bytes-requires c = (
-      c.requires.0,
-      (
-        c.measure_texts-sizes.ensures.0,
+put_sheet-bytes-requires c = record { small = c.requires.small; sizes_value = (
+        c.measure_texts-sizes.ensures.sizes,
         c.if-out-sizes.false,
-      ),
-    )
+      ); tables_in_bounds =  }
 
 pub put_list-listed-requires : goal.put_list-listed-requires
-put_list-listed-requires c = (
-      c.requires.0,
-      omega (
+put_list-listed-requires c = record { small = c.requires.small; tables_in_bounds = omega (
         arith,
         c.measure_list.ensures,
         c.if-list-measure_list.false,
-      ),
-    )
+      ), }
 
 pub returns-in-Refused : goal.returns-in-Refused
-returns-in-Refused c = both_grown _ _ _ _ _ _ _ _ _ c.measure_texts-sizes.ensures.0 _
-    c.check_sizes.ensures _ (search rules)
+returns-in-Refused c = let both = both_grown _ _ _ _ _ _ _ _ _ c.measure_texts-sizes.ensures.sizes _
+    c.check_sizes.ensures _ (search rules) in record { answer = both.0; sheet = both.1.0; changes = both.1.1 }
 
 pub returns-else-list-measure_list : goal.returns-else-list-measure_list
-returns-else-list-measure_list c = both_written _ _ _ _ _ _ _ _ _ c.measure_texts-sizes.ensures.0 _
+returns-else-list-measure_list c = let both = both_written _ _ _ _ _ _ _ _ _ c.measure_texts-sizes.ensures.sizes _
     c.check_sizes.ensures (search rules) c.if-out-sizes.false _
     c.measure_list.ensures
     c.if-list-measure_list.false _ _ _ _
-    c.put_sheet-bytes.ensures c.put_list-listed.ensures
+    c.put_sheet-bytes.ensures c.put_list-listed.ensures in record { answer = both.0; sheet = both.1.0; changes = both.1.1 }

@@ -7,7 +7,7 @@ pub drop_sound-requires : goal.drop_sound-requires
 drop_sound-requires c = (search (passed_short, rules), search (passed_sound, rules))
 
 pub returns-in-Refused : goal.returns-in-Refused
-returns-in-Refused c = (search (drop_refused, rules), search (drop_unwritten, rules))
+returns-in-Refused c = record { answer = search (drop_refused, rules); holds = search (drop_unwritten, rules) }
 
 pub returns-in-Sound : goal.returns-in-Sound
-returns-in-Sound c = (search (drop_made, rules), search (drop_written, rules))
+returns-in-Sound c = record { answer = search (drop_made, rules); holds = search (drop_written, rules) }

@@ -4,7 +4,7 @@ use Rattle.tidy.proofs.CheckLaws.{other_answer, other_kept, accepted_answer, acc
 use Rattle.tidy.proofs.drop_sound.Goals as goal
 
 pub returns-then-name_lines : goal.returns-then-name_lines
-returns-then-name_lines c = (search (accepted_answer, rules), search (accepted_written, rules))
+returns-then-name_lines c = record { answer = search (accepted_answer, rules); holds = search (accepted_written, rules) }
 
 pub returns : goal.returns
-returns c = (search (other_answer, rules), search (other_kept, rules))
+returns c = record { answer = search (other_answer, rules); holds = search (other_kept, rules) }

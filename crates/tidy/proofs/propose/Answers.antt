@@ -7,7 +7,7 @@ pub covered_lines-requires : goal.covered_lines-requires
 covered_lines-requires c = (search (passed_short, rules), search (passed_sound, rules))
 
 pub returns-in-Refused : goal.returns-in-Refused
-returns-in-Refused c = (search (propose_refused, rules), search (propose_unwritten, rules))
+returns-in-Refused c = record { answer = search (propose_refused, rules); holds = search (propose_unwritten, rules) }
 
 pub returns-in-Sound : goal.returns-in-Sound
-returns-in-Sound c = (search (propose_made, rules), search (propose_written, rules))
+returns-in-Sound c = record { answer = search (propose_made, rules); holds = search (propose_written, rules) }

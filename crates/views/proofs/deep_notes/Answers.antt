@@ -6,7 +6,7 @@ use Rattle.views.proofs.deep_notes.Goals as goal
 
 pub loop-deep-init : goal.loop-deep-init
 loop-deep-init c = (λ c.
-    let known = c.shared_slice_known-1.given in
+    let known = c.type_inv.tables in
     deepening_start _ (omega (arith, known 0)) (omega (arith, known 1)) _) c
 
 pub loop-deep-preserved : goal.loop-deep-preserved

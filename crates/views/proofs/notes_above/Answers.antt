@@ -7,7 +7,7 @@ use Rattle.views.proofs.notes_above.Goals as goal
 
 pub loop-i-init : goal.loop-i-init
 loop-i-init c = (λ c.
-    let known = c.shared_slice_known-1.given in
+    let known = c.type_inv.tables in
     raised_start _ _ _ c.table_count-n.ensures (omega (arith, known 0)) (omega (arith, known 1)) _ c.after_count-rest.ensures) c
 
 pub returns-then-span : goal.returns-then-span

@@ -3,13 +3,13 @@ use Rattle.byuid.proofs.ConvertLaws.{convert_over, convert_no_room, convert_coun
 use Rattle.byuid.proofs.convert.convert.Goals as goal
 
 pub returns-then-over : goal.returns-then-over
-returns-then-over c = convert_over _ _ _ c.over.ensures c.if-over.true _ c.refusal.ensures
+returns-then-over c = let both = convert_over _ _ _ c.over.ensures c.if-over.true _ c.refusal.ensures in record { answer = both.0; holds = both.1 }
 
 pub returns-then-out-text : goal.returns-then-out-text
-returns-then-out-text c = (λ c.
-    convert_no_room _ _ _ c.over.ensures c.if-over.false c.if-out-text.true _ c.placeless.ensures) c
+returns-then-out-text c = let both = (λ c.
+    convert_no_room _ _ _ c.over.ensures c.if-over.false c.if-out-text.true _ c.placeless.ensures) c in record { answer = both.0; holds = both.1 }
 
 pub returns : goal.returns
-returns c = (λ c.
+returns c = let both = (λ c.
     let p = c in
-    convert_count _ _ _ p.over.ensures p.if-over.false p.if-out-text.false _ c.put_lines.ensures) c
+    convert_count _ _ _ p.over.ensures p.if-over.false p.if-out-text.false _ c.put_lines.ensures) c in record { answer = both.0; holds = both.1 }

@@ -8,18 +8,18 @@ use Rattle.byuid.proofs.ConvertLaws.{colon_within, comma_within, line_converted,
 use Rattle.byuid.proofs.convert.put_line.Goals as goal
 
 pub slice_bounds-index_of-count : goal.slice_bounds-index_of-count
-slice_bounds-index_of-count c = let h = colon_within _ _ c.is_retired.ensures c.if-is_retired.true _ c.index_of-colon.ensures.0 in search rules
+slice_bounds-index_of-count c = let h = colon_within _ _ c.is_retired.ensures c.if-is_retired.true _ c.index_of-colon.ensures.place in search rules
 
 pub slice_bounds-index_of-start : goal.slice_bounds-index_of-start
-slice_bounds-index_of-start c = let h = colon_within _ _ c.is_retired.ensures c.if-is_retired.true _ c.index_of-colon.ensures.0 in search rules
+slice_bounds-index_of-start c = let h = colon_within _ _ c.is_retired.ensures c.if-is_retired.true _ c.index_of-colon.ensures.place in search rules
 
 pub bounds-out-at : goal.bounds-out-at
 bounds-out-at c = let h = colon_within _ _ c.is_retired.ensures c.if-is_retired.true _
-    c.index_of-colon.ensures.0 in search rules
+    c.index_of-colon.ensures.place in search rules
 
 pub bounds-out-at-then-is_retired : goal.bounds-out-at-then-is_retired
 bounds-out-at-then-is_retired c = let h = comma_within _ _ c.is_retired.ensures c.if-is_retired.true _
-    c.index_of-colon.ensures.0 _ c.index_of.ensures.0 in
+    c.index_of-colon.ensures.place _ c.index_of.ensures.place in
     lt-length-set c.put.new.0
     (c.args.at + c.index_of-colon.result) 44
     (omega (

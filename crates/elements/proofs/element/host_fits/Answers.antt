@@ -2,4 +2,4 @@
 use Rattle.elements.proofs.element.host_fits.Goals as goal
 
 pub returns-in-Known : goal.returns-in-Known
-returns-in-Known c = rw c.enum_told-in-Known-1.given.1 c.size_fits.ensures
+returns-in-Known c = rw c.in-Known.is c.size_fits.ensures

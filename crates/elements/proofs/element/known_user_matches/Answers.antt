@@ -5,19 +5,19 @@ use Rattle.elements.proofs.element.known_user_matches.Goals as goal
 
 pub returns-in-Nothing : goal.returns-in-Nothing
 returns-in-Nothing c = user_test_at _ _ _ c.read_wildcard-w.ensures
-    c.enum_told-1.given.1 _ _ _ (c.name_equals.ensures ∙ sym (user_at_equals _ _))
+    c.in-Nothing.is _ _ _ (c.name_equals.ensures ∙ sym (user_at_equals _ _))
 
 pub returns-in-All : goal.returns-in-All
-returns-in-All c = user_test_at _ _ _ c.read_wildcard-w.ensures c.enum_told-in-All-1.given.1 _ _ _ refl
+returns-in-All c = user_test_at _ _ _ c.read_wildcard-w.ensures c.in-All.is _ _ _ refl
 
 pub returns-in-Local : goal.returns-in-Local
-returns-in-Local c = user_test_at _ _ _ c.read_wildcard-w.ensures c.enum_told-in-Local-1.given.1 _ _ _ refl
+returns-in-Local c = user_test_at _ _ _ c.read_wildcard-w.ensures c.in-Local.is _ _ _ refl
 
 pub returns-in-Known : goal.returns-in-Known
-returns-in-Known c = user_test_at _ _ _ c.read_wildcard-w.ensures c.enum_told-in-Known-1.given.1 _ _ _ refl
+returns-in-Known c = user_test_at _ _ _ c.read_wildcard-w.ensures c.in-Known.is _ _ _ refl
 
 pub returns-in-Unknown : goal.returns-in-Unknown
-returns-in-Unknown c = user_test_at _ _ _ c.read_wildcard-w.ensures c.enum_told-in-Unknown-1.given.1 _ _ _ refl
+returns-in-Unknown c = user_test_at _ _ _ c.read_wildcard-w.ensures c.in-Unknown.is _ _ _ refl
 
 pub returns-in-Paranoid : goal.returns-in-Paranoid
-returns-in-Paranoid c = user_test_at _ _ _ c.read_wildcard-w.ensures c.enum_told-in-Paranoid-1.given.1 _ _ _ refl
+returns-in-Paranoid c = user_test_at _ _ _ c.read_wildcard-w.ensures c.in-Paranoid.is _ _ _ refl

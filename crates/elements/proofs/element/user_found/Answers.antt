@@ -3,10 +3,10 @@ use Rattle.elements.proofs.ElementLaws.{user_found_ask, user_found_unknown, user
 use Rattle.elements.proofs.element.user_found.Goals as goal
 
 pub returns-in-NotFetched : goal.returns-in-NotFetched
-returns-in-NotFetched c = user_found_ask _ _ _ _ _ c.enum_told-1.given.1 c.user_sound.ensures c.ask_if.ensures
+returns-in-NotFetched c = user_found_ask _ _ _ _ _ c.in-NotFetched.is c.user_sound.ensures c.ask_if.ensures
 
 pub returns-in-Unknown : goal.returns-in-Unknown
-returns-in-Unknown c = user_found_unknown _ _ _ _ _ c.enum_told-in-Unknown-1.given.1 c.unknown_user_matches.ensures c.found_if.ensures
+returns-in-Unknown c = user_found_unknown _ _ _ _ _ c.in-Unknown.is c.unknown_user_matches.ensures c.found_if.ensures
 
 pub returns-in-Known : goal.returns-in-Known
-returns-in-Known c = user_found_known _ _ _ _ _ c.enum_told-in-Known-1.given.1 c.known_user_matches.ensures c.found_if-in-Known.ensures
+returns-in-Known c = user_found_known _ _ _ _ _ c.in-Known.is c.known_user_matches.ensures c.found_if-in-Known.ensures

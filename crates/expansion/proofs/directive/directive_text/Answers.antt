@@ -4,37 +4,37 @@ use Rattle.expansion.proofs.TextLaws.{after_at_other}
 use Rattle.expansion.proofs.directive.directive_text.Goals as goal
 
 pub returns-in-97 : goal.returns-in-97
-returns-in-97 c = rw c.in-97.keys1 c.part_of.ensures
+returns-in-97 c = rw c.in-97.is c.part_of.ensures
 
 pub returns-in-65 : goal.returns-in-65
-returns-in-65 c = rw c.in-65.keys2 c.part_of-in-65.ensures
+returns-in-65 c = rw c.in-65.is c.part_of-in-65.ensures
 
 pub returns-in-110 : goal.returns-in-110
-returns-in-110 c = rw c.in-110.keys3 c.name_text.ensures
+returns-in-110 c = rw c.in-110.is c.name_text.ensures
 
 pub returns-in-78 : goal.returns-in-78
-returns-in-78 c = rw c.in-78.keys4 c.name_text-in-78.ensures
+returns-in-78 c = rw c.in-78.is c.name_text-in-78.ensures
 
 pub returns-in-104 : goal.returns-in-104
-returns-in-104 c = ⊎_elim (λ e. rw e c.host_text.ensures) (λ e. rw e c.host_text.ensures) c.in-104.keys5
+returns-in-104 c = ⊎_elim (λ e. rw e c.host_text.ensures) (λ e. rw e c.host_text.ensures) c.in-104.is
 
 pub returns-in-72 : goal.returns-in-72
-returns-in-72 c = rw c.in-72.keys6 c.host_text-in-72.ensures
+returns-in-72 c = rw c.in-72.is c.host_text-in-72.ensures
 
 pub returns-in-117 : goal.returns-in-117
-returns-in-117 c = rw c.in-117.keys7 c.user_text.ensures
+returns-in-117 c = rw c.in-117.is c.user_text.ensures
 
 pub returns-in-100 : goal.returns-in-100
-returns-in-100 c = rw c.in-100.keys8 c.part_of-in-100.ensures
+returns-in-100 c = rw c.in-100.is c.part_of-in-100.ensures
 
 pub returns-in-115 : goal.returns-in-115
-returns-in-115 c = rw c.in-115.keys9 c.service_text.ensures
+returns-in-115 c = rw c.in-115.is c.service_text.ensures
 
 pub returns-in-112 : goal.returns-in-112
-returns-in-112 c = rw c.in-112.keys10 c.part_of-in-112.ensures
+returns-in-112 c = rw c.in-112.is c.part_of-in-112.ensures
 
 pub returns-in-37 : goal.returns-in-37
-returns-in-37 c = rw c.in-37.keys11 c.part_of-in-37.ensures
+returns-in-37 c = rw c.in-37.is c.part_of-in-37.ensures
 
 pub returns-in_default : goal.returns-in_default
 returns-in_default c = after_at_other _ _ c.in_default.rest

@@ -25,5 +25,5 @@ shape_of-out c = c.put_safe.auto.0 ∙ simp length-set c.put_safe-p.auto.0
 
 pub returns : goal.returns
 returns c = let p = c in let s = p in
-    text_all s.args.out.now s.args.name.now s.args.text.now s.args.at
-    s.requires _ _ p.put_safe-p.ensures _ _ c.put_safe.ensures
+let both = text_all s.args.out.now s.args.name.now s.args.text.now s.args.at
+    s.requires _ _ p.put_safe-p.ensures _ _ c.put_safe.ensures in record { next = both.0; written = both.1 }

@@ -14,4 +14,4 @@ pub loop-j-preserved : goal.loop-j-preserved
 loop-j-preserved c = outright (search (safe_step, rules))
 
 pub returns : goal.returns
-returns c = safe_all _ c.args.s.now _ _ _ c.loop-j.invariant c.loop-j-test.false
+returns c = let both = safe_all _ c.args.s.now _ _ _ c.loop-j.invariant c.loop-j-test.false in record { next = both.0; written = both.1 }

@@ -41,4 +41,4 @@ pub shape_of-out : goal.shape_of-out
 shape_of-out c = c.loop-j.invariant.long
 
 pub returns : goal.returns
-returns c = expanded_end _ _ _ _ _ _ c.loop-j.invariant c.loop-j-test.false
+returns c = let both = expanded_end _ _ _ _ _ _ c.loop-j.invariant c.loop-j-test.false in record { count = both.0; written = both.1 }

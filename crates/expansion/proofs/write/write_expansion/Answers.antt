@@ -4,10 +4,10 @@ use Rattle.expansion.proofs.PieceLaws.{room_refused, room_count}
 use Rattle.expansion.proofs.write.write_expansion.Goals as goal
 
 pub returns-then-out-n : goal.returns-then-out-n
-returns-then-out-n c = room_refused _ _ c.args.out.now _ c.expansion_length-n.ensures
-    (omega (arith, c.if-out-n.true)) _ c.placeless.ensures
+returns-then-out-n c = let both = room_refused _ _ c.args.out.now _ c.expansion_length-n.ensures
+    (omega (arith, c.if-out-n.true)) _ c.placeless.ensures in record { answer = both.0; holds = both.1 }
 
 pub returns : goal.returns
-returns c = room_count _ _ c.args.out.now _
+returns c = let both = room_count _ _ c.args.out.now _
     c.expansion_length-n.ensures
-    (omega (arith, c.if-out-n.false)) _ _ c.put_expansion-count.ensures
+    (omega (arith, c.if-out-n.false)) _ _ c.put_expansion-count.ensures in record { answer = both.0; holds = both.1 }

@@ -9,7 +9,7 @@ pub loop-rest-init : goal.loop-rest-init
 loop-rest-init c = outright (search (answering_start, rules))
 
 pub returns-in-Cut : goal.returns-in-Cut
-returns-in-Cut c = (search (answering_cut, rules), search (answering_cut_text, rules))
+returns-in-Cut c = record { count = search (answering_cut, rules); written = search (answering_cut_text, rules) }
 
 pub put_answer-next-requires : goal.put_answer-next-requires
 put_answer-next-requires c = outright (search (answering_room, rules))
@@ -30,4 +30,4 @@ pub loop-rest-preserved : goal.loop-rest-preserved
 loop-rest-preserved c = outright (search (answering_more, rules))
 
 pub returns : goal.returns
-returns c = (search (answering_end, rules), search (answering_text, rules))
+returns c = record { count = search (answering_end, rules); written = search (answering_text, rules) }

@@ -13,4 +13,4 @@ pub loop-i-preserved : goal.loop-i-preserved
 loop-i-preserved c = outright (search (counting_more, rules))
 
 pub returns : goal.returns
-returns c = (search (counting_end, rules), search (counting_few, rules))
+returns c = record { count = search (counting_end, rules); few = search (counting_few, rules) }

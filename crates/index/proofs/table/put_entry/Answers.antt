@@ -5,5 +5,5 @@ use Rattle.index.proofs.table.put_entry.Goals as goal
 
 pub returns : goal.returns
 returns c = let p₄ = c in let p₃ = p₄ in let p₂ = p₃ in let p₁ =
-    p₂ in put_entry _ _ _ _ _ _ _ _ _ _ _ _ _ _ _ _ _ _ (search rules) p₁.put_two.ensures p₂.put_two-daemons.ensures
-    p₃.put_two-clients.ensures p₄.put_two.ensures
+    p₂ in let both = put_entry _ _ _ _ _ _ _ _ _ _ _ _ _ _ _ _ _ _ (search rules) p₁.put_two.ensures p₂.put_two-daemons.ensures
+    p₃.put_two-clients.ensures p₄.put_two.ensures in record { next = both.0; written = both.1 }

@@ -8,7 +8,7 @@ pub put_entry-requires : goal.put_entry-requires
 put_entry-requires c = outright (search (line_room, rules))
 
 pub returns-then-here : goal.returns-then-here
-returns-then-here c = (search (ruled_next, rules), search (ruled_text, rules))
+returns-then-here c = record { next = search (ruled_next, rules); written = search (ruled_text, rules) }
 
 pub returns : goal.returns
-returns c = (search (passed_next, rules), search (passed_text, rules))
+returns c = record { next = search (passed_next, rules); written = search (passed_text, rules) }

@@ -16,4 +16,4 @@ pub loop-i-preserved : goal.loop-i-preserved
 loop-i-preserved c = outright (search (writing_more, rules))
 
 pub returns : goal.returns
-returns c = (search (writing_end, rules), search (writing_text, rules))
+returns c = record { next = search (writing_end, rules); written = search (writing_text, rules) }

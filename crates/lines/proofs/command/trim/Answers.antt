@@ -7,7 +7,7 @@ use Rattle.lines.proofs.CommandLaws.{trim_part}
 use Rattle.lines.proofs.command.trim.Goals as goal
 
 pub slice_bounds-result-end : goal.slice_bounds-result-end
-slice_bounds-result-end c = sym (length-take-le _ _ c.unblanked_length-n.ensures.1)
+slice_bounds-result-end c = sym (length-take-le _ _ c.unblanked_length-n.ensures.within)
 
 pub returns : goal.returns
 returns c = outright (search (trim_part, rules))

@@ -13,4 +13,4 @@ pub loop-i-preserved : goal.loop-i-preserved
 loop-i-preserved c = outright (search (joining_byte, rules))
 
 pub returns : goal.returns
-returns c = joining_end c.loop-i.invariant.0 c.loop-i-test.false
+returns c = let both = joining_end c.loop-i.invariant.0 c.loop-i-test.false in record { count = both.0; written = both.1 }

@@ -7,7 +7,7 @@ use Rattle.lists.proofs.PassLaws.{rest_seen_is}
 use Rattle.lists.proofs.pass.pass_rest.Goals as goal
 
 pub slice_bounds-clients_seen-end : goal.slice_bounds-clients_seen-end
-slice_bounds-clients_seen-end c = sym (length-take-le _ _ c.separator-j.ensures.1)
+slice_bounds-clients_seen-end c = sym (length-take-le _ _ c.separator-j.ensures.within)
 
 pub returns : goal.returns
 returns c = outright (search (rest_seen_is, rules))

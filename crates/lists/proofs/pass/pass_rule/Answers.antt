@@ -11,7 +11,7 @@ pub returns-then-t-i : goal.returns-then-t-i
 returns-then-t-i c = outright (search (rule_seen_none, rules))
 
 pub slice_bounds-daemons_seen-end : goal.slice_bounds-daemons_seen-end
-slice_bounds-daemons_seen-end c = sym (length-take-le _ _ c.separator-i.ensures.1)
+slice_bounds-daemons_seen-end c = sym (length-take-le _ _ c.separator-i.ensures.within)
 
 pub returns : goal.returns
 returns c = outright (search (rule_seen_some, rules))

@@ -13,7 +13,7 @@ pub returns-then-at-e : goal.returns-then-at-e
 returns-then-at-e c = outright (search (asked_none, rules))
 
 pub slice_bounds-result-end-2 : goal.slice_bounds-result-end-2
-slice_bounds-result-end-2 c = sym (length-take-le _ _ c.sign_place-at.ensures.1)
+slice_bounds-result-end-2 c = sym (length-take-le _ _ c.sign_place-at.ensures.within)
 
 pub returns : goal.returns
 returns c = outright (search (asked_some, rules))

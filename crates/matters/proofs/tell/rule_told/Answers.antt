@@ -10,10 +10,10 @@ pub returns-then-t-i : goal.returns-then-t-i
 returns-then-t-i c = outright (search (rule_none, rules))
 
 pub slice_bounds-daemons_included-end : goal.slice_bounds-daemons_included-end
-slice_bounds-daemons_included-end c = sym (length-take-le _ _ c.separator-i.ensures.1)
+slice_bounds-daemons_included-end c = sym (length-take-le _ _ c.separator-i.ensures.within)
 
 pub slice_bounds-list_told-end : goal.slice_bounds-list_told-end
-slice_bounds-list_told-end c = sym (length-take-le _ _ c.separator-j.ensures.1)
+slice_bounds-list_told-end c = sym (length-take-le _ _ c.separator-j.ensures.within)
 
 pub returns-in-No : goal.returns-in-No
 returns-in-No c = outright (search (rule_no, rules))

@@ -18,7 +18,7 @@ pub bounds-places-k : goal.bounds-places-k
 bounds-places-k c = outright (search (looking_within, rules))
 
 pub overflow_cast-p : goal.overflow_cast-p
-overflow_cast-p c = omega (arith, c.shared_slice_known-in-loop-k-1.given (c.loop-k.k - 1))
+overflow_cast-p c = omega (arith, c.type_inv.places (c.loop-k.k - 1))
 
 pub returns-then-equal_fold : goal.returns-then-equal_fold
 returns-then-equal_fold c = outright (search (looking_found, rules))

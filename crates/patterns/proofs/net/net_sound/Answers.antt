@@ -8,4 +8,4 @@ pub returns-in-Nothing : goal.returns-in-Nothing
 returns-in-Nothing c = outright (search (net_none, rules))
 
 pub returns-in-Net : goal.returns-in-Net
-returns-in-Net c = net_some _ _ _ c.enum_told-in-Net-1.given.1
+returns-in-Net c = net_some _ _ _ c.in-Net.is

@@ -3,4 +3,4 @@ use Rattle.patterns.proofs.NetLaws.{pair_net_values}
 use Rattle.patterns.proofs.net.pair_net.Goals as goal
 
 pub returns-in-Value-mask : goal.returns-in-Value-mask
-returns-in-Value-mask c = pair_net_values _ _ _ _ c.net-1.given.1 c.mask-1.given.1
+returns-in-Value-mask c = pair_net_values _ _ _ _ c.in-Value.is c.in-Value-mask.is

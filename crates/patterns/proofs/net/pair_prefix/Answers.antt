@@ -3,4 +3,4 @@ use Rattle.patterns.proofs.NetLaws.{prefix_with_values}
 use Rattle.patterns.proofs.net.pair_prefix.Goals as goal
 
 pub returns-in-Value-length : goal.returns-in-Value-length
-returns-in-Value-length c = prefix_with_values _ _ _ _ _ c.address-1.given.1 c.length-1.given.1
+returns-in-Value-length c = prefix_with_values _ _ _ _ _ c.in-Value.is c.in-Value-length.is

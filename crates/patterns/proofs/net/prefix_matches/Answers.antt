@@ -2,4 +2,4 @@
 use Rattle.patterns.proofs.net.prefix_matches.Goals as goal
 
 pub returns-in-V6 : goal.returns-in-V6
-returns-in-V6 c = rw c.addr-1.given.1 c.same_prefix_v6.ensures
+returns-in-V6 c = rw c.in-V6.is c.same_prefix_v6.ensures

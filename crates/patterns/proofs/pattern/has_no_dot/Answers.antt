@@ -3,4 +3,4 @@ use Rattle.patterns.proofs.TestLaws.{no_dot}
 use Rattle.patterns.proofs.pattern.has_no_dot.Goals as goal
 
 pub returns : goal.returns
-returns c = rw c.index_of.ensures.0 (no_dot _)
+returns c = rw c.index_of.ensures.place (no_dot _)

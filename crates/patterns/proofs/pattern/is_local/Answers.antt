@@ -2,4 +2,4 @@
 use Rattle.patterns.proofs.pattern.is_local.Goals as goal
 
 pub returns-in-Known : goal.returns-in-Known
-returns-in-Known c = rw c.enum_told-in-Known-1.given.1 c.has_no_dot.ensures
+returns-in-Known c = rw c.in-Known.is c.has_no_dot.ensures

@@ -10,7 +10,7 @@ pub examine_rule-requires : goal.examine_rule-requires
 examine_rule-requires c = outright (search (plain_line, rules))
 
 pub examine_joined-requires : goal.examine_joined-requires
-examine_joined-requires c = (search rules, (search (ruled_clean, rules), search (ruled_short, rules)))
+examine_joined-requires c = record { classes = search rules; no_newline = (search (ruled_clean, rules), search (ruled_short, rules)) }
 
 pub returns-in-Faulty : goal.returns-in-Faulty
 returns-in-Faulty c = outright (search (line_faulty, rules))

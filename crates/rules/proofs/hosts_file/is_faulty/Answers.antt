@@ -5,7 +5,7 @@ use Rattle.rules.proofs.FileLaws.{ruled_clean, ruled_short, unjoined_line, judge
 use Rattle.rules.proofs.hosts_file.is_faulty.Goals as goal
 
 pub examine_joined-requires : goal.examine_joined-requires
-examine_joined-requires c = (search rules, (search (ruled_clean, rules), search (ruled_short, rules)))
+examine_joined-requires c = record { classes = search rules; no_newline = (search (ruled_clean, rules), search (ruled_short, rules)) }
 
 pub examine_rule-requires : goal.examine_rule-requires
 examine_rule-requires c = outright (search (unjoined_line, rules))

@@ -6,7 +6,7 @@ use Rattle.rules.proofs.FileLaws.{scanned_line, line_within, step_is}
 use Rattle.rules.proofs.hosts_file.step_over.Goals as goal
 
 pub pass_line-tally-requires : goal.pass_line-tally-requires
-pass_line-tally-requires c = (search rules, (search (scanned_line, rules), search (line_within, rules)))
+pass_line-tally-requires c = record { classes = search rules; scanned_line = (search (scanned_line, rules), search (line_within, rules)) }
 
 pub returns : goal.returns
 returns c = outright (search (step_is, rules))

@@ -5,16 +5,16 @@ use Rattle.salvage.proofs.PieceLaws.{at_allow, at_deny, at_byuid, at_some, at_po
 use Rattle.salvage.proofs.piece.piece_at.Goals as goal
 
 pub rule_at-requires : goal.rule_at-requires
-rule_at-requires c = (search rules, (search (at_allow, rules), search rules))
+rule_at-requires c = record { classes = search rules; at_in_bounds = (search (at_allow, rules), search rules) }
 
 pub rule_at-requires-in-Deny : goal.rule_at-requires-in-Deny
-rule_at-requires-in-Deny c = (search rules, (search (at_deny, rules), search rules))
+rule_at-requires-in-Deny c = record { classes = search rules; at_in_bounds = (search (at_deny, rules), search rules) }
 
 pub bind_at-requires : goal.bind_at-requires
-bind_at-requires c = (search rules, (search (at_byuid, rules), search rules))
+bind_at-requires c = record { text_len_bound = search rules; at_in_bounds = (search (at_byuid, rules), search rules) }
 
 pub entry_at-requires : goal.entry_at-requires
-entry_at-requires c = ((search (at_some, rules), search rules), (search (at_portacl, rules), search rules))
+entry_at-requires c = record { text_nonzero = (search (at_some, rules), search rules); at_in_bounds = (search (at_portacl, rules), search rules) }
 
 pub returns-in-Allow : goal.returns-in-Allow
 returns-in-Allow c = outright (search (found_allow, rules))

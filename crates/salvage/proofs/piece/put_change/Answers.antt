@@ -5,7 +5,7 @@ use Rattle.salvage.proofs.PieceLaws.{change_none, change_room, change_room_2, ch
 use Rattle.salvage.proofs.piece.put_change.Goals as goal
 
 pub returns-then-not-bad : goal.returns-then-not-bad
-returns-then-not-bad c = change_none _ _ _ _ _ (search rules)
+returns-then-not-bad c = let both = change_none _ _ _ _ _ (search rules) in record { next = both.0; written = both.1 }
 
 pub put_count-second-requires : goal.put_count-second-requires
 put_count-second-requires c = outright (search (change_room, rules))
@@ -14,7 +14,7 @@ pub put_count-requires : goal.put_count-requires
 put_count-requires c = outright (search (change_room_2, rules))
 
 pub returns : goal.returns
-returns c = change_all _ _ _ _ _ c.if-not-bad.false
+returns c = let both = change_all _ _ _ _ _ c.if-not-bad.false-raw
     c.requires _
     c.order_of.ensures _ _
-    c.put_count-second.ensures _ _ c.put_count.ensures
+    c.put_count-second.ensures _ _ c.put_count.ensures in record { next = both.0; written = both.1 }

@@ -11,5 +11,5 @@ pub put-requires : goal.put-requires
 put-requires c = outright (search (ended_room_2, rules))
 
 pub returns : goal.returns
-returns c = ended_all _ _ _ c.requires _ _
-    c.put-end.ensures _ _ c.put.ensures
+returns c = let both = ended_all _ _ _ c.requires _ _
+    c.put-end.ensures _ _ c.put.ensures in record { next = both.0; written = both.1 }

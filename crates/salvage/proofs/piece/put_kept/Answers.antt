@@ -18,13 +18,13 @@ pub put_entry-requires : goal.put_entry-requires
 put_entry-requires c = outright (search (kept_room_portacl, rules))
 
 pub returns-in-Allow : goal.returns-in-Allow
-returns-in-Allow c = kept_all_allow _ _ _ _ _ _ _ (search rules) _ _ (search rules)
+returns-in-Allow c = let both = kept_all_allow _ _ _ _ _ _ _ (search rules) _ _ (search rules) in record { next = both.0; written = both.1 }
 
 pub returns-in-Deny : goal.returns-in-Deny
-returns-in-Deny c = kept_all_deny _ _ _ _ _ _ _ (search rules) _ _ (search rules)
+returns-in-Deny c = let both = kept_all_deny _ _ _ _ _ _ _ (search rules) _ _ (search rules) in record { next = both.0; written = both.1 }
 
 pub returns-in-Byuid : goal.returns-in-Byuid
-returns-in-Byuid c = kept_all_byuid _ _ _ _ _ _ _ (search rules) _ _ (search rules)
+returns-in-Byuid c = let both = kept_all_byuid _ _ _ _ _ _ _ (search rules) _ _ (search rules) in record { next = both.0; written = both.1 }
 
 pub returns-in-Portacl : goal.returns-in-Portacl
-returns-in-Portacl c = kept_all_portacl _ _ _ _ _ _ _ (search rules) _ _ (search rules)
+returns-in-Portacl c = let both = kept_all_portacl _ _ _ _ _ _ _ (search rules) _ _ (search rules) in record { next = both.0; written = both.1 }

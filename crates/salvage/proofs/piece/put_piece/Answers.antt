@@ -8,10 +8,10 @@ pub put_change-requires : goal.put_change-requires
 put_change-requires c = outright (search (listing_room, rules))
 
 pub returns-then-listing : goal.returns-then-listing
-returns-then-listing c = listing_all _ _ _ _ _ _ _ _ _ (search rules) _ _ (search rules)
+returns-then-listing c = let both = listing_all _ _ _ _ _ _ _ _ _ (search rules) _ _ (search rules) in record { next = both.0; written = both.1 }
 
 pub put_kept-requires : goal.put_kept-requires
 put_kept-requires c = outright (search (text_room, rules))
 
 pub returns : goal.returns
-returns c = text_all _ _ _ _ _ _ _ _ _ (search rules) _ _ (search rules)
+returns c = let both = text_all _ _ _ _ _ _ _ _ _ (search rules) _ _ (search rules) in record { next = both.0; written = both.1 }

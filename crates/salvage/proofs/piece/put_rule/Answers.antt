@@ -8,10 +8,10 @@ pub put_ended-requires : goal.put_ended-requires
 put_ended-requires c = outright (search (bad_room, rules))
 
 pub returns-then-bad : goal.returns-then-bad
-returns-then-bad c = bad_all _ _ _ _ _ (search rules) _ _ (search rules)
+returns-then-bad c = let both = bad_all _ _ _ _ _ (search rules) _ _ (search rules) in record { next = both.0; written = both.1 }
 
 pub put_ended-requires-2 : goal.put_ended-requires-2
 put_ended-requires-2 c = outright (search (good_room, rules))
 
 pub returns : goal.returns
-returns c = good_all _ _ _ _ _ (search rules) _ _ (search rules)
+returns c = let both = good_all _ _ _ _ _ (search rules) _ _ (search rules) in record { next = both.0; written = both.1 }

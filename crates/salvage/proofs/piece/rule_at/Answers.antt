@@ -5,7 +5,7 @@ use Rattle.salvage.proofs.PieceLaws.{rule_found_lem}
 use Rattle.salvage.proofs.piece.rule_at.Goals as goal
 
 pub is_faulty-requires : goal.is_faulty-requires
-is_faulty-requires c = (search rules, search (scanned_line, rules))
+is_faulty-requires c = record { classes = search rules; scanned_line = search (scanned_line, rules) }
 
 pub returns : goal.returns
-returns c = rule_found_lem _ _ _ _ (search rules) _ c.scan_line-span.ensures.0 _ c.is_faulty.ensures
+returns c = let both = rule_found_lem _ _ _ _ (search rules) _ c.scan_line-span.ensures.scanned _ c.is_faulty.ensures in record { allow = both.0; deny = both.1 }

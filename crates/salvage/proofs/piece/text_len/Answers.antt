@@ -5,28 +5,28 @@ use Rattle.salvage.proofs.PieceLaws.{long_entry_first, long_entry}
 use Rattle.salvage.proofs.piece.text_len.Goals as goal
 
 pub returns-then-bad-3 : goal.returns-then-bad-3
-returns-then-bad-3 c = long_entry_bad _ _ _ _ _ (search rules) (search rules)
+returns-then-bad-3 c = let both = long_entry_bad _ _ _ _ _ (search rules) (search rules) in record { count = both.0; few = both.1 }
 
 pub returns-then-bad : goal.returns-then-bad
-returns-then-bad c = long_allow_bad _ _ _ _ _ (search rules) (search rules)
+returns-then-bad c = let both = long_allow_bad _ _ _ _ _ (search rules) (search rules) in record { count = both.0; few = both.1 }
 
 pub returns-else-bad : goal.returns-else-bad
-returns-else-bad c = long_allow _ _ _ _ _ (search rules) (search rules)
+returns-else-bad c = let both = long_allow _ _ _ _ _ (search rules) (search rules) in record { count = both.0; few = both.1 }
 
 pub returns-then-bad-2 : goal.returns-then-bad-2
-returns-then-bad-2 c = long_deny_bad _ _ _ _ _ (search rules) (search rules)
+returns-then-bad-2 c = let both = long_deny_bad _ _ _ _ _ (search rules) (search rules) in record { count = both.0; few = both.1 }
 
 pub returns-else-bad-2 : goal.returns-else-bad-2
-returns-else-bad-2 c = long_deny _ _ _ _ _ (search rules) (search rules)
+returns-else-bad-2 c = let both = long_deny _ _ _ _ _ (search rules) (search rules) in record { count = both.0; few = both.1 }
 
 pub returns-then-ended : goal.returns-then-ended
-returns-then-ended c = long_byuid _ _ _ _ _ (search rules) (search rules)
+returns-then-ended c = let both = long_byuid _ _ _ _ _ (search rules) (search rules) in record { count = both.0; few = both.1 }
 
 pub returns-else-ended : goal.returns-else-ended
-returns-else-ended c = long_byuid_last _ _ _ _ _ (search rules) (search rules)
+returns-else-ended c = let both = long_byuid_last _ _ _ _ _ (search rules) (search rules) in record { count = both.0; few = both.1 }
 
 pub returns-then-alone : goal.returns-then-alone
-returns-then-alone c = long_entry_first _ _ _ _ _ (search rules) (search rules) (search rules)
+returns-then-alone c = let both = long_entry_first _ _ _ _ _ (search rules) (search rules) (search rules) in record { count = both.0; few = both.1 }
 
 pub returns-else-alone : goal.returns-else-alone
-returns-else-alone c = long_entry _ _ _ _ _ (search rules) (search rules) (search rules)
+returns-else-alone c = let both = long_entry _ _ _ _ _ (search rules) (search rules) (search rules) in record { count = both.0; few = both.1 }

@@ -13,4 +13,4 @@ pub loop-at-preserved : goal.loop-at-preserved
 loop-at-preserved c = outright (search (measuring_on, rules))
 
 pub returns : goal.returns
-returns c = (search (measuring_end, rules), search (measuring_few, rules))
+returns c = record { count = search (measuring_end, rules); few = search (measuring_few, rules) }

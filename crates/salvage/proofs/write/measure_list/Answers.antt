@@ -15,5 +15,5 @@ pub measure-of_portacl-requires : goal.measure-of_portacl-requires
 measure-of_portacl-requires c = c.requires.portacl
 
 pub returns : goal.returns
-returns c = list_measured _ _ _ _ _ _ _ _ _ _ c.measure-of_allow.ensures.0 c.measure-of_deny.ensures.0
-    c.measure-of_byuid.ensures.0 c.measure-of_portacl.ensures.0
+returns c = list_measured _ _ _ _ _ _ _ _ _ _ c.measure-of_allow.ensures.count c.measure-of_deny.ensures.count
+    c.measure-of_byuid.ensures.count c.measure-of_portacl.ensures.count

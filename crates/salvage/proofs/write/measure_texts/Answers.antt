@@ -15,11 +15,8 @@ pub measure-requires-4 : goal.measure-requires-4
 measure-requires-4 c = c.requires.portacl
 
 pub returns : goal.returns
-returns c = (
-      sizes_measured _ _ _ _ _ _ _ _ _ _ c.measure.ensures.0 c.measure-2.ensures.0
-          c.measure-3.ensures.0 c.measure-4.ensures.0,
-      (
-        c.measure.ensures.1,
-        (c.measure-2.ensures.1, (c.measure-3.ensures.1, c.measure-4.ensures.1)),
-      ),
-    )
+returns c = record { sizes = sizes_measured _ _ _ _ _ _ _ _ _ _ c.measure.ensures.count c.measure-2.ensures.count
+          c.measure-3.ensures.count c.measure-4.ensures.count; few = (
+        c.measure.ensures.few,
+        (c.measure-2.ensures.few, (c.measure-3.ensures.few, c.measure-4.ensures.few)),
+      ), }

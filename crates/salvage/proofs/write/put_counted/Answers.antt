@@ -3,6 +3,6 @@ use Rattle.salvage.proofs.CallLaws.{counted_put}
 use Rattle.salvage.proofs.write.put_counted.Goals as goal
 
 pub returns : goal.returns
-returns c = counted_put _ _ _ _ _ _ _ _ c.requires.1.0
-    c.requires.1.1
-    c.put_count-start.ensures c.put_made.ensures
+returns c = let both = counted_put _ _ _ _ _ _ _ _ c.requires.count_value
+    c.requires.count_in_bounds
+    c.put_count-start.ensures c.put_made.ensures in record { next = both.0; written = both.1 }

@@ -7,7 +7,7 @@ pub loop-at-init : goal.loop-at-init
 loop-at-init c = outright (search (putting_start, rules))
 
 pub piece_at-found-requires : goal.piece_at-found-requires
-piece_at-found-requires c = (c.classes-class.ensures, search rules)
+piece_at-found-requires c = let both = (c.classes-class.ensures, search rules) in record { classes = both.0; text_len_bound = both.1.0; at_bound = both.1.1 }
 
 pub put_piece-next-requires : goal.put_piece-next-requires
 put_piece-next-requires c = outright (search (putting_room, rules))
@@ -16,5 +16,5 @@ pub loop-at-preserved : goal.loop-at-preserved
 loop-at-preserved c = outright (search (putting_on, rules))
 
 pub returns : goal.returns
-returns c = putting_end _ _ _ _ _ _ c.requires.1 _ _ _ _ _ c.loop-at.invariant _
-    c.stop_of-stop.ensures c.loop-at-test.false
+returns c = let both = putting_end _ _ _ _ _ _ c.requires.text_in_bounds _ _ _ _ _ c.loop-at.invariant _
+    c.stop_of-stop.ensures c.loop-at-test.false in record { next = both.0; written = both.1 }

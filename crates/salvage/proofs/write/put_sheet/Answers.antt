@@ -5,52 +5,40 @@ use Rattle.salvage.proofs.CallLaws.{size_allow, size_deny, size_byuid, size_port
 use Rattle.salvage.proofs.write.put_sheet.Goals as goal
 
 pub put_counted-at_deny-requires : goal.put_counted-at_deny-requires
-put_counted-at_deny-requires c = (
-      c.requires.0.allow,
-      (
+put_counted-at_deny-requires c = record { text_len_bound = c.requires.small.allow; count_value = (
         size_allow _ _ _ _ _ _ _
-            c.requires.1.0,
+            c.requires.sizes_value,
         search rules,
-      ),
-    )
+      ); count_in_bounds =  }
 
 pub put_counted-at_byuid-requires : goal.put_counted-at_byuid-requires
-put_counted-at_byuid-requires c = (
-      c.requires.0.deny,
-      (
+put_counted-at_byuid-requires c = record { text_len_bound = c.requires.small.deny; count_value = (
         size_deny _ _ _ _ _ _ _
-            c.requires.1.0,
+            c.requires.sizes_value,
         search rules,
-      ),
-    )
+      ); count_in_bounds =  }
 
 pub put_counted-at_portacl-requires : goal.put_counted-at_portacl-requires
-put_counted-at_portacl-requires c = (
-      c.requires.0.byuid,
-      (
-        size_byuid _ _ _ _ _ _ _ c.requires.1.0,
+put_counted-at_portacl-requires c = record { text_len_bound = c.requires.small.byuid; count_value = (
+        size_byuid _ _ _ _ _ _ _ c.requires.sizes_value,
         search rules,
-      ),
-    )
+      ); count_in_bounds =  }
 
 pub put_counted-at_tables-requires : goal.put_counted-at_tables-requires
-put_counted-at_tables-requires c = (
-      c.requires.0.portacl,
-      (
+put_counted-at_tables-requires c = record { text_len_bound = c.requires.small.portacl; count_value = (
         size_portacl _ _ _ _ _ _ _
-            c.requires.1.0,
+            c.requires.sizes_value,
         search rules,
-      ),
-    )
+      ); count_in_bounds =  }
 
 pub put-requires : goal.put-requires
 put-requires c = omega (
       arith,
-      c.requires.1.1,
-      c.put_counted-at_deny.ensures.0,
-      c.put_counted-at_byuid.ensures.0,
-      c.put_counted-at_portacl.ensures.0,
-      c.put_counted-at_tables.ensures.0,
+      c.requires.tables_in_bounds,
+      c.put_counted-at_deny.ensures.next,
+      c.put_counted-at_byuid.ensures.next,
+      c.put_counted-at_portacl.ensures.next,
+      c.put_counted-at_tables.ensures.next,
       c.put_counted-at_deny.auto.0,
       c.put_counted-at_byuid.auto.0,
       c.put_counted-at_portacl.auto.0,
@@ -58,6 +46,6 @@ put-requires c = omega (
     )
 
 pub returns : goal.returns
-returns c = sheet_put _ _ _ _ _ _ _ c.requires.1.0 _ _ _ _ _ _ _ _ _ _ _
+returns c = let both = sheet_put _ _ _ _ _ _ _ c.requires.sizes_value _ _ _ _ _ _ _ _ _ _ _
     c.put_counted-at_deny.ensures c.put_counted-at_byuid.ensures c.put_counted-at_portacl.ensures
-    c.put_counted-at_tables.ensures c.put.ensures
+    c.put_counted-at_tables.ensures c.put.ensures in record { count = both.0; written = both.1 }

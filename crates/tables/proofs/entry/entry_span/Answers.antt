@@ -9,13 +9,13 @@ pub returns-then-s-eq0 : goal.returns-then-s-eq0
 returns-then-s-eq0 c = outright (search (span_empty, rules))
 
 pub overflow_cast-name_end : goal.overflow_cast-name_end
-overflow_cast-name_end c = omega (arith, c.shared_slice_known-2-1.given 0)
+overflow_cast-name_end c = omega (arith, c.type_inv.s 0)
 
 pub overflow_add-name_end : goal.overflow_add-name_end
-overflow_add-name_end c = omega (arith, c.shared_slice_known-2-1.given 0)
+overflow_add-name_end c = omega (arith, c.type_inv.s 0)
 
 pub overflow_add-name_end-2 : goal.overflow_add-name_end-2
-overflow_add-name_end-2 c = omega (arith, c.shared_slice_known-2-1.given 0)
+overflow_add-name_end-2 c = omega (arith, c.type_inv.s 0)
 
 pub returns-then-s-name_end : goal.returns-then-s-name_end
 returns-then-s-name_end c = outright (search (span_short, rules))

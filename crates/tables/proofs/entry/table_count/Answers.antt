@@ -9,16 +9,16 @@ pub returns-then-tables-lt2 : goal.returns-then-tables-lt2
 returns-then-tables-lt2 c = outright (search (table_count_none, rules))
 
 pub overflow_cast-first : goal.overflow_cast-first
-overflow_cast-first c = omega (arith, c.shared_slice_known-1.given 0)
+overflow_cast-first c = omega (arith, c.type_inv.tables 0)
 
 pub overflow_cast-second : goal.overflow_cast-second
-overflow_cast-second c = omega (arith, c.shared_slice_known-2-1.given 1)
+overflow_cast-second c = omega (arith, c.type_inv.tables 1)
 
 pub overflow_mul-result : goal.overflow_mul-result
-overflow_mul-result c = omega (arith, c.shared_slice_known-2-1.given 0, c.shared_slice_known-2-1.given 1)
+overflow_mul-result c = omega (arith, c.type_inv.tables 0, c.type_inv.tables 1)
 
 pub overflow_add-result : goal.overflow_add-result
-overflow_add-result c = omega (arith, c.shared_slice_known-2-1.given 0, c.shared_slice_known-2-1.given 1)
+overflow_add-result c = omega (arith, c.type_inv.tables 0, c.type_inv.tables 1)
 
 pub returns : goal.returns
 returns c = outright (search (table_count_some, rules))

@@ -16,4 +16,4 @@ pub loop-i-preserved : goal.loop-i-preserved
 loop-i-preserved c = outright (search (keyed_more, rules))
 
 pub returns : goal.returns
-returns c = (search (keyed_end, rules), search (keyed_small, rules))
+returns c = record { number = search (keyed_end, rules); within = search (keyed_small, rules) }

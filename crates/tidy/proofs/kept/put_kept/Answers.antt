@@ -10,7 +10,7 @@ pub slice_bounds-put_line-end : goal.slice_bounds-put_line-end
 slice_bounds-put_line-end c = outright (search (keeping_below, rules))
 
 pub put_line-place-requires : goal.put_line-place-requires
-put_line-place-requires c = (search (keeping_number, rules), search (keeping_room, rules))
+put_line-place-requires c = record { n_bound = search (keeping_number, rules); s_in_bounds = search (keeping_room, rules) }
 
 pub loop-i-preserved : goal.loop-i-preserved
 loop-i-preserved c = outright (search (keeping_more, rules))

@@ -4,7 +4,7 @@ use Rattle.tidy.proofs.NumberLaws.{no_room, no_room_kept, written, written_kept}
 use Rattle.tidy.proofs.kept.write_kept.Goals as goal
 
 pub returns-then-out-n : goal.returns-then-out-n
-returns-then-out-n c = (search (no_room, rules), search (no_room_kept, rules))
+returns-then-out-n c = record { answer = search (no_room, rules); holds = search (no_room_kept, rules) }
 
 pub returns : goal.returns
-returns c = (search (written, rules), search (written_kept, rules))
+returns c = record { answer = search (written, rules); holds = search (written_kept, rules) }

@@ -10,4 +10,4 @@ pub loop-n-preserved : goal.loop-n-preserved
 loop-n-preserved c = outright (search (counting_more, rules))
 
 pub returns : goal.returns
-returns c = (search (counting_end, rules), search (counting_few, rules))
+returns c = record { count = search (counting_end, rules); few = search (counting_few, rules) }

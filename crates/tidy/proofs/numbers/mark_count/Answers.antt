@@ -4,7 +4,7 @@ use Rattle.tidy.proofs.NumberLaws.{count_one, count_none}
 use Rattle.tidy.proofs.numbers.mark_count.Goals as goal
 
 pub returns-then-marks-n-eq1 : goal.returns-then-marks-n-eq1
-returns-then-marks-n-eq1 c = (search (count_one, rules), search rules)
+returns-then-marks-n-eq1 c = record { count = search (count_one, rules); few = search rules }
 
 pub returns : goal.returns
-returns c = (search (count_none, rules), search rules)
+returns c = record { count = search (count_none, rules); few = search rules }

@@ -8,16 +8,16 @@ pub loop-i-init : goal.loop-i-init
 loop-i-init c = outright (search (naming_start, rules))
 
 pub returns-then-proposal-i-lt4 : goal.returns-then-proposal-i-lt4
-returns-then-proposal-i-lt4 c = (search (naming_short, rules), refused_names _ _ _)
+returns-then-proposal-i-lt4 c = record { answer = search (naming_short, rules); names = refused_names _ _ _ }
 
 pub returns-then-marks-n : goal.returns-then-marks-n
-returns-then-marks-n c = (search (naming_outside, rules), refused_names _ _ _)
+returns-then-marks-n c = record { answer = search (naming_outside, rules); names = refused_names _ _ _ }
 
 pub returns-then-marks-n-eq0 : goal.returns-then-marks-n-eq0
-returns-then-marks-n-eq0 c = (search (naming_unmarked, rules), refused_names _ _ _)
+returns-then-marks-n-eq0 c = record { answer = search (naming_unmarked, rules); names = refused_names _ _ _ }
 
 pub loop-i-preserved : goal.loop-i-preserved
 loop-i-preserved c = outright (search (naming_more, rules))
 
 pub returns : goal.returns
-returns c = (search (naming_end, rules), search (naming_names, rules))
+returns c = record { answer = search (naming_end, rules); names = search (naming_names, rules) }

@@ -8,7 +8,7 @@ pub put_number-requires : goal.put_number-requires
 put_number-requires c = outright (search (room_one, rules))
 
 pub returns-then-marks-n-eq1 : goal.returns-then-marks-n-eq1
-returns-then-marks-n-eq1 c = (search (put_one, rules), search (put_one_kept, rules))
+returns-then-marks-n-eq1 c = record { next = search (put_one, rules); written = search (put_one_kept, rules) }
 
 pub returns : goal.returns
-returns c = (search (put_none, rules), search (put_none_kept, rules))
+returns c = record { next = search (put_none, rules); written = search (put_none_kept, rules) }

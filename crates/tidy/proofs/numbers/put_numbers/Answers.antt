@@ -7,7 +7,7 @@ pub loop-n-init : goal.loop-n-init
 loop-n-init c = outright (search (putting_start, rules))
 
 pub put_marked-next-requires : goal.put_marked-next-requires
-put_marked-next-requires c = (search rules, search (putting_room, rules))
+put_marked-next-requires c = record { n_in_bounds = search rules; n_in_bounds_2 = search (putting_room, rules) }
 
 pub loop-n-preserved : goal.loop-n-preserved
 loop-n-preserved c = outright (search (putting_more, rules))

@@ -5,10 +5,10 @@ use Rattle.tidy.proofs.NumberLaws.{numbers_no_room, numbers_kept, numbers_fit_le
 use Rattle.tidy.proofs.numbers.write_numbers.Goals as goal
 
 pub returns-then-out-n : goal.returns-then-out-n
-returns-then-out-n c = (search (numbers_no_room, rules), search (numbers_kept, rules))
+returns-then-out-n c = record { answer = search (numbers_no_room, rules); holds = search (numbers_kept, rules) }
 
 pub put_numbers-requires : goal.put_numbers-requires
 put_numbers-requires c = outright (search (numbers_fit_lem, rules))
 
 pub returns : goal.returns
-returns c = (search (numbers_written, rules), search (numbers_held, rules))
+returns c = record { answer = search (numbers_written, rules); holds = search (numbers_held, rules) }

@@ -8,4 +8,4 @@ pub slice_bounds-note_rule-end : goal.slice_bounds-note_rule-end
 slice_bounds-note_rule-end c = outright (search (joined_length, rules))
 
 pub returns : goal.returns
-returns c = (search (joined_all, rules), (search (joined_marks, rules), search (joined_links, rules)))
+returns c = record { answer = search (joined_all, rules); marked = search (joined_marks, rules); hung = search (joined_links, rules) }

@@ -5,13 +5,13 @@ use Rattle.tidy.proofs.RepeatLaws.{rule_marks_lem, rule_links_lem}
 use Rattle.tidy.proofs.repeats.step.Goals as goal
 
 pub returns-then-not-has_rule : goal.returns-then-not-has_rule
-returns-then-not-has_rule c = (search (none_all, rules), (search (none_marks, rules), search (none_links, rules)))
+returns-then-not-has_rule c = record { answer = search (none_all, rules); marked = search (none_marks, rules); hung = search (none_links, rules) }
 
 pub returns-then-all : goal.returns-then-all
-returns-then-all c = (search (all_all, rules), (search (all_marks, rules), search (all_links, rules)))
+returns-then-all c = record { answer = search (all_all, rules); marked = search (all_marks, rules); hung = search (all_links, rules) }
 
 pub returns-then-joins-eq0 : goal.returns-then-joins-eq0
-returns-then-joins-eq0 c = (search (plain_all, rules), (search (plain_marks, rules), search (plain_links, rules)))
+returns-then-joins-eq0 c = record { answer = search (plain_all, rules); marked = search (plain_marks, rules); hung = search (plain_links, rules) }
 
 pub returns : goal.returns
-returns c = (search (rule_all_lem, rules), (search (rule_marks_lem, rules), search (rule_links_lem, rules)))
+returns c = record { answer = search (rule_all_lem, rules); marked = search (rule_marks_lem, rules); hung = search (rule_links_lem, rules) }

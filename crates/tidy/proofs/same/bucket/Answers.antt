@@ -4,4 +4,4 @@ use Rattle.tidy.proofs.ListLaws.{bucket_is}
 use Rattle.tidy.proofs.same.bucket.Goals as goal
 
 pub returns : goal.returns
-returns c = (search (bucket_is, rules), search rules)
+returns c = record { number = search (bucket_is, rules); small = search rules }

@@ -7,7 +7,7 @@ use Rattle.tidy.proofs.ListLaws.{clients_part_lem}
 use Rattle.tidy.proofs.same.clients_of.Goals as goal
 
 pub slice_bounds-result-end : goal.slice_bounds-result-end
-slice_bounds-result-end c = sym (length-take-le _ _ c.separator-j.ensures.1)
+slice_bounds-result-end c = sym (length-take-le _ _ c.separator-j.ensures.within)
 
 pub returns : goal.returns
 returns c = outright (search (clients_part_lem, rules))

@@ -7,7 +7,7 @@ use Rattle.tidy.proofs.ListLaws.{daemons_part_lem}
 use Rattle.tidy.proofs.same.daemons_of.Goals as goal
 
 pub slice_bounds-result-end : goal.slice_bounds-result-end
-slice_bounds-result-end c = sym (length-take-le _ _ c.separator-i.ensures.1)
+slice_bounds-result-end c = sym (length-take-le _ _ c.separator-i.ensures.within)
 
 pub returns : goal.returns
 returns c = outright (search (daemons_part_lem, rules))

@@ -10,4 +10,4 @@ pub loop-i-preserved : goal.loop-i-preserved
 loop-i-preserved c = outright (search (printing_more, rules))
 
 pub returns : goal.returns
-returns c = (search (printing_end, rules), search (printing_small, rules))
+returns c = record { print = search (printing_end, rules); small = search (printing_small, rules) }

@@ -4,7 +4,7 @@ use Rattle.tidy.proofs.ListLaws.{next_parting, next_byte}
 use Rattle.tidy.proofs.same.print_more.Goals as goal
 
 pub returns-then-is_parting : goal.returns-then-is_parting
-returns-then-is_parting c = (search (next_parting, rules), search rules)
+returns-then-is_parting c = record { print = search (next_parting, rules); small = search rules }
 
 pub returns : goal.returns
-returns c = (search (next_byte, rules), search rules)
+returns c = record { print = search (next_byte, rules); small = search rules }
