@@ -16,7 +16,7 @@ use borrow.Author.Tests.{eqb-true, ne_eqb, le-leb, lt-leb, ltb-true, ltb-false, 
 use Rattle.text.specs.Basics.{if◌then◌else◌, any, all}
 use Rattle.text.specs.Text.{is_digit, is_letter}
 use Rattle.text.specs.Scan.{span_len}
-use Rattle.text.proofs.BasicLaws.{and-true}
+use Rattle.text.proofs.BasicLaws.{and_true}
 use Rattle.lines.specs.Parts.{is_parting, is_element_byte, parting_length, element_length, element_span, first_element}
 use Rattle.patterns.specs.Pattern.{is_name_byte}
 use Rattle.patterns.specs.Code.{is_dotted_byte}
@@ -139,9 +139,9 @@ module _ (p : ℕ → Bool) (parts : (m c : ℕ) → m < 128 → c < 128 → p (
   unfolding mask_from all is_element_byte
   mask_test q is-q m [] h k = sym (and-true_r (p m))
   mask_test q is-q m (b ∷ w) h k =
-      let e : is_parting b ≡ false = not-true (is_parting b) (and-true (not (is_parting b)) (all is_element_byte w) k).0 in
+      let e : is_parting b ≡ false = not-true (is_parting b) (and_true (not (is_parting b)) (all is_element_byte w) k).0 in
       let l : class_of b < 128 = inner_small b e in
-      mask_test q is-q (bit_or m (class_of b)) w (or_lt 7 m (class_of b) h l) (and-true (not (is_parting b)) (all is_element_byte w) k).1
+      mask_test q is-q (bit_or m (class_of b)) w (or_lt 7 m (class_of b) h l) (and_true (not (is_parting b)) (all is_element_byte w) k).1
       ∙ rw (parts m (class_of b) h l, is-q b e) (and_assoc (p m) (q b) (all q w))
 
 or_le : (a b : ℕ) → a ≤ bit_or a b

@@ -14,7 +14,7 @@ use lib.ListN.{length, take, drop}
 use Rattle.text.specs.Basics.{if◌then◌else◌, ◌>>=◌, given, holds, is_some, any, all}
 use Rattle.text.specs.Text.{first_among, equal_fold}
 use Rattle.text.specs.Scan.{span_len, index_of}
-use Rattle.text.proofs.BasicLaws.{and-true}
+use Rattle.text.proofs.BasicLaws.{and_true}
 use Rattle.text.proofs.ScanLaws.{take_rest}
 use Rattle.patterns.specs.declared.HostSeen.{HostSeen}
 use Rattle.patterns.specs.declared.pattern.Wildcard.{Wildcard}
@@ -52,13 +52,13 @@ use Rattle.elements.proofs.ElementLaws.{daemon_found_whole, client_found_whole, 
 index_of_none : (b : ℕ) (t : List ℕ) → all (λ (x : ℕ). not (eqb x b)) t ≡ true → index_of b t ≡ length t
 unfolding index_of span_len all
 index_of_none b [] h = refl
-index_of_none b (x ∷ t) h = rw (and-true (not (eqb x b)) (all (λ (x : ℕ). not (eqb x b)) t) h).0
-    (ap suc (index_of_none b t (and-true (not (eqb x b)) (all (λ (x : ℕ). not (eqb x b)) t) h).1))
+index_of_none b (x ∷ t) h = rw (and_true (not (eqb x b)) (all (λ (x : ℕ). not (eqb x b)) t) h).0
+    (ap suc (index_of_none b t (and_true (not (eqb x b)) (all (λ (x : ℕ). not (eqb x b)) t) h).1))
 
 at_sign_none : (e : List ℕ) → all (λ (x : ℕ). not (eqb x 64)) e ≡ true → length e ≡ at_sign e
 unfolding at_sign all
 at_sign_none [] h = refl
-at_sign_none (x ∷ t) h = sym (add-one (index_of 64 t) ∙ ap suc (index_of_none 64 t (and-true (not (eqb x 64)) (all (λ (x : ℕ). not (eqb x 64)) t) h).1))
+at_sign_none (x ∷ t) h = sym (add-one (index_of 64 t) ∙ ap suc (index_of_none 64 t (and_true (not (eqb x 64)) (all (λ (x : ℕ). not (eqb x 64)) t) h).1))
 
 pub sign_none : (m : ℕ) (e : List ℕ) → Describes m e → bit_and m 16 ≡ 0 → (length e ≡ at_sign e) × (length e ≤ length e)
 sign_none m e h z = (at_sign_none e (sym h.no_sign_lem ∙ eq-eqb (bit_and m 16) 0 z), omega arith)
@@ -73,7 +73,7 @@ module _ (t n : List ℕ) (names look : Bool) (is-names : names ≡ all is_name_
   pub name_seen_looked : (look && (names && (leb 1 (length t) && leb (length t) 64))) ≡ true → (x : Bool) → x ≡ equal_fold t n
       → host_seen (names && (leb 1 (length t) && leb (length t) 64)) x ≡ host_seen (name_fits t) (look && name_equals t n)
   name_seen_looked h x is_x =
-      let both : (look ≡ true) × ((names && (leb 1 (length t) && leb (length t) 64)) ≡ true) = and-true look _ h in
+      let both : (look ≡ true) × ((names && (leb 1 (length t) && leb (length t) 64)) ≡ true) = and_true look _ h in
       let sound : name_fits t ≡ true = sym fits ∙ both.1 in
       ap₂ host_seen fits (is_x ∙ sym (rw (both.0, sound) (and-true_r (equal_fold t n))))
 
@@ -250,7 +250,7 @@ names_signless : (e : List ℕ) → all is_name_byte e ≡ true → all (λ (x :
 unfolding all is_name_byte any
 names_signless [] h = refl
 names_signless (x ∷ t) h =
-    rw (name_other x 64 refl (and-true (is_name_byte x) (all is_name_byte t) h).0) (names_signless t (and-true (is_name_byte x) (all is_name_byte t) h).1)
+    rw (name_other x 64 refl (and_true (is_name_byte x) (all is_name_byte t) h).0) (names_signless t (and_true (is_name_byte x) (all is_name_byte t) h).1)
 
 -- an element of name bytes is whole, begins with no slash, and is not reserved
 module _ (e : List ℕ) (h : all is_name_byte e ≡ true) where
@@ -263,7 +263,7 @@ module _ (e : List ℕ) (h : all is_name_byte e ≡ true) where
     where
       by : (e : List ℕ) → all is_name_byte e ≡ true → first_among "/" e ≡ false
       by [] h = refl
-      by (x ∷ t) h = rw (name_other x 47 refl (and-true (is_name_byte x) (all is_name_byte t) h).0)
+      by (x ∷ t) h = rw (name_other x 47 refl (and_true (is_name_byte x) (all is_name_byte t) h).0)
 
   client_unreserved : false ≡ client_reserved e
   unfolding all any is_name_byte
@@ -271,7 +271,7 @@ module _ (e : List ℕ) (h : all is_name_byte e ≡ true) where
     where
       by : (e : List ℕ) → all is_name_byte e ≡ true → false ≡ first_among "@" e
       by [] h = refl
-      by (x ∷ t) h = sym (rw (name_other x 64 refl (and-true (is_name_byte x) (all is_name_byte t) h).0))
+      by (x ∷ t) h = sym (rw (name_other x 64 refl (and_true (is_name_byte x) (all is_name_byte t) h).0))
 
   daemon_unreserved : false ≡ daemon_reserved e
   daemon_unreserved = daemon_reserved_client e false (sym slashless) refl false client_unreserved
@@ -305,13 +305,13 @@ named_found tables notes e h c u name g is-g x is_x n is-n =
 -- a daemon element that is told to be a name: x says whether it is as long as a wildcard
 module _ (k : ℕ) (e : List ℕ) (h : Describes k e) (x : Bool) (is_x : x ≡ word_size (length e)) (t : (not x && ltb k 8) ≡ true) where
   pub names_described : true ≡ all is_name_byte e
-  names_described = sym (and-true (not x) (ltb k 8) t).1 ∙ h.names
+  names_described = sym (and_true (not x) (ltb k 8) t).1 ∙ h.names
 
   pub named_daemon : (v : View) (look : Bool) (d : List ℕ) (s : Endpoint) (g : HostSeen) → g ≡ host_seen (name_fits e) (look && name_equals e d)
       → (f : ElementFault) → f ≡ fault_of false g.sound N.Sound → (y : Found) → y ≡ found_if g.matches
       → (n : ℕ) → n ≡ counted look (capped (1 + 0)) → record { fault = f; found = y; looked = n } ≡ element_seen look (daemon_request d s) (daemon_kind v) e
   named_daemon v look d s g is-g f is_f y is_y n is-n =
-      let nothing : wildcard_of e ≡ W.Nothing = sym (wildcard_of_sized e x is_x (and-true (not x) (ltb k 8) t).0) in
+      let nothing : wildcard_of e ≡ W.Nothing = sym (wildcard_of_sized e x is_x (and_true (not x) (ltb k 8) t).0) in
       let names : all is_name_byte e ≡ true = sym names_described in
       element_seen_is look (daemon_request d s) (daemon_kind v) e (kind g.sound y)
       (daemon_kind_whole v.server e (length e) (whole e names) look d s g refl (daemon_seen_name e d look (wildcard_of e) refl g nothing is-g) y is_y)

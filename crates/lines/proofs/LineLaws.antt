@@ -20,7 +20,7 @@ use lib.ListN.{get_or-eq_default, drop_of_length-le}
 use lib.Seq.{drop-cons, append_snoc, get_or-drop, length-take-le, take-suc-set, drop-set-lt, drop-drop}
 use Rattle.text.specs.Basics.{if◌then◌else◌, any, all, first, ◌or_else◌}
 use Rattle.text.specs.Text.{among, first_among, last_among, split, cons_head}
-use Rattle.text.proofs.BasicLaws.{and-true, all_take, all_drop}
+use Rattle.text.proofs.BasicLaws.{and_true, all_take, all_drop}
 use Rattle.lines.specs.Line.{join, Line, line, continued, logical_lines, lines, has_bad_byte}
 use Rattle.lines.specs.Scan.{span, is_line_byte, scan, scan_line, span_at, SpanBounds, slash_before, pair_at}
 use Rattle.lines.specs.Block.{printable, front_all, PassedTo}
@@ -58,8 +58,8 @@ unfolding join all
 join_clean [] e = refl
 join_clean (x ∷ []) e = join_plain x [] refl
 join_clean (x ∷ y ∷ s) e =
-    let f = (and-true (is_no_newline x) (all is_no_newline (y ∷ s)) e).1 in
-    join_plain x (y ∷ s) (any_one y 10 ∙ not-true (eqb y 10) (and-true (is_no_newline y) (all is_no_newline s) f).0)
+    let f = (and_true (is_no_newline x) (all is_no_newline (y ∷ s)) e).1 in
+    join_plain x (y ∷ s) (any_one y 10 ∙ not-true (eqb y 10) (and_true (is_no_newline y) (all is_no_newline s) f).0)
     ∙ ap (λ (l : List ℕ). x ∷ l) (join_clean (y ∷ s) f)
 
 pub join_part : (s : List ℕ) (i n : ℕ) → all is_no_newline s ≡ true → join (take n (drop i s)) ≡ take n (drop i s)
@@ -78,7 +78,7 @@ module _ (s : List ℕ) (i : ℕ) (h : i < length s) (x : Bool) (is_x : x ≡ pa
   pub pair_at_within : x ≡ true → i + 2 ≤ length s
   unfolding pair_at
   pair_at_within e =
-      let f : eqb (get_or s (i + 1) 0) 10 ≡ true = (and-true (eqb (get_or s i 0) 92) (eqb (get_or s (i + 1) 0) 10) (sym is_x ∙ e)).1 in
+      let f : eqb (get_or s (i + 1) 0) 10 ≡ true = (and_true (eqb (get_or s i 0) 92) (eqb (get_or s (i + 1) 0) 10) (sym is_x ∙ e)).1 in
       by (ltb (i + 1) (length s)) refl f
     where
       by : (b : Bool) → ltb (i + 1) (length s) ≡ b → eqb (get_or s (i + 1) 0) 10 ≡ true → i + 2 ≤ length s
@@ -90,7 +90,7 @@ module _ (s : List ℕ) (i : ℕ) (h : i < length s) (x : Bool) (is_x : x ≡ pa
   pub join_skip : x ≡ true → join (drop i s) ≡ join (drop (i + 2) s)
   unfolding pair_at
   join_skip e =
-      let f = and-true (eqb (get_or s i 0) 92) (eqb (get_or s (i + 1) 0) 10) (sym is_x ∙ e) in
+      let f = and_true (eqb (get_or s i 0) 92) (eqb (get_or s (i + 1) 0) 10) (sym is_x ∙ e) in
       ap join (drop_two s i (omega (arith, pair_at_within e)))
       ∙ rw (eqb-true (get_or s i 0) 92 f.0, eqb-true (get_or s (i + 1) 0) 10 f.1) (join_pair (drop (i + 2) s))
 
@@ -439,7 +439,7 @@ module _ {t : List ℕ} {start i j : ℕ} {c : Bool} (inv : Scanning t start i j
 
     pub scanning_plain : (leb 32 (get_or t i 0) && leb (get_or t i 0) 126) ≡ true → Scanning t start (i + 1) j c
     scanning_plain e =
-        let k : 32 ≤ get_or t i 0 = leb-true 32 (get_or t i 0) (and-true (leb 32 (get_or t i 0)) (leb (get_or t i 0) 126) e).0 in
+        let k : 32 ≤ get_or t i 0 = leb-true 32 (get_or t i 0) (and_true (leb 32 (get_or t i 0)) (leb (get_or t i 0) 126) e).0 in
         rw (e, or-true (eqb (get_or t i 0) 9), and_true_right c) at (scanning_byte (λ q. omega arith))
 
     pub scanning_other : (leb 32 (get_or t i 0) && leb (get_or t i 0) 126) ≡ false → (get_or t i 0 ≡ 10 → ⊥)
@@ -456,9 +456,9 @@ scanning_front zero t start i j c inv e = rw (add-zero i) inv
 scanning_front (suc n) t start i j c inv e =
     let h : i < length t = omega (arith, front_within printable (suc n) (drop i t) e, length-drop i t) in
     let f : (printable (get_or t i 0) && front_all printable n (drop (suc i) t)) ≡ true = rw (drop-cons t i 0 h) at e in
-    let g : front_all printable n (drop (i + 1) t) ≡ true = rw (add-one i) (and-true (printable (get_or t i 0)) (front_all printable n (drop (suc i) t)) f).1 in
+    let g : front_all printable n (drop (i + 1) t) ≡ true = rw (add-one i) (and_true (printable (get_or t i 0)) (front_all printable n (drop (suc i) t)) f).1 in
     let m : i + suc n ≡ i + 1 + n = omega arith in
-    rw m (scanning_front n t start (i + 1) j c (scanning_plain inv h (and-true (printable (get_or t i 0)) (front_all printable n (drop (suc i) t)) f).0) g)
+    rw m (scanning_front n t start (i + 1) j c (scanning_plain inv h (and_true (printable (get_or t i 0)) (front_all printable n (drop (suc i) t)) f).0) g)
 
 pub scanning_after : (t : List ℕ) (start i : ℕ) → start ≤ length t → PassedTo printable t start i → Scanning t start i 0 true
 scanning_after t start i h p =

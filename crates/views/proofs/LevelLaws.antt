@@ -15,7 +15,7 @@ use lib.Seq.{get_or-set_same, get_or-set_other}
 use borrow.Author.Tests.{eqb-true, eqb-false, ltb-true, ltb-false, ne_eqb, lt-ltb}
 use Rattle.text.specs.Basics.{if◌then◌else◌, ◌>>=◌, given, holds, any, sum_until}
 use Rattle.text.specs.Text.{first_among}
-use Rattle.text.proofs.BasicLaws.{or-false as or_none}
+use Rattle.text.proofs.BasicLaws.{or_false as or_none}
 use Rattle.patterns.specs.Host.{Endpoint}
 use Rattle.patterns.specs.Pattern.{host_pattern}
 use Rattle.patterns.specs.Code.{matches_pattern, host_matches}
