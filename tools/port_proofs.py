@@ -47,7 +47,7 @@ def chunks(text):
     found = []
     for line in text.split("\n"):
         head = re.match(rf"((?:abbrev |pub |unfoldable )*)({ID})", line)
-        if line[:1].isspace() or not line.strip():
+        if line[:1].isspace() or not line.strip() or line[0] in ")]}":
             if found:
                 found[-1][1].append(line)
             continue
@@ -110,6 +110,11 @@ def turn_paths(body, fn, place, roots):
         else:
             break
 
+    for m in re.finditer(rf"\blet ({ID}) = ({ID})((?:\.before)*\.{ID}\.given\.0) in\s*", body):
+        if m[2] in roots:
+            rest = re.sub(rf"(?<![^\s(){{}},\[]){re.escape(m[1])}\.(?=\d)", f"{m[2]}{m[3]}.", body[m.end():])
+            return turn_paths(body[: m.start()] + rest, fn, place, roots)
+
     def turn(m):
         root, parts = m[1], m[2].split(".")[1:]
         if root not in roots:
@@ -119,7 +124,7 @@ def turn_paths(body, fn, place, roots):
             return root
         head, rest = parts[0], parts[1:]
         if head == "requires":
-            return ".".join([root, head] + by_name(rest, fn.pre))
+            return as_pairs(".".join([root, head]), rest, fn.pre)
         if head in ("args", "ranges", "well-formed", "well_formed", "type_inv", "type-inv", "initial", "lifetimes"):
             return ".".join([root, head.replace("-", "_")] + rest)
         at = place
@@ -130,7 +135,9 @@ def turn_paths(body, fn, place, roots):
             arm = fn.arms[at]
             for new, step, path in arm[2] if arm else []:
                 if plain(step) == plain(head) and rest[: len(path)] == path and path:
-                    return ".".join([root, arm[0], new] + by_name(rest[len(path):], fn.clauses[at]) if new == "ensures" else [root, arm[0], new] + rest[len(path):])
+                    if new == "ensures":
+                        return as_pairs(".".join([root, arm[0], new]), rest[len(path):], fn.clauses[at])
+                    return ".".join([root, arm[0], new] + rest[len(path):])
             at = fn.parent[at]
         at = place
         while at and plain(fn.places[at][0]) != plain(head):
@@ -138,8 +145,10 @@ def turn_paths(body, fn, place, roots):
         if not at:
             return ".".join([root, fn.step(head, place) or head.replace("-", "_")] + rest)
         rest = [fn.fields[at].get(p, p) if k == 0 else p for k, p in enumerate(rest)]
+        if rest[:1] in (["new"], ["auto"]) and rest[1:2] and rest[1].isdigit():
+            rest[1] = "out"
         if rest[:1] == ["ensures"]:
-            rest = rest[:1] + by_name(rest[1:], fn.clauses[at])
+            return as_pairs(".".join([root, fn.places[at][1], "ensures"]), rest[1:], fn.clauses[at])
         return ".".join([root, fn.places[at][1]] + rest)
 
     return re.sub(rf"(?<![^\s(){{}},\[]) *({ID})((?:\.{ID})+)".replace(" *", ""), turn, body)
@@ -157,6 +166,16 @@ def by_name(path, fields):
         if path[: len(pairs)] == pairs:
             return [fields[k]] + path[len(pairs):]
     return [fields[1]] + path[1:]
+
+
+def as_pairs(path, rest, fields):
+    """A fact of several clauses at a path: a part of it by its name, or the whole as nested pairs."""
+    if rest or len(fields) < 2:
+        return ".".join([path] + by_name(rest, fields))
+    text = f"{path}.{fields[-1]}"
+    for name in reversed(fields[:-1]):
+        text = f"({path}.{name}, {text})"
+    return text
 
 
 def parts_of(term):
@@ -180,9 +199,8 @@ def as_record(term, fields):
     lead = re.match(r"(?s)((?:let .*? in\s+)*)(.*)", term)
     head, body = ("", term)
     if term.startswith("let "):
-        at = term.rfind(" in ") if " in " in term else -1
-        at = max(at, term.rfind(" in\n"))
-        head, body = term[: at + 4], term[at + 4 :]
+        at = max(m.end() for m in re.finditer(r"\bin\s+", term))
+        head, body = term[:at].rstrip() + "\n    ", term[at:]
     found = parts_of(body)
     values = []
     while found and len(values) < n:
@@ -197,6 +215,11 @@ def as_record(term, fields):
     if len(values) == n:
         return head + "record { " + "; ".join(f"{f} = {v.strip()}" for f, v in zip(fields, values)) + " }"
     word = body.strip().lstrip("(").split()[0]
+    if word in ("rw", "simp") and not body.strip().startswith("("):
+        words = atoms(body)
+        if len(words) == 3:
+            return head + f"{words[0]} {words[1]} ({as_record(words[2], fields)})"
+        return term
     if word in ("search", "outright", "absurd", "elim", "cc", "omega", "grind", "record") or found:
         return term
     path = lambda k: ".".join(["both"] + ["1"] * k + ["0"] * (k < n - 1))
@@ -246,7 +269,7 @@ def convert(path, names, crate, module):
             decl = own.get(arg)
             params = loop_params(fn, k)
             if arg.startswith("("):
-                m = re.fullmatch(r"\(λ ([^.]*)\. (.*)\)", arg, re.S)
+                m = re.fullmatch(r"\(λ ([^.]*)\.\s+(.*)\)", arg, re.S)
                 if not m:
                     raise ValueError("a loop's term: " + arg[:60])
                 binders, term = m[1].split(), m[2]
@@ -270,7 +293,7 @@ def convert(path, names, crate, module):
         old, new = fn.needs[k]
         place = fn.at[k] if k < len(fn.at) else None
         if arg.startswith("("):
-            m = re.fullmatch(r"\(λ ([^.]*)\. (.*)\)", arg, re.S)
+            m = re.fullmatch(r"\(λ ([^.]*)\.\s+(.*)\)", arg, re.S)
             if m:
                 binders, term, opened = m[1].split(), m[2].strip(), None
             else:

@@ -96,6 +96,10 @@ USE = re.compile(r"\buse ([^\s;{]+)\.\{([^}]*)\}")
 def of_libraries(text, own):
     """The names that a file imports from a library."""
     found = set()
+    for m in re.finditer(r"\buse ([\w.]+?)(?: as (\w+))?;?$", text, re.M):
+        steps = m[1].split(".")
+        if steps[0] != "Rattle" or steps[1] not in own:
+            found |= set(re.findall(rf"(?<![\w.]){m[2] or steps[-1]}\.({NAME})", text))
     for m in USE.finditer(text):
         steps = m[1].split(".")
         if steps[0] != "Rattle" or steps[1] not in own:

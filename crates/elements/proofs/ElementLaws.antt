@@ -80,7 +80,7 @@ sign_nil (x ∷ s) h = absurd (omega arith)
 
 pub sign_head : (s : List ℕ) → (length s ≡ 0 → ⊥) → eqb (get_or s 0 0) 64 ≡ first_among "@" s
 unfolding any
-sign_head s h = sym (first_among_head "@" s h ∙ Bool.or_false (eqb (get_or s 0 0) 64))
+sign_head s h = sym (first_among_head "@" s h ∙ Bool.or-false (eqb (get_or s 0 0) 64))
 
 module _ (e : List ℕ) (x : Bool) (is_x : x ≡ first_among "@" e) where
   pub client_reserved_first : x ≡ true → true ≡ client_reserved e
@@ -186,15 +186,15 @@ module _ (t : List ℕ) where
   name_fits_is = refl
 
   pub name_fits_empty : length t ≡ 0 → false ≡ name_fits t
-  name_fits_empty h = rw (name_fits_is, lt-leb 1 (length t) (omega arith), Bool.and_false (all is_name_byte t))
+  name_fits_empty h = rw (name_fits_is, lt-leb 1 (length t) (omega arith), Bool.and-false (all is_name_byte t))
 
   pub name_fits_long : 64 < length t → false ≡ name_fits t
-  name_fits_long h = rw (name_fits_is, lt-leb (length t) 64 h, Bool.and_false (leb 1 (length t)), Bool.and_false (all is_name_byte t))
+  name_fits_long h = rw (name_fits_is, lt-leb (length t) 64 h, Bool.and-false (leb 1 (length t)), Bool.and-false (all is_name_byte t))
 
   pub name_fits_name : (length t ≡ 0 → ⊥) → length t ≤ 64 → (r : Bool) → r ≡ all is_name_byte t → r ≡ name_fits t
   name_fits_name n h r q =
       let k : 1 ≤ length t = omega arith in
-      q ∙ sym (rw (name_fits_is, le-leb 1 (length t) k, le-leb (length t) 64 h, Bool.and_true (all is_name_byte t)))
+      q ∙ sym (rw (name_fits_is, le-leb 1 (length t) k, le-leb (length t) 64 h, Bool.and-true (all is_name_byte t)))
 
   pub name_equals_same : (n : List ℕ) (x : Bool) → x ≡ equal_fold t n → x ≡ true → (r : Bool) → r ≡ name_fits t → r ≡ name_equals t n
   name_equals_same n x q y r k = rw (← q, y) k
@@ -259,10 +259,10 @@ daemon_name_at t = rw (is_plain_name_at t)
     (λ a k. rw (a, none_fits))
     (λ a k u. rw (a, none_fits))
     (λ a k u. rw (a, none_fits))
-    (λ a k u. rw (a, Bool.and_true (name_fits t))))
+    (λ a k u. rw (a, Bool.and-true (name_fits t))))
   where
     none_fits : (name_fits t && false) ≡ false
-    none_fits = Bool.and_false (name_fits t)
+    none_fits = Bool.and-false (name_fits t)
 
 user_half_at : (t : List ℕ) → user_half t ≡ user_at (wildcard_of t) t
 unfolding user_half equal lower
@@ -272,10 +272,10 @@ user_half_at t = rw (is_plain_name_at t) (wildcard_of_cases t (λ w. half_as w �
     (λ a k. rw (a, k))
     (λ a k u. rw (a, k, u))
     (λ a k u. rw (a, k, u, none_fits))
-    (λ a k u. rw (a, k, u, Bool.and_true (name_fits t))))
+    (λ a k u. rw (a, k, u, Bool.and-true (name_fits t))))
   where
     none_fits : (name_fits t && false) ≡ false
-    none_fits = Bool.and_false (name_fits t)
+    none_fits = Bool.and-false (name_fits t)
 
     half_as : Wildcard → Option (Request → Bool)
     half_as w =
@@ -285,8 +285,8 @@ user_half_at t = rw (is_plain_name_at t) (wildcard_of_cases t (λ w. half_as w �
         or_else given (name_fits t && not (is_some (wildcard_pattern w))) (λ r. user_case r false false (equal_fold t r.user_name))
 
 holds_given : {A : Type 0} (p : A → Bool) (b : Bool) (a : A) → holds p (given b a) ≡ (p a && b)
-holds_given p true a = sym (Bool.and_true (p a))
-holds_given p false a = sym (Bool.and_false (p a))
+holds_given p true a = sym (Bool.and-true (p a))
+holds_given p false a = sym (Bool.and-false (p a))
 
 -- as the code finds them, w the wildcard that t is
 module _ (t : List ℕ) (w v : Wildcard) (is-w : w ≡ wildcard_of t) (is_v : w ≡ v) where
@@ -479,7 +479,7 @@ module _ (m : Matcher) (e : List ℕ) (at : ℕ) (is_at : at ≡ at_sign e) (d :
             → look_at (daemon_request d s) (o >>= λ f. p >>= λ g. some (λ r. found_if (f r.daemon && g r.server)))
             ≡ found_if (holds (λ f. f d) o && matches_pattern p s)
         by none p = refl
-        by (some f) none = ap found_if (sym (Bool.and_false (f d)))
+        by (some f) none = ap found_if (sym (Bool.and-false (f d)))
         by (some f) (some g) = refl
 
 module _ (m : Matcher) (e : List ℕ) (at : ℕ) (is_at : at ≡ at_sign e) (c : Endpoint) (u : User) (name : List ℕ) where
@@ -533,7 +533,7 @@ module _ (m : Matcher) (b : Bool) where
     where
       through : (f : List ℕ → Bool) (p : Pattern) → look_at q (p >>= λ g. some (λ r. found_if (f r.daemon && g r.server)))
           ≡ found_if (f q.daemon && matches_pattern p q.server)
-      through f none = ap found_if (sym (Bool.and_false (f q.daemon)))
+      through f none = ap found_if (sym (Bool.and-false (f q.daemon)))
       through f (some g) = refl
 
       both : (o : Option (List ℕ → Bool)) (p k : Pattern) → matches_pattern p q.server ≡ matches_pattern k q.server

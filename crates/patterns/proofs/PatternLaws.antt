@@ -139,13 +139,13 @@ is_some_name_pattern e = is_some_given (all is_name_byte e && in_range 1 255 (le
 
 module _ (e : List ℕ) where
   pub domain_pattern_short : length e < 2 → false ≡ is_some (domain_pattern e)
-  domain_pattern_short h = rw (is_some_domain_pattern e, lt-leb 2 (length e) h, Bool.and_false (all is_name_byte e))
+  domain_pattern_short h = rw (is_some_domain_pattern e, lt-leb 2 (length e) h, Bool.and-false (all is_name_byte e))
 
   pub domain_pattern_long : 255 < length e → false ≡ is_some (domain_pattern e)
-  domain_pattern_long h = rw (is_some_domain_pattern e, lt-leb (length e) 255 h, Bool.and_false (leb 2 (length e)), Bool.and_false (all is_name_byte e))
+  domain_pattern_long h = rw (is_some_domain_pattern e, lt-leb (length e) 255 h, Bool.and-false (leb 2 (length e)), Bool.and-false (all is_name_byte e))
 
   pub domain_pattern_fits : 2 ≤ length e → length e ≤ 255 → (r : Bool) → r ≡ all is_name_byte e → r ≡ is_some (domain_pattern e)
-  domain_pattern_fits h k r q = q ∙ sym (rw (is_some_domain_pattern e, le-leb 2 (length e) h, le-leb (length e) 255 k, Bool.and_true (all is_name_byte e)))
+  domain_pattern_fits h k r q = q ∙ sym (rw (is_some_domain_pattern e, le-leb 2 (length e) h, le-leb (length e) 255 k, Bool.and-true (all is_name_byte e)))
 
   pub domain_covers_ends : (n : List ℕ) (x : Bool) → x ≡ (ltb (length e) (length n) && equal_fold e (drop (length n - length e) n)) → x ≡ true
       → (r : Bool) → r ≡ is_some (domain_pattern e) → r ≡ domain_covers e n
@@ -158,15 +158,15 @@ module _ (e : List ℕ) where
   domain_covers_differs n x q y = rw (← q, y)
 
   pub name_pattern_empty : length e ≡ 0 → false ≡ is_some (name_pattern e)
-  name_pattern_empty h = rw (is_some_name_pattern e, lt-leb 1 (length e) (omega arith), Bool.and_false (all is_name_byte e))
+  name_pattern_empty h = rw (is_some_name_pattern e, lt-leb 1 (length e) (omega arith), Bool.and-false (all is_name_byte e))
 
   pub name_pattern_long : 255 < length e → false ≡ is_some (name_pattern e)
-  name_pattern_long h = rw (is_some_name_pattern e, lt-leb (length e) 255 h, Bool.and_false (leb 1 (length e)), Bool.and_false (all is_name_byte e))
+  name_pattern_long h = rw (is_some_name_pattern e, lt-leb (length e) 255 h, Bool.and-false (leb 1 (length e)), Bool.and-false (all is_name_byte e))
 
   module _ (k : length e ≡ 0 → ⊥) where
     pub name_pattern_dot : get_or e (length e - 1) 0 ≡ 46 → false ≡ is_some (name_pattern e)
     unfolding any
-    name_pattern_dot q = rw (is_some_name_pattern e, last_among_last "." e (length e - 1) k refl, q, Bool.and_false (all is_name_byte e && in_range 1 255 (length e)))
+    name_pattern_dot q = rw (is_some_name_pattern e, last_among_last "." e (length e - 1) k refl, q, Bool.and-false (all is_name_byte e && in_range 1 255 (length e)))
 
     pub name_pattern_fits : length e ≤ 255 → (get_or e (length e - 1) 0 ≡ 46 → ⊥) → (r : Bool) → r ≡ all is_name_byte e → r ≡ is_some (name_pattern e)
     unfolding any
@@ -178,8 +178,8 @@ module _ (e : List ℕ) where
           ne_eqb (get_or e (length e - 1) 0) 46 n,
           le-leb 1 (length e) p,
           le-leb (length e) 255 h,
-          Bool.and_true (all is_name_byte e),
-          Bool.and_true (all is_name_byte e),
+          Bool.and-true (all is_name_byte e),
+          Bool.and-true (all is_name_byte e),
         ))
 
   pub plain_covers_same : (n : List ℕ) (x : Bool) → x ≡ equal_fold e n → x ≡ true → (r : Bool) → r ≡ is_some (name_pattern e) → r ≡ plain_covers e n
@@ -192,8 +192,8 @@ module _ (e : List ℕ) where
 
 -- a pattern is met where its test holds and it is one
 met : (b : Bool) (f : Endpoint → Bool) (h : Endpoint) → (f h && is_some (given b f)) ≡ matches_pattern (given b f) h
-met true f h = Bool.and_true (f h)
-met false f h = Bool.and_false (f h)
+met true f h = Bool.and-true (f h)
+met false f h = Bool.and-false (f h)
 
 module _ (e : List ℕ) (host : Host) (name : List ℕ) (x : Bool) (is_x : x ≡ name_known (endpoint host [])) (y : Bool) where
   pub domain_pattern_matches : y ≡ domain_covers e name → (x && y) ≡ matches_pattern (domain_pattern e) (endpoint host name)

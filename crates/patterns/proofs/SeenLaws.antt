@@ -75,7 +75,7 @@ module _ (r : NetRead) where
 
   module _ (look : Bool) (a : ℕ) where
     pub net_unread : r ≡ R.Nothing → host_seen false false ≡ host_seen (net_sound r) (look && net_covers r a)
-    net_unread q = rw q (ap (host_seen false) (sym (Bool.and_false look)))
+    net_unread q = rw q (ap (host_seen false) (sym (Bool.and-false look)))
 
     pub net_read : (n m : ℕ) → r ≡ R.Net n m → (x : Bool) → x ≡ eqb n (bit_and a m) → host_seen true (look && x) ≡ host_seen (net_sound r) (look && net_covers r a)
     net_read n m q x is_x = rw (q, is_x)
@@ -89,7 +89,7 @@ module _ (e : List ℕ) (look : Bool) (host : Host) (r : NetRead) (is-r : r ≡ 
       by (some p) = refl
 
   unmatched : dotted_covers e host ≡ false → x ≡ host_seen (net_sound r) false → x ≡ host_seen (is_some (dotted_pattern e)) (look && dotted_covers e host)
-  unmatched q is_x = is_x ∙ ap₂ host_seen net_is (sym (ap (λ (m : Bool). look && m) q ∙ Bool.and_false look))
+  unmatched q is_x = is_x ∙ ap₂ host_seen net_is (sym (ap (λ (m : Bool). look && m) q ∙ Bool.and-false look))
 
   pub dotted_nowhere : host.addr ≡ A.Unknown → x ≡ host_seen (net_sound r) false → x ≡ host_seen (is_some (dotted_pattern e)) (look && dotted_covers e host)
   dotted_nowhere q = unmatched (rw q)
@@ -107,7 +107,7 @@ module _ (e : List ℕ) (look : Bool) (host : Host) (r : NetRead) (is-r : r ≡ 
 
 module _ (e : List ℕ) (look : Bool) (host : Host) (r : PrefixRead) (is-r : r ≡ as_prefix (bracket_prefix e)) where
   pub bracket_unread : r ≡ P.Nothing → host_seen false false ≡ host_seen (is_some (bracket_pattern e)) (look && bracket_covers e host)
-  bracket_unread q = ap₂ host_seen (bracket_pattern_nothing e r is-r q) (sym (ap (λ (m : Bool). look && m) (by host.addr) ∙ Bool.and_false look))
+  bracket_unread q = ap₂ host_seen (bracket_pattern_nothing e r is-r q) (sym (ap (λ (m : Bool). look && m) (by host.addr) ∙ Bool.and-false look))
     where
       by : (a : Addr) → addr_case a false (λ n. false) (prefix_covers e) ≡ false
       by A.Unknown = refl
@@ -172,7 +172,7 @@ module _ (e : List ℕ) (w : Wildcard) (is-w : w ≡ wildcard_of e) (look : Bool
   seen_form q x is_x = found W.Nothing q x is_x
 
   pub seen_all : w ≡ W.All → Found (host_seen true look)
-  seen_all q = ap (host_seen true) (sym (Bool.and_true look)) ∙ wildcard_seen W.All (λ h. true) refl q true refl
+  seen_all q = ap (host_seen true) (sym (Bool.and-true look)) ∙ wildcard_seen W.All (λ h. true) refl q true refl
 
   pub seen_local : w ≡ W.Local → (x : Bool) → x ≡ (name_known (endpoint host []) && not (any (among ".") name)) → Found (host_seen true (look && x))
   seen_local q x is_x = wildcard_seen W.Local (λ h. name_known h && not (any (among ".") h.name)) refl q x is_x

@@ -122,7 +122,7 @@ index_of_le b (x ∷ s) (suc k) h e = by (eqb x b) refl (index_of_le b s k (omeg
 
 pub ends_in_dot : (t : List ℕ) → (length t ≡ 0 → ⊥) → last_among "." t ≡ eqb (get_or t (length t - 1) 0) 46
 unfolding any
-ends_in_dot t n = last_among_last "." t (length t - 1) n refl ∙ Bool.or_false (eqb (get_or t (length t - 1) 0) 46)
+ends_in_dot t n = last_among_last "." t (length t - 1) n refl ∙ Bool.or-false (eqb (get_or t (length t - 1) 0) 46)
 
 pub no_dot_at_end : (t : List ℕ) → length t ≤ index_of 46 t → last_among "." t ≡ false
 no_dot_at_end [] h = refl

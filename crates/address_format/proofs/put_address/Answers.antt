@@ -12,18 +12,16 @@ put_v4-requires c = let a = c in
 
 pub put_v6-requires : goal.put_v6-requires
 put_v6-requires c = let a = c in
-    let g = c.a-in-V6-1.given.0 in
-    rw (addr_text_v6 a.args.a g.0 g.1.0 (search rules)) at a.requires
+    rw (addr_text_v6 a.args.a c.in-V6.high c.in-V6.low (search rules)) at a.requires
 
 pub returns-in-Unknown : goal.returns-in-Unknown
 returns-in-Unknown c = let a = c in
-let both = rw (addr_text_unknown a.args.a (search rules)) c.put.ensures in record { next = both.0; written = both.1 }
+    rw (addr_text_unknown a.args.a (search rules)) (record { next = c.put.ensures.next; written = c.put.ensures.written })
 
 pub returns-in-V4 : goal.returns-in-V4
 returns-in-V4 c = let a = c in
-let both = rw (addr_text_v4 a.args.a c.in-V4.n (search rules)) c.put_v4.ensures in record { next = both.0; written = both.1 }
+    rw (addr_text_v4 a.args.a c.in-V4.n (search rules)) (record { next = c.put_v4.ensures.next; written = c.put_v4.ensures.written })
 
 pub returns-in-V6 : goal.returns-in-V6
 returns-in-V6 c = let a = c in
-    let g = c.a-in-V6-1.given.0 in
-let both = rw (addr_text_v6 a.args.a g.0 g.1.0 (search rules)) c.put_v6.ensures in record { next = both.0; written = both.1 }
+    rw (addr_text_v6 a.args.a c.in-V6.high c.in-V6.low (search rules)) (record { next = c.put_v6.ensures.next; written = c.put_v6.ensures.written })

@@ -12,8 +12,8 @@ put_groups-requires c = outright (search (plain_room, rules))
 pub returns-then-len-lt2 : goal.returns-then-len-lt2
 returns-then-len-lt2 c = let l = c in
     let a = l in
-let both = plain_all a.args.out.now a.args.gs.now a.args.at _ l.longest_run-run.ensures.run a.requires.1 a.requires.0
-    c.if-len-lt2.true _ _ c.put_groups.ensures in record { next = both.0; written = both.1 }
+    let both = plain_all a.args.out.now a.args.gs.now a.args.at _ l.longest_run-run.ensures.run a.requires.1 a.requires.0
+    c.if-len-lt2.true _ _ (c.put_groups.ensures.next, c.put_groups.ensures.written) in record { next = both.0; written = both.1 }
 
 pub slice_bounds-put_groups-end : goal.slice_bounds-put_groups-end
 slice_bounds-put_groups-end c = sym (length-take-le _ _ (search rules))
@@ -31,7 +31,7 @@ put_groups-requires-2 c = let q = c in
     let l = e in
     let a = l in
     run_behind_room a.args.out.now a.args.gs.now a.args.at _ l.longest_run-run.ensures.run a.requires.1 a.requires.0
-    e.if-len-lt2.false _ _ p.put_groups-p.ensures _ _ q.put-q.ensures
+    e.if-len-lt2.false _ _ (p.put_groups-p.ensures.next, p.put_groups-p.ensures.written) _ _ (q.put-q.ensures.next, q.put-q.ensures.written)
 
 pub returns : goal.returns
 returns c = let q = c in
@@ -39,5 +39,5 @@ returns c = let q = c in
     let e = p in
     let l = e in
     let a = l in
-let both = run_all a.args.out.now a.args.gs.now a.args.at _ l.longest_run-run.ensures.run a.requires.1 a.requires.0
-    e.if-len-lt2.false _ _ p.put_groups-p.ensures _ _ q.put-q.ensures _ _ c.put_groups-2.ensures in record { next = both.0; written = both.1 }
+    let both = run_all a.args.out.now a.args.gs.now a.args.at _ l.longest_run-run.ensures.run a.requires.1 a.requires.0
+    e.if-len-lt2.false _ _ (p.put_groups-p.ensures.next, p.put_groups-p.ensures.written) _ _ (q.put-q.ensures.next, q.put-q.ensures.written) _ _ (c.put_groups-2.ensures.next, c.put_groups-2.ensures.written) in record { next = both.0; written = both.1 }

@@ -9,7 +9,7 @@ put_pair-requires c = outright (search (group_pair_room, rules))
 
 pub returns-then-g-lt256 : goal.returns-then-g-lt256
 returns-then-g-lt256 c = let both = group_pair _ _ _ c.requires
-    c.if-g-lt256.true _ _ c.put_pair.ensures in record { next = both.0; written = both.1 }
+    c.if-g-lt256.true _ _ (c.put_pair.ensures.next, c.put_pair.ensures.written) in record { next = both.0; written = both.1 }
 
 pub put_pair-p-requires : goal.put_pair-p-requires
 put_pair-p-requires c = search (group_room, rules)
@@ -21,11 +21,11 @@ pub put_digit-requires : goal.put_digit-requires
 put_digit-requires c = let p2 = c in
     let p1 = p2 in
     let e = p1 in
-    (group_last_room _ _ _ e.requires e.if-g-lt256.false _ _ p1.put_pair-p.ensures _ _ p2.put_digit-q.ensures, search rules)
+    (group_last_room _ _ _ e.requires e.if-g-lt256.false _ _ (p1.put_pair-p.ensures.next, p1.put_pair-p.ensures.written) _ _ (p2.put_digit-q.ensures.next, p2.put_digit-q.ensures.written), search rules)
 
 pub returns : goal.returns
 returns c = let p3 = c in
     let p2 = p3 in
     let p1 = p2 in
     let e = p1 in
-let both = group_four _ _ _ e.requires e.if-g-lt256.false _ _ p1.put_pair-p.ensures _ _ p2.put_digit-q.ensures _ _ p3.put_digit.ensures in record { next = both.0; written = both.1 }
+    let both = group_four _ _ _ e.requires e.if-g-lt256.false _ _ (p1.put_pair-p.ensures.next, p1.put_pair-p.ensures.written) _ _ (p2.put_digit-q.ensures.next, p2.put_digit-q.ensures.written) _ _ (p3.put_digit.ensures.next, p3.put_digit.ensures.written) in record { next = both.0; written = both.1 }

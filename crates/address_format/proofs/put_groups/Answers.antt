@@ -5,7 +5,8 @@ use Rattle.address_format.proofs.WriteLaws.{hex_groups_none, hex_groups_first_ro
 use Rattle.address_format.proofs.put_groups.Goals as goal
 
 pub returns-then-gs-eq0 : goal.returns-then-gs-eq0
-returns-then-gs-eq0 c = let a = c.args in let both = hex_groups_none a.out.now a.gs.now a.at c.if-gs-eq0.true in record { next = both.0; written = both.1 }
+returns-then-gs-eq0 c = let a = c.args in
+    let both = hex_groups_none a.out.now a.gs.now a.at c.if-gs-eq0.true in record { next = both.0; written = both.1 }
 
 pub put_group-p-requires : goal.put_group-p-requires
 put_group-p-requires c = outright (search (hex_groups_first_room, rules))
@@ -17,5 +18,5 @@ pub returns : goal.returns
 returns c = let p = c in
     let e = p in
     let a = e in
-let both = hex_groups_all a.args.out.now a.args.gs.now a.args.at a.requires
-    e.if-gs-eq0.false _ _ p.put_group-p.ensures _ _ c.put_colon_groups.ensures in record { next = both.0; written = both.1 }
+    let both = hex_groups_all a.args.out.now a.args.gs.now a.args.at a.requires
+    e.if-gs-eq0.false _ _ (p.put_group-p.ensures.next, p.put_group-p.ensures.written) _ _ (c.put_colon_groups.ensures.next, c.put_colon_groups.ensures.written) in record { next = both.0; written = both.1 }

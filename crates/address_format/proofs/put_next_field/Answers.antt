@@ -9,8 +9,8 @@ pub put_decimal-requires : goal.put_decimal-requires
 put_decimal-requires c = let a = c.args in byte_room a.out.now (decimal a.n) a.at 46 c.requires
 
 pub shape_of-out : goal.shape_of-out
-shape_of-out c = c.put_decimal.auto.0 ∙ simp length-set
+shape_of-out c = c.put_decimal.auto.out ∙ simp length-set
 
 pub returns : goal.returns
 returns c = let b = c in
-let both = byte_all b.args.out.now (decimal b.args.n) b.args.at 46 b.requires _ _ c.put_decimal.ensures in record { next = both.0; written = both.1 }
+    let both = byte_all b.args.out.now (decimal b.args.n) b.args.at 46 b.requires _ _ (c.put_decimal.ensures.next, c.put_decimal.ensures.written) in record { next = both.0; written = both.1 }

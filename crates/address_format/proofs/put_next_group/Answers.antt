@@ -9,8 +9,8 @@ pub put_group-requires : goal.put_group-requires
 put_group-requires c = let a = c.args in byte_room a.out.now (numeral 16 4 a.g) a.at 58 c.requires
 
 pub shape_of-out : goal.shape_of-out
-shape_of-out c = c.put_group.auto.0 ∙ simp length-set
+shape_of-out c = c.put_group.auto.out ∙ simp length-set
 
 pub returns : goal.returns
 returns c = let b = c in
-let both = byte_all b.args.out.now (numeral 16 4 b.args.g) b.args.at 58 b.requires _ _ c.put_group.ensures in record { next = both.0; written = both.1 }
+    let both = byte_all b.args.out.now (numeral 16 4 b.args.g) b.args.at 58 b.requires _ _ (c.put_group.ensures.next, c.put_group.ensures.written) in record { next = both.0; written = both.1 }

@@ -9,7 +9,7 @@ put_digit-requires c = outright (search (pair_room, rules))
 
 pub returns-then-n-lt16 : goal.returns-then-n-lt16
 returns-then-n-lt16 c = let b = c in
-let both = pair_one _ _ _ b.requires.1 b.requires.0 (search rules) _ _ c.put_digit.ensures in record { next = both.0; written = both.1 }
+    let both = pair_one _ _ _ b.requires.1 b.requires.0 (search rules) _ _ (c.put_digit.ensures.next, c.put_digit.ensures.written) in record { next = both.0; written = both.1 }
 
 pub put_digit-p-requires : goal.put_digit-p-requires
 put_digit-p-requires c = search (pair_room, rules)
@@ -20,4 +20,4 @@ put_digit-requires-2 c = search (pair_last_room, rules)
 pub returns : goal.returns
 returns c = let e = c in
     let b = e in
-let both = pair_two _ _ _ b.requires.1 b.requires.0 (search rules) _ _ e.put_digit-p.ensures _ _ c.put_digit-2.ensures in record { next = both.0; written = both.1 }
+    let both = pair_two _ _ _ b.requires.1 b.requires.0 (search rules) _ _ (e.put_digit-p.ensures.next, e.put_digit-p.ensures.written) _ _ (c.put_digit-2.ensures.next, c.put_digit-2.ensures.written) in record { next = both.0; written = both.1 }

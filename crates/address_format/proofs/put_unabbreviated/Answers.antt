@@ -5,4 +5,4 @@ pub put_groups-requires : goal.put_groups-requires
 put_groups-requires c = let g = c in rw g.groups-eight.ensures g.requires
 
 pub returns : goal.returns
-returns c = let both = rw (← c.groups-eight.ensures) c.put_groups.ensures in record { next = both.0; written = both.1 }
+returns c = rw (← c.groups-eight.ensures) (record { next = c.put_groups.ensures.next; written = c.put_groups.ensures.written })

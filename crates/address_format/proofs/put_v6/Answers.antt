@@ -9,4 +9,4 @@ put_compressed-requires c = let g = c in
     (rw g.groups-gs.ensures g.requires, ap length g.groups-gs.ensures ∙ length_to_digits 65536 8 _)
 
 pub returns : goal.returns
-returns c = let both = rw (← c.groups-gs.ensures) c.put_compressed.ensures in record { next = both.0; written = both.1 }
+returns c = rw (← c.groups-gs.ensures) (record { next = c.put_compressed.ensures.next; written = c.put_compressed.ensures.written })

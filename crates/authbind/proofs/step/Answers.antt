@@ -5,12 +5,12 @@ use Rattle.authbind.proofs.step.Goals as goal
 
 pub returns-in-Test : goal.returns-in-Test
 returns-in-Test c = let w = c in
-let both = step_test _ _ _ _ w.args.out.now w.in-Test.test
-    (search rules) _ w.file_of.ensures _ _ w.write_name.ensures _ c.as_test.ensures in record { answer = both.0; holds = both.1 }
+    let both = step_test _ _ _ _ w.args.out.now w.in-Test.test
+    (search rules) _ w.file_of.ensures _ _ (w.write_name.ensures.answer, w.write_name.ensures.holds) _ c.as_test.ensures in record { answer = both.0; holds = both.1 }
 
 pub returns-in-Byuid : goal.returns-in-Byuid
 returns-in-Byuid c = let both = step_read _ _ _ _ c.args.out.now (search rules) _ _
-    c.write_name-in-Byuid.ensures _ c.as_read.ensures in record { answer = both.0; holds = both.1 }
+    (c.write_name-in-Byuid.ensures.answer, c.write_name-in-Byuid.ensures.holds) _ c.as_read.ensures in record { answer = both.0; holds = both.1 }
 
 pub returns-in-Allowed : goal.returns-in-Allowed
 returns-in-Allowed c = let both = step_granted _ _ _ _ _ (search rules) in record { answer = both.0; holds = both.1 }

@@ -27,4 +27,4 @@ returns-else-uid-eq0 c = let both = carry_written _ _
     (search rules) c.if-uid-eq0.false _ _
     c.note_ports.ensures.over_tcp
     c.note_ports.ensures.over_udp _
-    _ _ c.write_texts.ensures in record { answer = both.0; lower = both.1.0; upper = both.1.1 }
+    _ _ (c.write_texts.ensures.answer, (c.write_texts.ensures.lower, c.write_texts.ensures.upper)) in record { answer = both.0; lower = both.1.0; upper = both.1.1 }

@@ -12,9 +12,9 @@ put_decimal-end-requires c = outright (search (line_room_2, rules))
 
 pub put-requires : goal.put-requires
 put-requires c = line_room_3 _ _ _ _ c.requires _ _
-    c.put-number.ensures _ _ c.put_decimal-end.ensures
+    (c.put-number.ensures.next, c.put-number.ensures.written) _ _ (c.put_decimal-end.ensures.next, c.put_decimal-end.ensures.written)
 
 pub returns : goal.returns
 returns c = let both = line_all _ _ _ _ c.requires _ _
-    c.put-number.ensures _ _
-    c.put_decimal-end.ensures _ _ c.put.ensures in record { next = both.0; written = both.1 }
+    (c.put-number.ensures.next, c.put-number.ensures.written) _ _
+    (c.put_decimal-end.ensures.next, c.put_decimal-end.ensures.written) _ _ (c.put.ensures.next, c.put.ensures.written) in record { next = both.0; written = both.1 }

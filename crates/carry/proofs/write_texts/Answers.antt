@@ -14,4 +14,4 @@ returns c = let both = both_written _ _ _ _ c.measure.ensures
     c.if-plain-measure.false _
     c.measure-2.ensures
     c.if-marked-measure.false _ _ _ _
-    c.put_span-lower.ensures c.put_span-upper.ensures in record { answer = both.0; lower = both.1.0; upper = both.1.1 }
+    (c.put_span-lower.ensures.next, c.put_span-lower.ensures.written) (c.put_span-upper.ensures.next, c.put_span-upper.ensures.written) in record { answer = both.0; lower = both.1.0; upper = both.1.1 }

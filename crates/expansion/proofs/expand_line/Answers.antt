@@ -17,7 +17,7 @@ expand_trimmed-requires c = let j = c.join_into-n in
 pub returns : goal.returns
 returns c = let j = c.join_into-n in
     let a = c.args in
-let both = line_gave _ _ _ _ j.ensures.0
+    let both = line_gave _ _ _ _ j.ensures.0
     j.ensures.1 _ c.trim-t.ensures _ _
     (held_at_lem a.names.now a.request _ c.held-held.ensures) _
-    a.out.now _ _ c.expand_trimmed.ensures in record { answer = both.0; holds = both.1 }
+    a.out.now _ _ (c.expand_trimmed.ensures.answer, c.expand_trimmed.ensures.holds) in record { answer = both.0; holds = both.1 }

@@ -23,18 +23,18 @@ write_expansion-requires c = let b = c in
     let s = b in (
       s.requires.0,
       request_short s.args.request s.args.names.now _ _ _ _ _ _ _ _ _ s.args.process
-          c.put-w.ensures
-          c.put_address-a.ensures
-          c.put_address-b.ensures
-          c.put_decimal-n.ensures _ c.given_at.ensures s.requires.1,
+          (c.put-w.ensures.next, c.put-w.ensures.written)
+          (c.put_address-a.ensures.next, c.put_address-a.ensures.written)
+          (c.put_address-b.ensures.next, c.put_address-b.ensures.written)
+          (c.put_decimal-n.ensures.next, c.put_decimal-n.ensures.written) _ c.given_at.ensures s.requires.1,
     )
 
 pub returns : goal.returns
 returns c = let b = c in
     let a = b.args in
-let both = request_gave a.request a.names.now _ _ _ _ _ _ _ _ _ a.process
-    c.put-w.ensures
-    c.put_address-a.ensures
-    c.put_address-b.ensures
-    c.put_decimal-n.ensures _ c.given_at.ensures
-    a.out.now _ a.t.now _ c.write_expansion.ensures in record { answer = both.0; holds = both.1 }
+    let both = request_gave a.request a.names.now _ _ _ _ _ _ _ _ _ a.process
+    (c.put-w.ensures.next, c.put-w.ensures.written)
+    (c.put_address-a.ensures.next, c.put_address-a.ensures.written)
+    (c.put_address-b.ensures.next, c.put_address-b.ensures.written)
+    (c.put_decimal-n.ensures.next, c.put_decimal-n.ensures.written) _ c.given_at.ensures
+    a.out.now _ a.t.now _ (c.write_expansion.ensures.answer, c.write_expansion.ensures.holds) in record { answer = both.0; holds = both.1 }

@@ -13,7 +13,7 @@ pub returns-then-fits : goal.returns-then-fits
 returns-then-fits c = let both = request_written _ _ _ c.args.out.now _
     c.has_bad_percent.ensures
     c.if-has_bad_percent.false _ c.fits2.ensures
-    c.if-fits.true _ _ c.expand_request.ensures in record { answer = both.0; holds = both.1 }
+    c.if-fits.true _ _ (c.expand_request.ensures.answer, c.expand_request.ensures.holds) in record { answer = both.0; holds = both.1 }
 
 pub returns : goal.returns
 returns c = let both = request_refused _ _ _ _ _ c.has_bad_percent.ensures

@@ -14,4 +14,4 @@ pub returns-in-Parts : goal.returns-in-Parts
 returns-in-Parts c = let both = call_done _ c.args.out.now
     c.args.list.now _
     c.frame.ensures _ _ _ _
-    c.salvage_parts.ensures c.in-Parts.is in record { answer = both.0; sheet = both.1.0; changes = both.1.1 }
+    (c.salvage_parts.ensures.answer, (c.salvage_parts.ensures.sheet, c.salvage_parts.ensures.changes)) c.in-Parts.is in record { answer = both.0; sheet = both.1.0; changes = both.1.1 }

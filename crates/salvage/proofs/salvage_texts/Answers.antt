@@ -17,4 +17,4 @@ pub returns-in-Sound : goal.returns-in-Sound
 returns-in-Sound c = let both = parts_done _ _ _ _ _ c.args.out.now
     c.args.list.now _ c.check_five.ensures
     (search rules) _ c.naming_notes-notes.ensures _ _ _
-    c.write_both.ensures in record { answer = both.0; sheet = both.1.0; changes = both.1.1 }
+    (c.write_both.ensures.answer, (c.write_both.ensures.sheet, c.write_both.ensures.changes)) in record { answer = both.0; sheet = both.1.0; changes = both.1.1 }

@@ -35,4 +35,4 @@ returns-else-list-measure_list c = let both = both_written _ _ _ _ _ _ _ _ _ c.m
     c.check_sizes.ensures (search rules) c.if-out-sizes.false _
     c.measure_list.ensures
     c.if-list-measure_list.false _ _ _ _
-    c.put_sheet-bytes.ensures c.put_list-listed.ensures in record { answer = both.0; sheet = both.1.0; changes = both.1.1 }
+    (c.put_sheet-bytes.ensures.count, c.put_sheet-bytes.ensures.written) (c.put_list-listed.ensures.count, c.put_list-listed.ensures.written) in record { answer = both.0; sheet = both.1.0; changes = both.1.1 }

@@ -5,9 +5,8 @@ use Rattle.views.proofs.DeepLaws.{deepening_start, deepening_more, deepening_end
 use Rattle.views.proofs.deep_notes.Goals as goal
 
 pub loop-deep-init : goal.loop-deep-init
-loop-deep-init c = (λ c.
-    let known = c.type_inv.tables in
-    deepening_start _ (omega (arith, known 0)) (omega (arith, known 1)) _) c
+loop-deep-init c = let known = c.type_inv.tables in
+    deepening_start _ (omega (arith, known 0)) (omega (arith, known 1)) _
 
 pub loop-deep-preserved : goal.loop-deep-preserved
 loop-deep-preserved c = outright (search (deepening_more, rules))

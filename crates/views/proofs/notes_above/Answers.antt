@@ -6,9 +6,8 @@ use Rattle.views.proofs.DeepLaws.{raised_start, raised_end, raised_cut, raised_p
 use Rattle.views.proofs.notes_above.Goals as goal
 
 pub loop-i-init : goal.loop-i-init
-loop-i-init c = (λ c.
-    let known = c.type_inv.tables in
-    raised_start _ _ _ c.table_count-n.ensures (omega (arith, known 0)) (omega (arith, known 1)) _ c.after_count-rest.ensures) c
+loop-i-init c = let known = c.type_inv.tables in
+    raised_start _ _ _ c.table_count-n.ensures (omega (arith, known 0)) (omega (arith, known 1)) _ c.after_count-rest.ensures
 
 pub returns-then-span : goal.returns-then-span
 returns-then-span c = outright (search (raised_cut, rules))
@@ -20,11 +19,10 @@ pub bounds-notes-k-in-loop-i : goal.bounds-notes-k-in-loop-i
 bounds-notes-k-in-loop-i c = outright (search (raised_place, rules))
 
 pub loop-i-preserved : goal.loop-i-preserved
-loop-i-preserved c = (λ c.
-    let b = c in
+loop-i-preserved c = let b = c in
     raised_more _ _ _ _ _ _ b.loop-i.invariant b.loop-i-test.true _ b.entry_span-span.ensures b.if-span.false
     _ c.entry_text.ensures _ c.leads.ensures _ refl
-    _ c.mark.ensures _ c.after_entry-next.ensures) c
+    _ c.mark.ensures _ c.after_entry-next.ensures
 
 pub returns : goal.returns
 returns c = outright (search (raised_end, rules))

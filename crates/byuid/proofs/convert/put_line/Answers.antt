@@ -20,12 +20,12 @@ bounds-out-at c = let h = colon_within _ _ c.is_retired.ensures c.if-is_retired.
 pub bounds-out-at-then-is_retired : goal.bounds-out-at-then-is_retired
 bounds-out-at-then-is_retired c = let h = comma_within _ _ c.is_retired.ensures c.if-is_retired.true _
     c.index_of-colon.ensures.place _ c.index_of.ensures.place in
-    lt-length-set c.put.new.0
+    lt-length-set c.put.new.out
     (c.args.at + c.index_of-colon.result) 44
     (omega (
       arith,
       h,
-      c.put.auto.0,
+      c.put.auto.out,
       c.requires,
     ))
 

@@ -9,8 +9,8 @@ put_joined-requires c = let g = c in let s = g in
 
 pub returns-then-has_at : goal.returns-then-has_at
 returns-then-has_at c = let g = c in let s = g in
-let both = joined_all _ _ _ g.directive_text-text.ensures _ g.has_at.ensures s.args.out.now s.args.at
-    c.if-has_at.true _ c.name_before.ensures _ _ c.put_joined.ensures in record { next = both.0; written = both.1 }
+    let both = joined_all _ _ _ g.directive_text-text.ensures _ g.has_at.ensures s.args.out.now s.args.at
+    c.if-has_at.true _ c.name_before.ensures _ _ (c.put_joined.ensures.next, c.put_joined.ensures.written) in record { next = both.0; written = both.1 }
 
 pub put_safe-requires : goal.put_safe-requires
 put_safe-requires c = let g = c in let s = g in
@@ -18,5 +18,5 @@ put_safe-requires c = let g = c in let s = g in
 
 pub returns : goal.returns
 returns c = let g = c in let s = g in
-let both = alone_all _ _ _ g.directive_text-text.ensures _ g.has_at.ensures s.args.out.now s.args.at
-    c.if-has_at.false _ _ c.put_safe.ensures in record { next = both.0; written = both.1 }
+    let both = alone_all _ _ _ g.directive_text-text.ensures _ g.has_at.ensures s.args.out.now s.args.at
+    c.if-has_at.false _ _ (c.put_safe.ensures.next, c.put_safe.ensures.written) in record { next = both.0; written = both.1 }

@@ -17,7 +17,7 @@ loop-j-preserved-then-t-j-eq37 c = let l = c in
     expanded_directive _ _ _ _ _ _ l.loop-j.invariant l.requires
     c.loop-j-test.true
     c.if-t-j-eq37.true _ c.byte_at.ensures _ _
-    c.put_inserted-n.ensures c.put_inserted-n.auto.0
+    (c.put_inserted-n.ensures.next, c.put_inserted-n.ensures.written) c.put_inserted-n.auto.out
 
 pub bounds-out-n : goal.bounds-out-n
 bounds-out-n c = let l = c in

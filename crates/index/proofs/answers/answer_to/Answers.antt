@@ -3,20 +3,18 @@ use Rattle.index.proofs.AnswerLaws.{answer_fits, answer_unfit}
 use Rattle.index.proofs.answers.answer_to.Goals as goal
 
 pub found_answer-requires : goal.found_answer-requires
-found_answer-requires c = let both = c.requires in record { classes = both.0; ready = both.1 }
+found_answer-requires c = record { classes = c.requires.classes; ready = c.requires.ready }
 
 pub returns-then-states-fits : goal.returns-then-states-fits
-returns-then-states-fits c = (λ c.
-    let f = c in
+returns-then-states-fits c = let f = c in
     let x = f in
     answer_fits _ _ _ _ x.requires.ready _ _ _ x.read_states-states.ensures _
     f.named.ensures _ f.held-request.ensures _ f.fits2.ensures
-    c.if-states-fits.true _ c.found_answer.ensures) c
+    c.if-states-fits.true _ c.found_answer.ensures
 
 pub returns : goal.returns
-returns c = (λ c.
-    let f = c in
+returns c = let f = c in
     let x = f in
     answer_unfit _ _ _ _ x.requires.ready _ _ _ x.read_states-states.ensures _
     f.named.ensures _ f.held-request.ensures _ f.fits2.ensures
-    c.if-states-fits.false _ c.unfit_answer.ensures) c
+    c.if-states-fits.false _ c.unfit_answer.ensures

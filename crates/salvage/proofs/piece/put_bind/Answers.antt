@@ -13,7 +13,7 @@ put-requires c = outright (search (bind_room_2, rules))
 pub returns-then-ended : goal.returns-then-ended
 returns-then-ended c = let both = bind_all _ _ _ _ c.requires _
     c.put_line.ensures c.if-ended.true _ _
-    c.put.ensures in record { next = both.0; written = both.1 }
+    (c.put.ensures.next, c.put.ensures.written) in record { next = both.0; written = both.1 }
 
 pub returns : goal.returns
 returns c = let both = bind_last _ _ _ _ c.requires _ c.put_line.ensures c.if-ended.false in record { next = both.0; written = both.1 }

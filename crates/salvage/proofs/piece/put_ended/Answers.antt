@@ -12,4 +12,4 @@ put-requires c = outright (search (ended_room_2, rules))
 
 pub returns : goal.returns
 returns c = let both = ended_all _ _ _ c.requires _ _
-    c.put-end.ensures _ _ c.put.ensures in record { next = both.0; written = both.1 }
+    (c.put-end.ensures.next, c.put-end.ensures.written) _ _ (c.put.ensures.next, c.put.ensures.written) in record { next = both.0; written = both.1 }

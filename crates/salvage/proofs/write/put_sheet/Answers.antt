@@ -39,13 +39,13 @@ put-requires c = omega (
       c.put_counted-at_byuid.ensures.next,
       c.put_counted-at_portacl.ensures.next,
       c.put_counted-at_tables.ensures.next,
-      c.put_counted-at_deny.auto.0,
-      c.put_counted-at_byuid.auto.0,
-      c.put_counted-at_portacl.auto.0,
-      c.put_counted-at_tables.auto.0,
+      c.put_counted-at_deny.auto.out,
+      c.put_counted-at_byuid.auto.out,
+      c.put_counted-at_portacl.auto.out,
+      c.put_counted-at_tables.auto.out,
     )
 
 pub returns : goal.returns
 returns c = let both = sheet_put _ _ _ _ _ _ _ c.requires.sizes_value _ _ _ _ _ _ _ _ _ _ _
-    c.put_counted-at_deny.ensures c.put_counted-at_byuid.ensures c.put_counted-at_portacl.ensures
-    c.put_counted-at_tables.ensures c.put.ensures in record { count = both.0; written = both.1 }
+    (c.put_counted-at_deny.ensures.next, c.put_counted-at_deny.ensures.written) (c.put_counted-at_byuid.ensures.next, c.put_counted-at_byuid.ensures.written) (c.put_counted-at_portacl.ensures.next, c.put_counted-at_portacl.ensures.written)
+    (c.put_counted-at_tables.ensures.next, c.put_counted-at_tables.ensures.written) (c.put.ensures.next, c.put.ensures.written) in record { count = both.0; written = both.1 }

@@ -23,6 +23,5 @@ pub returns-in-Refused : goal.returns-in-Refused
 returns-in-Refused c = let both = pack_refused _ _ _ _ _ _ c.check_texts.ensures _ (search rules) _ in record { answer = both.0; holds = both.1 }
 
 pub returns-else-out-allow : goal.returns-else-out-allow
-returns-else-out-allow c = let both = (λ c.
-    let p = c in
-    pack_count _ _ _ _ _ _ p.check_texts.ensures (search rules) _ _ _ p.if-out-allow.false c.put_sheet.ensures) c in record { answer = both.0; holds = both.1 }
+returns-else-out-allow c = let p = c in
+    let both = pack_count _ _ _ _ _ _ p.check_texts.ensures (search rules) _ _ _ p.if-out-allow.false (c.put_sheet.ensures.count, c.put_sheet.ensures.written) in record { answer = both.0; holds = both.1 }

@@ -10,6 +10,5 @@ pub returns-in-Refused : goal.returns-in-Refused
 returns-in-Refused c = let both = upgrade_refused _ _ c.check_four.ensures _ (search rules) _ in record { answer = both.0; holds = both.1 }
 
 pub returns-else-out-sheet : goal.returns-else-out-sheet
-returns-else-out-sheet c = let both = (λ c.
-    let p = c in
-    upgrade_count _ _ p.check_four.ensures (search rules) _ _ _ p.if-out-sheet.false c.put_upgraded.ensures) c in record { answer = both.0; holds = both.1 }
+returns-else-out-sheet c = let p = c in
+    let both = upgrade_count _ _ p.check_four.ensures (search rules) _ _ _ p.if-out-sheet.false (c.put_upgraded.ensures.count, c.put_upgraded.ensures.written) in record { answer = both.0; holds = both.1 }
