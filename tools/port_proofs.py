@@ -392,7 +392,10 @@ def align(args, fn, want):
                 best[i][j], step[i, j] = best[i + 1][j], "drop"
             if i < n and j < m and best[i + 1][j + 1] > NO:
                 name = plain(rest[i]) if not rest[i].startswith("(") else ""
-                gain = 3 if name and name == plain(fn.needs[j][0]) else 1 if (not trivial[i]) == fn.needs[j][0].startswith("returns") else 0
+                need = fn.needs[j][0]
+                gain = 3 if name and name == plain(need) else 1 if (not trivial[i]) == need.startswith("returns") else 0
+                if not trivial[i]:
+                    gain += -5 if need.startswith(("enum_", "same_length", "known_")) else 1 if "requires" in need else 0
                 if best[i + 1][j + 1] + gain > best[i][j]:
                     best[i][j], step[i, j] = best[i + 1][j + 1] + gain, "take"
     if best[0][0] <= NO:
