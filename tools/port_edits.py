@@ -3,7 +3,7 @@
 
 usage: tools/port_edits.py trees DIR       makes DIR/right, the sources of that commit as port.py and the respelling turn them, and DIR/1, 2, ..
                                            in which the wrong lines of clauses and definitions were turned the same way
-       tools/port_edits.py turn DIR        writes crates/*/must-fail/*.edit by them, and prints what is left to do by hand
+       tools/port_edits.py turn DIR [NAME..]   writes crates/*/must-fail/*.edit by them, and prints what is left to do by hand
 
 A replacement in code whose old text still stands once is kept as it is. Of any other the turned right lines and the turned wrong lines are
 set side by side; what differs is looked for in today's file, token by token, and becomes pairs of lines of today's layout.
@@ -106,8 +106,9 @@ def make_tree(folder, changes):
     folder.mkdir(parents=True)
     for path in listed(r"crates/\w+/(src|specs)/.*") + ["crates.txt"]:
         text = landed(path)
-        for p in changes.get(path, []):
-            text = text.replace(p.old, p.new)
+        places = {p: text.index(p.old) for p in changes.get(path, [])}
+        for p, at in sorted(places.items(), key=lambda place: -place[1]):
+            text = text[:at] + p.new + text[at + len(p.old):]
         (folder / path).parent.mkdir(parents=True, exist_ok=True)
         (folder / path).write_text(text, encoding="utf-8")
     git = ["git", "-c", "user.name=x", "-c", "user.email=x@x"]
@@ -226,7 +227,7 @@ def heading(line):
     return f"# {begins[1]} ({target}): {said}"
 
 
-def turn(folder):
+def turn(folder, names):
     edits = all_edits()
     planned(edits)
     hunks = {}
@@ -235,12 +236,19 @@ def turn(folder):
         here = [p for lines in edits.values() for p in lines if isinstance(p, Pair) and p.round and p.path == path]
         for k in {p.round for p in here}:
             pairs = sorted((p for p in here if p.round == k), key=lambda p: p.line)
+            if not (folder / str(k) / path).exists():
+                continue
             differ = hunks_of((folder / "right" / path).read_text(), (folder / str(k) / path).read_text())
+            if len(pairs) < len(differ):
+                # an import that was laid out otherwise
+                differ = [d for d in differ if not all(re.match(r"(pub )?(ghost )?use ", line) for line in d[0] + d[1])]
             if len(pairs) == len(differ):
                 hunks.update(zip(pairs, differ))
             else:
                 print(f"left: {path}: tree {k} differs in {len(differ)} places for {len(pairs)} pairs: {', '.join(p.label for p in pairs)}: {differ}")
     for edit, lines in edits.items():
+        if names and edit.split("/")[1] not in names:
+            continue
         texts, out = {}, []
         for line in lines:
             if not isinstance(line, Pair):
@@ -270,6 +278,6 @@ if __name__ == "__main__":
     if sys.argv[1:2] == ["trees"]:
         trees(pathlib.Path(sys.argv[2]).resolve())
     elif sys.argv[1:2] == ["turn"]:
-        turn(pathlib.Path(sys.argv[2]).resolve())
+        turn(pathlib.Path(sys.argv[2]).resolve(), sys.argv[3:])
     else:
         sys.exit(__doc__)
