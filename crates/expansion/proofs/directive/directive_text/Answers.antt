@@ -49,4 +49,4 @@ unfolding texts_at after_at
 returns-in-37 c = rw c.in-37.is c.part_of-in-37.ensures
 
 pub returns-in_default : goal.returns-in_default
-returns-in_default c = after_at_other _ _ c.in_default-own.rest
+returns-in_default c = after_at_other _ _ c.in_default.in_default-own.rest
