@@ -204,7 +204,8 @@ def parts_of(term):
         if ch == "," and depth == 1:
             found.append(term[last:k])
             last = k + 1
-    found.append(term[last:-1])
+    if term[last:-1].strip():
+        found.append(term[last:-1])
     return found if len(found) > 1 else None
 
 
@@ -225,6 +226,9 @@ def as_record(term, fields):
         values.append(found[0])
         if len(values) == n - 1:
             values.append(", ".join(found[1:]))
+            break
+        if len(found) == 2 and is_plain(found[1]):
+            values += ["search rules"] * (n - len(values))
             break
         found = parts_of(found[1]) if len(found) == 2 else None
     if len(values) == n:
