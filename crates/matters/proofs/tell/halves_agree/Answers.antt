@@ -64,4 +64,4 @@ loop-rest-preserved c = let a = c.args in
     let next = c.after_element-next in
     trying_more (view_of a.tables.now a.notes.now) (request_at a.names.now a.request) a.f a.s.now l.rest.now l.places l.n l.invariant
     first.result.now first.ensures full half.result.now half.ensures at.result at.ensures tried.result tried.ensures.answer
-    c.in-Agrees.count (search rules) tried.new.1.1.1.1.1.1.1.0 tried.ensures.holds next.result.now next.ensures
+    c.in-Agrees.count (search rules) tried.new.places tried.ensures.holds next.result.now next.ensures
