@@ -222,7 +222,7 @@ def heading(line):
     begins = PROGRAM_LINE.fullmatch(line)
     if not begins:
         return line
-    target = begins[2] if "::" in begins[2] else ".".join(EVERYWHERE.get(w, w) for w in begins[2].split("."))
+    target = begins[2] if "::" in begins[2] else ".".join(EVERYWHERE.get(w, w.replace("-", "_")) for w in begins[2].split("."))
     said = re.sub(r"`([^`]+)`", lambda m: "`" + EVERYWHERE.get(m[1], m[1]) + "`", begins[3])
     return f"# {begins[1]} ({target}): {said}"
 
