@@ -4,6 +4,7 @@ import json
 import os
 import pathlib
 import shutil
+import signal
 import subprocess
 import tempfile
 import threading
@@ -58,10 +59,14 @@ class Tries:
         return self
 
     def __exit__(self, *_):
+        self.stop()
+        self.room.cleanup()
+
+    def stop(self):
+        """Ends the checks that run, and begins no other."""
         self.stopped = True
         for ran in [*self.running]:
-            ran.kill()
-        self.room.cleanup()
+            os.killpg(ran.pid, signal.SIGTERM)
 
     def lock_of(self, key):
         with self.lock:
@@ -80,7 +85,8 @@ class Tries:
         """What `rt check` says of the crate in this folder, and its status."""
         if self.stopped:
             raise Complaint('it was not tried')
-        ran = subprocess.Popen(['rt', 'check', '--jobs', '1'], cwd=folder, stdout=subprocess.PIPE, stderr=subprocess.STDOUT, stdin=subprocess.DEVNULL)
+        ran = subprocess.Popen(['rt', 'check', '--jobs', '1'], cwd=folder, stdout=subprocess.PIPE, stderr=subprocess.STDOUT, stdin=subprocess.DEVNULL,
+                               start_new_session=True)
         self.running.add(ran)
         said = ran.communicate()[0].decode(errors='replace')
         self.running.discard(ran)
