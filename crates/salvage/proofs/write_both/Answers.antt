@@ -17,11 +17,14 @@ pub put_sheet-bytes-requires : goal.put_sheet-bytes-requires
 put_sheet-bytes-requires c = record { small = c.requires.small; sizes_value = c.measure_texts-sizes.ensures.sizes; tables_in_bounds = c.if-out-sizes.false }
 
 pub put_list-listed-requires : goal.put_list-listed-requires
-put_list-listed-requires c = record { small = c.requires.small; tables_in_bounds = omega (
-        arith,
-        c.measure_list.ensures,
-        c.if-list-measure_list.false,
-      ) }
+put_list-listed-requires c = record {
+  small = c.requires.small;
+  tables_in_bounds = omega (
+    arith,
+    c.measure_list.ensures,
+    c.if-list-measure_list.false,
+  );
+}
 
 pub returns-in-Refused : goal.returns-in-Refused
 returns-in-Refused c = let both = both_grown _ _ _ _ _ _ _ _ _ c.measure_texts-sizes.ensures.sizes _
