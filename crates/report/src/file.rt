@@ -13,9 +13,7 @@ pub fn read_front<R: Files + AllocGlobal>(rt: &R, name: &[u8], most: u64) -> io:
         return Err(io::Error::from_raw_os_error(NO_TEXT));
     };
     let mut front = Vec::new(rt.alloc());
-    std::fs::open(rt, path)?
-        .take(most)
-        .read_to_end(&mut front)?;
+    std::fs::open(rt, path)?.take(most).read_to_end(&mut front)?;
     Ok(front)
 }
 

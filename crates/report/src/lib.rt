@@ -87,7 +87,8 @@ fn nth(texts: &[u8], place: usize) -> &[u8] {
 
 // Writes the word at a place. Each costs no more than its number where it is written, as they stand in one text.
 pub fn word(to: &impl Print, place: usize) -> io::Result<()> {
-    let texts = b"|granted|denied|ask|no line|not ruled|exempt|test|read|, no file|, allow line |, deny line |refused | section | line |sheet ok|\
+    let texts =
+        b"|granted|denied|ask|no line|not ruled|exempt|test|read|, no file|, allow line |, deny line |refused | section | line |sheet ok|\
           , command:| bytes|, the same|, others|allow at |deny at |byuid at |portacl at |tables at |, | -> |touched: |malformed: |, looked at ";
     text(to, nth(texts, place))
 }
