@@ -61,6 +61,7 @@ def respellings(found):
             if new != name and name not in KEEP:
                 to[name] = new
     to["◌orElse◌"] = "◌or_else◌"
+    to["◌andThen◌"] = "◌and_then◌"
     # these would meet a word of the library, or a field of the code, in one file
     for name in ("bit-and", "bit-or", "name-end"):
         to[name] = snake(name) + "_lem"

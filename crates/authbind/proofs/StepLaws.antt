@@ -12,7 +12,7 @@ use lib.Dec.{leb, ltb, eqb}
 use lib.ListN.{length, drop, get_or, drop_of_length-le}
 use lib.Seq.{drop-cons}
 use Rattle.text.specs.Basics.{if◌then◌else◌, given, all}
-use Rattle.text.specs.Basics.{◌>>=◌ as ◌andThen◌}
+use Rattle.text.specs.Basics.{◌>>=◌ as ◌and_then◌}
 use Rattle.section.specs.declared.Fault.TheVariants as F
 use Rattle.section.specs.declared.Refusal.{Refusal}
 use Rattle.section.specs.declared.Written.{Written}

@@ -136,6 +136,7 @@ module _ (p q : ℕ) (h : q ≤ 65535) where
   v6_other high low = rw (comma_form_v4 128 read_v6 q, v4_line_v6)
 
   both_lines : (a : Addr) → Somewhere a → (line_grants a p (line_v4 q) || line_grants a p (line_v6 q)) ≡ eqb q p
+  both_lines A.Unknown x' = elim x' [ ]
   both_lines (A.V4 n) (at_v4 m l) = rw (v4_grants n l, v4_other n) (or-false (eqb q p))
   both_lines (A.V6 high low) (at_v6 x y k l) = rw (v6_other high low, v6_grants high low k l)
 

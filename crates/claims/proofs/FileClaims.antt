@@ -14,7 +14,7 @@ use Rattle.text.specs.Text.{split}
 use Rattle.text.proofs.BasicLaws.{and_true}
 use Rattle.section.specs.declared.Fault.TheVariants as F
 use Rattle.section.specs.declared.Refusal.{Refusal}
-use Rattle.section.specs.Refusal.{◌>>=◌ as ◌andThen◌}
+use Rattle.section.specs.Refusal.{◌>>=◌ as ◌and_then◌}
 use Rattle.section.specs.Refusal.{Outcome, refused, answered, placeless, ◌before◌, fitting}
 use Rattle.section.specs.Section as S
 use Rattle.section.specs.Section.{over_limit, bytes_at}

@@ -9,7 +9,7 @@ use borrow.Author.Tests.{lt-ltb}
 use lib.ListN.{length}
 use lib.Pow.{high as upper, low as lower}
 use Rattle.text.specs.Basics.{◌>>=◌}
-use Rattle.section.specs.Refusal.{◌>>=◌ as ◌andThen◌}
+use Rattle.section.specs.Refusal.{◌>>=◌ as ◌and_then◌}
 use Rattle.section.specs.Refusal.{Outcome, refused, answered}
 use Rattle.section.specs.Section.{bytes_at}
 use Rattle.address.specs.declared.Addr.{Addr}

@@ -11,7 +11,7 @@ use lib.Dec.{eqb}
 use lib.ListN.{length}
 use Rattle.text.specs.Basics.{if◌then◌else◌, ◌>>=◌, ◌or_else◌, given}
 use Rattle.text.specs.Text.{in_range}
-use Rattle.section.specs.Refusal.{◌>>=◌ as ◌andThen◌}
+use Rattle.section.specs.Refusal.{◌>>=◌ as ◌and_then◌}
 use Rattle.section.specs.Refusal.{Outcome, refused, answered}
 use Rattle.section.specs.Section as S
 use Rattle.section.specs.Section.{bytes_at, over_limit}

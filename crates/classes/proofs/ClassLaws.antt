@@ -177,7 +177,7 @@ bits (suc zero) (suc zero) (suc (suc z)) h k l = absurd (omega arith)
 
 and_or : (a b c : ℕ) → bit_and (bit_or a b) c ≡ bit_or (bit_and a c) (bit_and b c)
 and_or a =
-    bin_ind (λ (n : ℕ). (b c : ℕ) → bit_and (bit_or n b) c ≡ bit_or (bit_and n c) (bit_and b c)) (λ b c. rw (or_zero_l b, and_zero_l c, or_zero_l (bit_and b c)))
+    bin_ind (λ (n : ℕ). (b c : ℕ) → bit_and (bit_or n b) c ≡ bit_or (bit_and n c) (bit_and b c)) (λ b c. ap (λ (x : ℕ). bit_and x c) (or_zero_l b) ∙ sym (ap (λ (x : ℕ). bit_or x (bit_and b c)) (and_zero_l c) ∙ or_zero_l (bit_and b c)))
     (λ n ih b c.
     and_step (bit_or n b) c
     ∙ ap₂ (λ (x y : ℕ). x * 2 + y)

@@ -4,8 +4,8 @@ use Rattle.text.proofs.Search.{outright}
 use Rattle.authbind.proofs.NameLaws.{address_in_room, behind_room, text_all, in_address, third_in_room, third_in, in_port, in_uid}
 use Rattle.authbind.proofs.put_address_in.Goals as goal
 
-pub enum_told-in-Address : goal.enum_told-in-Address
-enum_told-in-Address c = outright (search (address_in_room, rules))
+pub put_address-comma-requires : goal.put_address-comma-requires
+put_address-comma-requires c = outright (search (address_in_room, rules))
 
 pub put-requires : goal.put-requires
 put-requires c = let s = c in

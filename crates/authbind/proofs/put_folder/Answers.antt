@@ -4,14 +4,14 @@ use Rattle.text.proofs.Search.{outright}
 use Rattle.authbind.proofs.NameLaws.{port_room, address_room, third_test_room, uid_room, port_folder, address_folder, third_folder, uid_folder}
 use Rattle.authbind.proofs.put_folder.Goals as goal
 
-pub enum_told-1 : goal.enum_told-1
-enum_told-1 c = outright (search (port_room, rules))
-
 pub put-requires : goal.put-requires
-put-requires c = outright (search (address_room, rules))
+put-requires c = outright (search (port_room, rules))
 
-pub enum_told-in-Third : goal.enum_told-in-Third
-enum_told-in-Third c = outright (search (third_test_room, rules))
+pub put-requires-in-Address : goal.put-requires-in-Address
+put-requires-in-Address c = outright (search (address_room, rules))
+
+pub put-requires-in-Third : goal.put-requires-in-Third
+put-requires-in-Third c = outright (search (third_test_room, rules))
 
 pub put-requires-in-Uid : goal.put-requires-in-Uid
 put-requires-in-Uid c = outright (search (uid_room, rules))

@@ -4,14 +4,14 @@ use Rattle.text.proofs.Search.{outright}
 use Rattle.authbind.proofs.NameLaws.{text_room, behind_room, text_all, third_v4, third_v6, third_none}
 use Rattle.authbind.proofs.put_third.Goals as goal
 
-pub enum_told-1 : goal.enum_told-1
-enum_told-1 c = outright (search (text_room, third_v4, rules))
-
 pub put_address-colon-requires : goal.put_address-colon-requires
-put_address-colon-requires c = outright (search (behind_room, third_v4, rules))
+put_address-colon-requires c = outright (search (text_room, third_v4, rules))
 
-pub enum_known-addr : goal.enum_known-addr
-enum_known-addr c = outright (search (text_room, third_v6, rules))
+pub put-requires : goal.put-requires
+put-requires c = outright (search (behind_room, third_v4, rules))
+
+pub put_unabbreviated-comma-requires : goal.put_unabbreviated-comma-requires
+put_unabbreviated-comma-requires c = outright (search (text_room, third_v6, rules))
 
 pub put-requires-in-V6 : goal.put-requires-in-V6
 put-requires-in-V6 c = outright (search (behind_room, third_v6, rules))

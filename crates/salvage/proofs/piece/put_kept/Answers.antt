@@ -5,8 +5,8 @@ use Rattle.salvage.proofs.PieceLaws.{kept_room_allow, kept_room_deny, kept_room_
 use Rattle.salvage.proofs.PieceLaws.{kept_all_byuid, kept_all_portacl}
 use Rattle.salvage.proofs.piece.put_kept.Goals as goal
 
-pub enum_told-1 : goal.enum_told-1
-enum_told-1 c = outright (search (kept_room_allow, rules))
+pub put_rule-requires : goal.put_rule-requires
+put_rule-requires c = outright (search (kept_room_allow, rules))
 
 pub put_rule-requires-in-Deny : goal.put_rule-requires-in-Deny
 put_rule-requires-in-Deny c = outright (search (kept_room_deny, rules))
