@@ -30,11 +30,15 @@ put_made-requires c = record {
   text_len_bound = c.requires.small.portacl;
   text_in_bounds = list_room_4 _ _ _ _ _ _ _
       c.requires.tables_in_bounds _ _ (c.put_made-of_deny.ensures.next, c.put_made-of_deny.ensures.written) _ _
-      (c.put_made-of_byuid.ensures.next, c.put_made-of_byuid.ensures.written) _ _ (c.put_made-of_portacl.ensures.next, c.put_made-of_portacl.ensures.written);
+      (c.put_made-of_byuid.ensures.next, c.put_made-of_byuid.ensures.written) _ _ (
+        c.put_made-of_portacl.ensures.next,
+        c.put_made-of_portacl.ensures.written,
+      );
 }
 
 pub returns : goal.returns
 returns c = let both = list_put _ _ _ _ _ _ _ c.requires.tables_in_bounds _ _
     (c.put_made-of_deny.ensures.next, c.put_made-of_deny.ensures.written) _ _
     (c.put_made-of_byuid.ensures.next, c.put_made-of_byuid.ensures.written) _ _
-    (c.put_made-of_portacl.ensures.next, c.put_made-of_portacl.ensures.written) _ _ (c.put_made.ensures.next, c.put_made.ensures.written) in record { count = both.0; written = both.1 }
+    (c.put_made-of_portacl.ensures.next, c.put_made-of_portacl.ensures.written) _ _ (c.put_made.ensures.next, c.put_made.ensures.written) in
+    record { count = both.0; written = both.1 }

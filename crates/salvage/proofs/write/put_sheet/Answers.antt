@@ -21,7 +21,12 @@ put_counted-at_byuid-requires c = record {
 }
 
 pub put_counted-at_portacl-requires : goal.put_counted-at_portacl-requires
-put_counted-at_portacl-requires c = record { text_len_bound = c.requires.small.byuid; count_value = size_byuid _ _ _ _ _ _ _ c.requires.sizes_value; count_in_bounds = search rules }
+put_counted-at_portacl-requires c = record {
+  text_len_bound = c.requires.small.byuid;
+  count_value = size_byuid _ _ _ _ _ _ _
+      c.requires.sizes_value;
+  count_in_bounds = search rules;
+}
 
 pub put_counted-at_tables-requires : goal.put_counted-at_tables-requires
 put_counted-at_tables-requires c = record {
@@ -47,5 +52,9 @@ put-requires c = omega (
 
 pub returns : goal.returns
 returns c = let both = sheet_put _ _ _ _ _ _ _ c.requires.sizes_value _ _ _ _ _ _ _ _ _ _ _
-    (c.put_counted-at_deny.ensures.next, c.put_counted-at_deny.ensures.written) (c.put_counted-at_byuid.ensures.next, c.put_counted-at_byuid.ensures.written) (c.put_counted-at_portacl.ensures.next, c.put_counted-at_portacl.ensures.written)
-    (c.put_counted-at_tables.ensures.next, c.put_counted-at_tables.ensures.written) (c.put.ensures.next, c.put.ensures.written) in record { count = both.0; written = both.1 }
+    (c.put_counted-at_deny.ensures.next, c.put_counted-at_deny.ensures.written) (
+      c.put_counted-at_byuid.ensures.next,
+      c.put_counted-at_byuid.ensures.written,
+    ) (c.put_counted-at_portacl.ensures.next, c.put_counted-at_portacl.ensures.written)
+    (c.put_counted-at_tables.ensures.next, c.put_counted-at_tables.ensures.written) (c.put.ensures.next, c.put.ensures.written) in
+    record { count = both.0; written = both.1 }
