@@ -48,6 +48,10 @@ fn run<R: Env + Files + Print + AllocGlobal>(rt: &R, errors: &impl Print) -> io:
     }
 }
 
-fn main(rt: HostRuntime) -> io::Result<()> {
-    run(&rt, &rt.stderr())
+// What can't be read is told in `run`: an error that comes back is of a write.
+fn main(rt: HostRuntime) {
+    let errors = rt.stderr();
+    if let Err(e) = run(&rt, &errors) {
+        let _ = report::file::tell_failure(&errors, rt.alloc(), b"standard output", e);
+    }
 }

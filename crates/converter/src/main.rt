@@ -9,8 +9,6 @@ use std::rt::{Env, Files};
 // A longer file is refused by its first 8,193 bytes, as it would be whole.
 const MOST: u64 = 8193;
 
-const ROOM: usize = 8192;
-
 fn tell_refusal(errors: &impl Print, name: &[u8], n: u32, section: u32) -> io::Result<()> {
     errors.write_all(name)?;
     errors.print(": refused ")?;
@@ -29,25 +27,13 @@ fn front(s: &[u8], n: usize) -> &[u8] {
     &s[a..n]
 }
 
-fn write_text<R: Print + AllocGlobal>(rt: &R, errors: &impl Print, text: &[u8]) -> io::Result<()> {
-    match rt.write_all(text) {
-        Ok(()) => Ok(()),
-        Err(e) => report::file::tell_failure(errors, rt.alloc(), b"standard output", e),
-    }
-}
-
-fn convert<R: Print + AllocGlobal>(
-    rt: &R,
-    errors: &impl Print,
-    name: &[u8],
-    text: &[u8],
-) -> io::Result<()> {
-    let mut out = vec![in rt.alloc(); 0u8; ROOM]?;
+fn convert(rt: &impl Print, errors: &impl Print, name: &[u8], text: &[u8]) -> io::Result<()> {
+    let mut out = [0u8; 8192];
     let w = gate::gate_convert(&mut out, text);
     if w.number != 0 {
         return tell_refusal(errors, name, w.number, w.section);
     }
-    write_text(rt, errors, front(&out, w.count as usize))
+    rt.write_all(front(&out, w.count as usize))
 }
 
 fn convert_file<R: Files + Print + AllocGlobal>(
@@ -69,6 +55,10 @@ fn run<R: Env + Files + Print + AllocGlobal>(rt: &R, errors: &impl Print) -> io:
     }
 }
 
-fn main(rt: HostRuntime) -> io::Result<()> {
-    run(&rt, &rt.stderr())
+// What can't be read is told in `run`: an error that comes back is of a write.
+fn main(rt: HostRuntime) {
+    let errors = rt.stderr();
+    if let Err(e) = run(&rt, &errors) {
+        let _ = report::file::tell_failure(&errors, rt.alloc(), b"standard output", e);
+    }
 }

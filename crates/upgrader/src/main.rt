@@ -9,9 +9,6 @@ use std::rt::{Env, Files};
 // Four sections have at most 45,072 bytes: a longer file is refused by its first 45,073, as it would be whole.
 const MOST: u64 = 45073;
 
-// How many bytes they have with their tables.
-const ROOM: usize = 45074;
-
 fn tell_refusal(errors: &impl Print, name: &[u8], n: u32, section: u32) -> io::Result<()> {
     errors.write_all(name)?;
     errors.print(": refused ")?;
@@ -30,29 +27,13 @@ fn front(s: &[u8], n: usize) -> &[u8] {
     &s[a..n]
 }
 
-fn write_sheet<R: Print + AllocGlobal>(
-    rt: &R,
-    errors: &impl Print,
-    sheet: &[u8],
-) -> io::Result<()> {
-    match rt.write_all(sheet) {
-        Ok(()) => Ok(()),
-        Err(e) => report::file::tell_failure(errors, rt.alloc(), b"standard output", e),
-    }
-}
-
-fn upgrade<R: Print + AllocGlobal>(
-    rt: &R,
-    errors: &impl Print,
-    name: &[u8],
-    sheet: &[u8],
-) -> io::Result<()> {
-    let mut out = vec![in rt.alloc(); 0u8; ROOM]?;
+fn upgrade(rt: &impl Print, errors: &impl Print, name: &[u8], sheet: &[u8]) -> io::Result<()> {
+    let mut out = [0u8; 45074];
     let w = gate::gate_upgrade(&mut out, sheet);
     if w.number != 0 {
         return tell_refusal(errors, name, w.number, w.section);
     }
-    write_sheet(rt, errors, front(&out, w.count as usize))
+    rt.write_all(front(&out, w.count as usize))
 }
 
 fn upgrade_file<R: Files + Print + AllocGlobal>(
@@ -74,6 +55,10 @@ fn run<R: Env + Files + Print + AllocGlobal>(rt: &R, errors: &impl Print) -> io:
     }
 }
 
-fn main(rt: HostRuntime) -> io::Result<()> {
-    run(&rt, &rt.stderr())
+// What can't be read is told in `run`: an error that comes back is of a write.
+fn main(rt: HostRuntime) {
+    let errors = rt.stderr();
+    if let Err(e) = run(&rt, &errors) {
+        let _ = report::file::tell_failure(&errors, rt.alloc(), b"standard output", e);
+    }
 }
