@@ -11,7 +11,7 @@ import sys
 import tempfile
 
 top = pathlib.Path(__file__).resolve().parent.parent
-CALLED = ("scripts/need", "scripts/check-docs", "scripts/try-edits", "scripts/build", "scripts/check-edits", "tests/run")
+CALLED = ("scripts/need", "scripts/check-docs", "scripts/build", "scripts/check-edits", "tests/run")
 RT = ("rt ci",)
 WELL, BAD, SILENT = "rt: ok; must-fail edits: 5 refused; done", "rt: ok; must-fail edits: 5 refused, 1 bad; done", ""
 LAST = "7 passed, 0 failed"
