@@ -115,8 +115,19 @@ def turn_paths(body, fn, place, roots):
             rest = re.sub(rf"(?<![^\s(){{}},\[]){re.escape(m[1])}\.(?=\d)", f"{m[2]}{m[3]}.", body[m.end():])
             return turn_paths(body[: m.start()] + rest, fn, place, roots)
 
+    calls = {}
+    for m in re.finditer(rf"\blet ({ID}) = ({ID})((?:\.before)*)\.({ID}) in\b", body):
+        at = place
+        while m[2] in roots and at:
+            if plain(fn.places[at][0]) == plain(m[4]):
+                calls[m[1]] = fn.clauses[at]
+                break
+            at = fn.parent[at]
+
     def turn(m):
         root, parts = m[1], m[2].split(".")[1:]
+        if root in calls and parts[0] == "ensures":
+            return as_pairs(f"{root}.ensures", parts[1:], calls[root])
         if root not in roots:
             return m[0]
         parts = [p for p in parts if p != "before"]
@@ -142,6 +153,10 @@ def turn_paths(body, fn, place, roots):
         at = place
         while at and plain(fn.places[at][0]) != plain(head):
             at = fn.parent[at]
+        if not at and re.search(r"\d$", head):
+            base, at = plain(head).rstrip("0123456789"), place
+            while at and plain(fn.places[at][0]).rstrip("0123456789") != base:
+                at = fn.parent[at]
         if not at:
             return ".".join([root, fn.step(head, place) or head.replace("-", "_")] + rest)
         rest = [fn.fields[at].get(p, p) if k == 0 else p for k, p in enumerate(rest)]
@@ -189,7 +204,8 @@ def parts_of(term):
         if ch == "," and depth == 1:
             found.append(term[last:k])
             last = k + 1
-    found.append(term[last:-1])
+    if term[last:-1].strip():
+        found.append(term[last:-1])
     return found if len(found) > 1 else None
 
 
@@ -210,6 +226,9 @@ def as_record(term, fields):
         values.append(found[0])
         if len(values) == n - 1:
             values.append(", ".join(found[1:]))
+            break
+        if len(found) == 2 and is_plain(found[1]):
+            values += ["search rules"] * (n - len(values))
             break
         found = parts_of(found[1]) if len(found) == 2 else None
     if len(values) == n:
@@ -249,6 +268,7 @@ def convert(path, names, crate, module):
     if not call:
         raise ValueError("another form")
     args = atoms(call[1])
+    whole = re.search(r"(?m)^unfolding .*$", dict((n, t) for n, t in parts if n).get(spec[1], ""))
     loops = len(fn.loops)
     want = 2 * loops + len(fn.needs)
     if len(args) != want:
@@ -295,7 +315,7 @@ def convert(path, names, crate, module):
         if arg.startswith("("):
             m = re.fullmatch(r"\(λ ([^.]*)\.\s+(.*)\)", arg, re.S)
             if m:
-                binders, term, opened = m[1].split(), m[2].strip(), None
+                binders, term, opened = m[1].split(), m[2].strip(), whole
             else:
                 binders, term, opened = ["c"], arg + " c", None
         elif arg in own:

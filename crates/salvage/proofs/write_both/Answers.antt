@@ -14,17 +14,14 @@ returns-then-list-measure_list c = let both = no_list_room _ _ _ _ _ _ _ _ _ c.m
     c.if-out-sizes.false _ c.measure_list.ensures c.if-list-measure_list.true _ c.placeless-then-list-measure_list.ensures in record { answer = both.0; sheet = both.1.0; changes = both.1.1 }
 
 pub put_sheet-bytes-requires : goal.put_sheet-bytes-requires
-put_sheet-bytes-requires c = record { small = c.requires.small; sizes_value = (
-        c.measure_texts-sizes.ensures.sizes,
-        c.if-out-sizes.false,
-      ); tables_in_bounds =  }
+put_sheet-bytes-requires c = record { small = c.requires.small; sizes_value = c.measure_texts-sizes.ensures.sizes; tables_in_bounds = c.if-out-sizes.false }
 
 pub put_list-listed-requires : goal.put_list-listed-requires
 put_list-listed-requires c = record { small = c.requires.small; tables_in_bounds = omega (
         arith,
         c.measure_list.ensures,
         c.if-list-measure_list.false,
-      ), }
+      ) }
 
 pub returns-in-Refused : goal.returns-in-Refused
 returns-in-Refused c = let both = both_grown _ _ _ _ _ _ _ _ _ c.measure_texts-sizes.ensures.sizes _

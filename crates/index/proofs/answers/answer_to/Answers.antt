@@ -9,12 +9,12 @@ pub returns-then-states-fits : goal.returns-then-states-fits
 returns-then-states-fits c = let f = c in
     let x = f in
     answer_fits _ _ _ _ x.requires.ready _ _ _ x.read_states-states.ensures _
-    f.named.ensures _ f.held-request.ensures _ f.fits2.ensures
+    f.named.ensures _ f.held-request.ensures _ f.fits.ensures
     c.if-states-fits.true _ c.found_answer.ensures
 
 pub returns : goal.returns
 returns c = let f = c in
     let x = f in
     answer_unfit _ _ _ _ x.requires.ready _ _ _ x.read_states-states.ensures _
-    f.named.ensures _ f.held-request.ensures _ f.fits2.ensures
+    f.named.ensures _ f.held-request.ensures _ f.fits.ensures
     c.if-states-fits.false _ c.unfit_answer.ensures

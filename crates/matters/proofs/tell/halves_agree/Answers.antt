@@ -43,7 +43,7 @@ returns-in-Differs c = let a = c.args in
     let tried = c.try_half in
     trying_differs (view_of a.tables.now a.notes.now) (request_at a.names.now a.request) a.f a.s.now l.rest.now l.places l.n
     l.invariant
-    first.result.now first.ensures full half.result.now half.ensures at.result at.ensures tried.result tried.ensures.0
+    first.result.now first.ensures full half.result.now half.ensures at.result at.ensures tried.result tried.ensures.answer
     (search rules)
 
 pub loop-rest-smaller : goal.loop-rest-smaller
@@ -63,5 +63,5 @@ loop-rest-preserved c = let a = c.args in
     let tried = c.try_half in
     let next = c.after_element-next in
     trying_more (view_of a.tables.now a.notes.now) (request_at a.names.now a.request) a.f a.s.now l.rest.now l.places l.n l.invariant
-    first.result.now first.ensures full half.result.now half.ensures at.result at.ensures tried.result tried.ensures.0
-    c.in-Agrees.count (search rules) tried.new.1.1.1.1.1.1.1.0 tried.ensures.1 next.result.now next.ensures
+    first.result.now first.ensures full half.result.now half.ensures at.result at.ensures tried.result tried.ensures.answer
+    c.in-Agrees.count (search rules) tried.new.places tried.ensures.holds next.result.now next.ensures

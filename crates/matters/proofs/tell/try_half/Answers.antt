@@ -23,4 +23,4 @@ returns c = let a = c.args in
     let note = c.note-count in
     let both = try_agrees (finder_at a.tables.now a.notes.now a.names.now a.request) a.f a.s.now a.places.now a.n a.at a.h.now
     was.result was.ensures c.if-was_tried.false name.result name.ensures
-    c.if-not-name_agrees.false-raw note.result note.new.0 note.ensures in record { answer = both.0; holds = both.1 }
+    c.if-not-name_agrees.false-raw note.result note.new.places (note.ensures.count, note.ensures.holds) in record { answer = both.0; holds = both.1 }

@@ -19,4 +19,4 @@ returns c = record { sizes = sizes_measured _ _ _ _ _ _ _ _ _ _ c.measure.ensure
           c.measure-3.ensures.count c.measure-4.ensures.count; few = (
         c.measure.ensures.few,
         (c.measure-2.ensures.few, (c.measure-3.ensures.few, c.measure-4.ensures.few)),
-      ), }
+      ) }

@@ -7,7 +7,7 @@ pub loop-at-init : goal.loop-at-init
 loop-at-init c = outright (search (putting_start, rules))
 
 pub piece_at-found-requires : goal.piece_at-found-requires
-piece_at-found-requires c = let both = (c.classes-class.ensures, search rules) in record { classes = both.0; text_len_bound = both.1.0; at_bound = both.1.1 }
+piece_at-found-requires c = record { classes = c.classes-class.ensures; text_len_bound = search rules; at_bound = search rules }
 
 pub put_piece-next-requires : goal.put_piece-next-requires
 put_piece-next-requires c = outright (search (putting_room, rules))

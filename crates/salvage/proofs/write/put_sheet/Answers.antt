@@ -5,31 +5,19 @@ use Rattle.salvage.proofs.CallLaws.{size_allow, size_deny, size_byuid, size_port
 use Rattle.salvage.proofs.write.put_sheet.Goals as goal
 
 pub put_counted-at_deny-requires : goal.put_counted-at_deny-requires
-put_counted-at_deny-requires c = record { text_len_bound = c.requires.small.allow; count_value = (
-        size_allow _ _ _ _ _ _ _
-            c.requires.sizes_value,
-        search rules,
-      ); count_in_bounds =  }
+put_counted-at_deny-requires c = record { text_len_bound = c.requires.small.allow; count_value = size_allow _ _ _ _ _ _ _
+            c.requires.sizes_value; count_in_bounds = search rules }
 
 pub put_counted-at_byuid-requires : goal.put_counted-at_byuid-requires
-put_counted-at_byuid-requires c = record { text_len_bound = c.requires.small.deny; count_value = (
-        size_deny _ _ _ _ _ _ _
-            c.requires.sizes_value,
-        search rules,
-      ); count_in_bounds =  }
+put_counted-at_byuid-requires c = record { text_len_bound = c.requires.small.deny; count_value = size_deny _ _ _ _ _ _ _
+            c.requires.sizes_value; count_in_bounds = search rules }
 
 pub put_counted-at_portacl-requires : goal.put_counted-at_portacl-requires
-put_counted-at_portacl-requires c = record { text_len_bound = c.requires.small.byuid; count_value = (
-        size_byuid _ _ _ _ _ _ _ c.requires.sizes_value,
-        search rules,
-      ); count_in_bounds =  }
+put_counted-at_portacl-requires c = record { text_len_bound = c.requires.small.byuid; count_value = size_byuid _ _ _ _ _ _ _ c.requires.sizes_value; count_in_bounds = search rules }
 
 pub put_counted-at_tables-requires : goal.put_counted-at_tables-requires
-put_counted-at_tables-requires c = record { text_len_bound = c.requires.small.portacl; count_value = (
-        size_portacl _ _ _ _ _ _ _
-            c.requires.sizes_value,
-        search rules,
-      ); count_in_bounds =  }
+put_counted-at_tables-requires c = record { text_len_bound = c.requires.small.portacl; count_value = size_portacl _ _ _ _ _ _ _
+            c.requires.sizes_value; count_in_bounds = search rules }
 
 pub put-requires : goal.put-requires
 put-requires c = omega (
