@@ -12,5 +12,5 @@ pub longest_run-longest-requires : goal.longest_run-longest-requires
 longest_run-longest-requires c = ap length c.groups-each.ensures ∙ length_to_digits 65536 8 _
 
 pub returns : goal.returns
-returns c = let g = c in
-    rw (← g.groups-each.ensures) (is_abbreviated _ _ c.longest_run-longest.ensures.run (ap length g.groups-each.ensures ∙ length_to_digits 65536 8 _))
+returns c = rw (← c.groups-each.ensures) (is_abbreviated _ _ c.longest_run-longest.ensures.run (ap length
+    c.groups-each.ensures ∙ length_to_digits 65536 8 _))

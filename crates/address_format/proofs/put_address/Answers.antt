@@ -4,24 +4,23 @@ use Rattle.address_format.proofs.WriteLaws.{addr_text_unknown, addr_text_v4, add
 use Rattle.address_format.proofs.put_address.Goals as goal
 
 pub put-requires : goal.put-requires
-put-requires c = let a = c in rw (addr_text_unknown a.args.a (search rules)) at a.requires
+put-requires c = rw (addr_text_unknown c.args.a (search rules)) at c.requires
 
 pub put_v4-requires : goal.put_v4-requires
-put_v4-requires c = let a = c in
-    rw (addr_text_v4 a.args.a c.in-V4.n (search rules)) at a.requires
+put_v4-requires c = rw (addr_text_v4 c.args.a c.in-V4.n (search rules)) at c.requires
 
 pub put_v6-requires : goal.put_v6-requires
-put_v6-requires c = let a = c in
-    rw (addr_text_v6 a.args.a c.in-V6.high c.in-V6.low (search rules)) at a.requires
+put_v6-requires c = rw (addr_text_v6 c.args.a c.in-V6.high c.in-V6.low (search rules)) at c.requires
 
 pub returns-in-Unknown : goal.returns-in-Unknown
-returns-in-Unknown c = let a = c in
-    rw (addr_text_unknown a.args.a (search rules)) (record { next = c.put.ensures.next; written = c.put.ensures.written })
+returns-in-Unknown c = rw (addr_text_unknown c.args.a (search rules)) (record { next = c.put.ensures.next; written = c.put.ensures.written })
 
 pub returns-in-V4 : goal.returns-in-V4
-returns-in-V4 c = let a = c in
-    rw (addr_text_v4 a.args.a c.in-V4.n (search rules)) (record { next = c.put_v4.ensures.next; written = c.put_v4.ensures.written })
+returns-in-V4 c = rw (addr_text_v4 c.args.a c.in-V4.n (search rules)) (record { next = c.put_v4.ensures.next; written = c.put_v4.ensures.written })
 
 pub returns-in-V6 : goal.returns-in-V6
-returns-in-V6 c = let a = c in
-    rw (addr_text_v6 a.args.a c.in-V6.high c.in-V6.low (search rules)) (record { next = c.put_v6.ensures.next; written = c.put_v6.ensures.written })
+returns-in-V6 c = rw (addr_text_v6 c.args.a c.in-V6.high c.in-V6.low (search rules)) (record {
+  next = c.put_v6.ensures.next;
+  written =
+      c.put_v6.ensures.written;
+})

@@ -18,14 +18,13 @@ pub put_digit-q-requires : goal.put_digit-q-requires
 put_digit-q-requires c = search (group_third_room, rules)
 
 pub put_digit-requires : goal.put_digit-requires
-put_digit-requires c = let p2 = c in
-    let p1 = p2 in
-    let e = p1 in
-    (group_last_room _ _ _ e.requires e.if-g-lt256.false _ _ (p1.put_pair-p.ensures.next, p1.put_pair-p.ensures.written) _ _ (p2.put_digit-q.ensures.next, p2.put_digit-q.ensures.written), search rules)
+put_digit-requires c = (
+  group_last_room _ _ _ c.requires c.if-g-lt256.false _ _ (c.put_pair-p.ensures.next, c.put_pair-p.ensures.written) _ _
+      (c.put_digit-q.ensures.next, c.put_digit-q.ensures.written),
+  search rules,
+)
 
 pub returns : goal.returns
-returns c = let p3 = c in
-    let p2 = p3 in
-    let p1 = p2 in
-    let e = p1 in
-    let both = group_four _ _ _ e.requires e.if-g-lt256.false _ _ (p1.put_pair-p.ensures.next, p1.put_pair-p.ensures.written) _ _ (p2.put_digit-q.ensures.next, p2.put_digit-q.ensures.written) _ _ (p3.put_digit.ensures.next, p3.put_digit.ensures.written) in record { next = both.0; written = both.1 }
+returns c = let both = group_four _ _ _ c.requires c.if-g-lt256.false _ _ (c.put_pair-p.ensures.next, c.put_pair-p.ensures.written) _ _
+    (c.put_digit-q.ensures.next, c.put_digit-q.ensures.written) _ _ (c.put_digit.ensures.next, c.put_digit.ensures.written) in
+    record { next = both.0; written = both.1 }

@@ -15,8 +15,9 @@ pub put_colon_groups-requires : goal.put_colon_groups-requires
 put_colon_groups-requires c = outright (search (hex_groups_rest_room, rules))
 
 pub returns : goal.returns
-returns c = let p = c in
-    let e = p in
-    let a = e in
-    let both = hex_groups_all a.args.out.now a.args.gs.now a.args.at a.requires
-    e.if-gs-eq0.false _ _ (p.put_group-p.ensures.next, p.put_group-p.ensures.written) _ _ (c.put_colon_groups.ensures.next, c.put_colon_groups.ensures.written) in record { next = both.0; written = both.1 }
+returns c = let both = hex_groups_all c.args.out.now c.args.gs.now c.args.at c.requires
+    c.if-gs-eq0.false _ _ (c.put_group-p.ensures.next, c.put_group-p.ensures.written) _ _ (
+      c.put_colon_groups.ensures.next,
+      c.put_colon_groups.ensures.written,
+    ) in
+    record { next = both.0; written = both.1 }

@@ -12,5 +12,8 @@ pub shape_of-out : goal.shape_of-out
 shape_of-out c = c.put_decimal.auto.out ∙ simp length-set
 
 pub returns : goal.returns
-returns c = let b = c in
-    let both = byte_all b.args.out.now (decimal b.args.n) b.args.at 46 b.requires _ _ (c.put_decimal.ensures.next, c.put_decimal.ensures.written) in record { next = both.0; written = both.1 }
+returns c = let both = byte_all c.args.out.now (decimal c.args.n) c.args.at 46 c.requires _ _ (
+  c.put_decimal.ensures.next,
+  c.put_decimal.ensures.written,
+) in
+    record { next = both.0; written = both.1 }

@@ -12,5 +12,8 @@ pub shape_of-out : goal.shape_of-out
 shape_of-out c = c.put_group.auto.out ∙ simp length-set
 
 pub returns : goal.returns
-returns c = let b = c in
-    let both = byte_all b.args.out.now (numeral 16 4 b.args.g) b.args.at 58 b.requires _ _ (c.put_group.ensures.next, c.put_group.ensures.written) in record { next = both.0; written = both.1 }
+returns c = let both = byte_all c.args.out.now (numeral 16 4 c.args.g) c.args.at 58 c.requires _ _ (
+  c.put_group.ensures.next,
+  c.put_group.ensures.written,
+) in
+    record { next = both.0; written = both.1 }

@@ -8,8 +8,11 @@ pub put_digit-requires : goal.put_digit-requires
 put_digit-requires c = outright (search (pair_room, rules))
 
 pub returns-then-n-lt16 : goal.returns-then-n-lt16
-returns-then-n-lt16 c = let b = c in
-    let both = pair_one _ _ _ b.requires.1 b.requires.0 (search rules) _ _ (c.put_digit.ensures.next, c.put_digit.ensures.written) in record { next = both.0; written = both.1 }
+returns-then-n-lt16 c = let both = pair_one _ _ _ c.requires.1 c.requires.0 (search rules) _ _ (
+  c.put_digit.ensures.next,
+  c.put_digit.ensures.written,
+) in
+    record { next = both.0; written = both.1 }
 
 pub put_digit-p-requires : goal.put_digit-p-requires
 put_digit-p-requires c = search (pair_room, rules)
@@ -18,6 +21,6 @@ pub put_digit-requires-2 : goal.put_digit-requires-2
 put_digit-requires-2 c = search (pair_last_room, rules)
 
 pub returns : goal.returns
-returns c = let e = c in
-    let b = e in
-    let both = pair_two _ _ _ b.requires.1 b.requires.0 (search rules) _ _ (e.put_digit-p.ensures.next, e.put_digit-p.ensures.written) _ _ (c.put_digit-2.ensures.next, c.put_digit-2.ensures.written) in record { next = both.0; written = both.1 }
+returns c = let both = pair_two _ _ _ c.requires.1 c.requires.0 (search rules) _ _ (c.put_digit-p.ensures.next, c.put_digit-p.ensures.written)
+    _ _ (c.put_digit-2.ensures.next, c.put_digit-2.ensures.written) in
+    record { next = both.0; written = both.1 }

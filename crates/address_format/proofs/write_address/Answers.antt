@@ -10,7 +10,9 @@ pub put_address-n-requires : goal.put_address-n-requires
 put_address-n-requires c = omega (arith, length_addr_text c.args.a)
 
 pub returns-then-out-n : goal.returns-then-out-n
-returns-then-out-n c = let both = write_refused _ _ _ _ (c.put_address-n.ensures.next, c.put_address-n.ensures.written) _ c.if-out-n.true _ c.placeless.ensures in record { answer = both.0; holds = both.1 }
+returns-then-out-n c = let both = write_refused _ _ _ _ (c.put_address-n.ensures.next, c.put_address-n.ensures.written) _ c.if-out-n.true _
+    c.placeless.ensures in
+    record { answer = both.0; holds = both.1 }
 
 pub slice_bounds-buffer-end : goal.slice_bounds-buffer-end
 slice_bounds-buffer-end c = buffer_within _ _ _ _ (c.put_address-n.ensures.next, c.put_address-n.ensures.written) refl

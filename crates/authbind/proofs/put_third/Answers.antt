@@ -20,11 +20,15 @@ pub returns-in-Unknown : goal.returns-in-Unknown
 returns-in-Unknown c = let both = third_none _ (search rules) _ _ in record { next = both.0; written = both.1 }
 
 pub returns-in-V4 : goal.returns-in-V4
-returns-in-V4 c = let s = c in
-    let both = text_all _ _ _ _ _ (search (third_v4, rules)) s.requires _ _ (c.put_address-colon.ensures.next, c.put_address-colon.ensures.written) _ _
+returns-in-V4 c = let both = text_all _ _ _ _ _ (search (third_v4, rules)) c.requires _ _ (
+  c.put_address-colon.ensures.next,
+  c.put_address-colon.ensures.written,
+) _ _
     (c.put.ensures.next, c.put.ensures.written) in record { next = both.0; written = both.1 }
 
 pub returns-in-V6 : goal.returns-in-V6
-returns-in-V6 c = let s = c in
-    let both = text_all _ _ _ _ _ (search (third_v6, rules)) s.requires _ _ (c.put_unabbreviated-comma.ensures.next, c.put_unabbreviated-comma.ensures.written) _ _
+returns-in-V6 c = let both = text_all _ _ _ _ _ (search (third_v6, rules)) c.requires _ _ (
+  c.put_unabbreviated-comma.ensures.next,
+  c.put_unabbreviated-comma.ensures.written,
+) _ _
     (c.put-in-V6.ensures.next, c.put-in-V6.ensures.written) in record { next = both.0; written = both.1 }

@@ -4,9 +4,9 @@ use Rattle.authbind.proofs.StepLaws.{step_test, step_read, step_granted, step_de
 use Rattle.authbind.proofs.step.Goals as goal
 
 pub returns-in-Test : goal.returns-in-Test
-returns-in-Test c = let w = c in
-    let both = step_test _ _ _ _ w.args.out.now w.in-Test.test
-    (search rules) _ w.file_of.ensures _ _ (w.write_name.ensures.answer, w.write_name.ensures.holds) _ c.as_test.ensures in record { answer = both.0; holds = both.1 }
+returns-in-Test c = let both = step_test _ _ _ _ c.args.out.now c.in-Test.test
+    (search rules) _ c.file_of.ensures _ _ (c.write_name.ensures.answer, c.write_name.ensures.holds) _ c.as_test.ensures in
+    record { answer = both.0; holds = both.1 }
 
 pub returns-in-Byuid : goal.returns-in-Byuid
 returns-in-Byuid c = let both = step_read _ _ _ _ c.args.out.now (search rules) _ _

@@ -13,13 +13,18 @@ put_name-n-requires c = omega (
 )
 
 pub returns-then-out-n : goal.returns-then-out-n
-returns-then-out-n c = let both = name_refused _ _ _ _ (c.put_name-n.ensures.next, c.put_name-n.ensures.written) _ c.if-out-n.true _ c.placeless.ensures in record { answer = both.0; holds = both.1 }
+returns-then-out-n c = let both = name_refused _ _ _ _ (c.put_name-n.ensures.next, c.put_name-n.ensures.written) _ c.if-out-n.true _
+    c.placeless.ensures in
+    record { answer = both.0; holds = both.1 }
 
 pub slice_bounds-buffer-end : goal.slice_bounds-buffer-end
 slice_bounds-buffer-end c = buffer_within _ _ _ _ (c.put_name-n.ensures.next, c.put_name-n.ensures.written) (length_name _ _ _ _)
 
 pub slice_bounds-put-end : goal.slice_bounds-put-end
-slice_bounds-put-end c = sym (length-take-le _ _ (buffer_within _ _ _ _ (c.put_name-n.ensures.next, c.put_name-n.ensures.written) (length_name _ _ _ _)))
+slice_bounds-put-end c = sym (length-take-le _ _ (buffer_within _ _ _ _ (
+  c.put_name-n.ensures.next,
+  c.put_name-n.ensures.written,
+) (length_name _ _ _ _)))
 
 pub put-count-requires : goal.put-count-requires
 put-count-requires c = omega (

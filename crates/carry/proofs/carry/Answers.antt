@@ -4,12 +4,14 @@ use borrow.Author.Rules.{rules}
 use Rattle.carry.proofs.carry.Goals as goal
 
 pub returns-then-over : goal.returns-then-over
-returns-then-over c = let both = carry_over _ _ _ _ _ c.over.ensures c.if-over.true _ c.refusal.ensures in record { answer = both.0; lower = both.1.0; upper = both.1.1 }
+returns-then-over c = let both = carry_over _ _ _ _ _ c.over.ensures c.if-over.true _ c.refusal.ensures in
+    record { answer = both.0; lower = both.1.0; upper = both.1.1 }
 
 pub returns-then-uid-eq0 : goal.returns-then-uid-eq0
 returns-then-uid-eq0 c = let both = carry_root _ _ _ _ _ c.over.ensures
     c.if-over.false _
-    c.note_ports.ensures.answer (search rules) c.if-uid-eq0.true _ c.placeless.ensures in record { answer = both.0; lower = both.1.0; upper = both.1.1 }
+    c.note_ports.ensures.answer (search rules) c.if-uid-eq0.true _ c.placeless.ensures in
+    record { answer = both.0; lower = both.1.0; upper = both.1.1 }
 
 pub returns-in-Refused : goal.returns-in-Refused
 returns-in-Refused c = let both = carry_bad _ _ _ _ _ c.over.ensures
@@ -27,4 +29,5 @@ returns-else-uid-eq0 c = let both = carry_written _ _
     (search rules) c.if-uid-eq0.false _ _
     c.note_ports.ensures.over_tcp
     c.note_ports.ensures.over_udp _
-    _ _ (c.write_texts.ensures.answer, (c.write_texts.ensures.lower, c.write_texts.ensures.upper)) in record { answer = both.0; lower = both.1.0; upper = both.1.1 }
+    _ _ (c.write_texts.ensures.answer, (c.write_texts.ensures.lower, c.write_texts.ensures.upper)) in
+    record { answer = both.0; lower = both.1.0; upper = both.1.1 }

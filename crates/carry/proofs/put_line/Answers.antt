@@ -17,4 +17,5 @@ put-requires c = line_room_3 _ _ _ _ c.requires _ _
 pub returns : goal.returns
 returns c = let both = line_all _ _ _ _ c.requires _ _
     (c.put-number.ensures.next, c.put-number.ensures.written) _ _
-    (c.put_decimal-end.ensures.next, c.put_decimal-end.ensures.written) _ _ (c.put.ensures.next, c.put.ensures.written) in record { next = both.0; written = both.1 }
+    (c.put_decimal-end.ensures.next, c.put_decimal-end.ensures.written) _ _ (c.put.ensures.next, c.put.ensures.written) in
+    record { next = both.0; written = both.1 }

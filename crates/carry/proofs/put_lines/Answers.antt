@@ -12,4 +12,5 @@ put_line-requires c = outright (search (lines_room_2, rules))
 
 pub returns : goal.returns
 returns c = let both = lines_all _ _ _ c.requires _ _
-    (c.put_line-next.ensures.next, c.put_line-next.ensures.written) _ _ (c.put_line.ensures.next, c.put_line.ensures.written) in record { next = both.0; written = both.1 }
+    (c.put_line-next.ensures.next, c.put_line-next.ensures.written) _ _ (c.put_line.ensures.next, c.put_line.ensures.written) in
+    record { next = both.0; written = both.1 }

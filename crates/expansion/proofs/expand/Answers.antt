@@ -12,11 +12,13 @@ expand_line-requires c = let a = c.args in
 pub returns-then-len-le2047 : goal.returns-then-len-le2047
 returns-then-len-le2047 c = let both = line_written _ _ _ c.args.out.now _
     c.joined-measured.ensures c.if-clean.true
-    (omega (arith, c.if-len-le2047.true)) _ _ (c.expand_line.ensures.answer, c.expand_line.ensures.holds) in record { answer = both.0; holds = both.1 }
+    (omega (arith, c.if-len-le2047.true)) _ _ (c.expand_line.ensures.answer, c.expand_line.ensures.holds) in
+    record { answer = both.0; holds = both.1 }
 
 pub returns-then-clean : goal.returns-then-clean
 returns-then-clean c = let both = length_refused _ _ _ _ _ c.joined-measured.ensures c.if-clean.true
     (omega (arith, c.if-len-le2047.false)) _ c.placeless.ensures in record { answer = both.0; holds = both.1 }
 
 pub returns : goal.returns
-returns c = let both = byte_refused _ _ _ _ _ c.joined-measured.ensures c.if-clean.false _ c.placeless-2.ensures in record { answer = both.0; holds = both.1 }
+returns c = let both = byte_refused _ _ _ _ _ c.joined-measured.ensures c.if-clean.false _ c.placeless-2.ensures in
+    record { answer = both.0; holds = both.1 }

@@ -19,19 +19,17 @@ put_decimal-n-requires c = let a =
     omega (arith, length_addr_text a.request.client.addr, length_addr_text a.request.server.addr, (length_numeral 10 10 a.process).0)
 
 pub write_expansion-requires : goal.write_expansion-requires
-write_expansion-requires c = let b = c in
-    let s = b in (
-      s.requires.0,
-      request_short s.args.request s.args.names.now _ _ _ _ _ _ _ _ _ s.args.process
-          (c.put-w.ensures.next, c.put-w.ensures.written)
-          (c.put_address-a.ensures.next, c.put_address-a.ensures.written)
-          (c.put_address-b.ensures.next, c.put_address-b.ensures.written)
-          (c.put_decimal-n.ensures.next, c.put_decimal-n.ensures.written) _ c.given_at.ensures s.requires.1,
-    )
+write_expansion-requires c = (
+  c.requires.0,
+  request_short c.args.request c.args.names.now _ _ _ _ _ _ _ _ _ c.args.process
+      (c.put-w.ensures.next, c.put-w.ensures.written)
+      (c.put_address-a.ensures.next, c.put_address-a.ensures.written)
+      (c.put_address-b.ensures.next, c.put_address-b.ensures.written)
+      (c.put_decimal-n.ensures.next, c.put_decimal-n.ensures.written) _ c.given_at.ensures c.requires.1,
+)
 
 pub returns : goal.returns
-returns c = let b = c in
-    let a = b.args in
+returns c = let a = c.args in
     let both = request_gave a.request a.names.now _ _ _ _ _ _ _ _ _ a.process
     (c.put-w.ensures.next, c.put-w.ensures.written)
     (c.put_address-a.ensures.next, c.put_address-a.ensures.written)

@@ -4,7 +4,8 @@ use Rattle.expansion.proofs.CallLaws.{percent_refused, request_refused, request_
 use Rattle.expansion.proofs.expand_trimmed.Goals as goal
 
 pub returns-then-has_bad_percent : goal.returns-then-has_bad_percent
-returns-then-has_bad_percent c = let both = percent_refused _ _ _ _ _ c.has_bad_percent.ensures c.if-has_bad_percent.true _ c.placeless.ensures in record { answer = both.0; holds = both.1 }
+returns-then-has_bad_percent c = let both = percent_refused _ _ _ _ _ c.has_bad_percent.ensures c.if-has_bad_percent.true _ c.placeless.ensures in
+    record { answer = both.0; holds = both.1 }
 
 pub expand_request-requires : goal.expand_request-requires
 expand_request-requires c = (c.requires, sym c.fits.ensures ∙ c.if-fits.true)

@@ -9,7 +9,8 @@ pub returns-then-not-fits : goal.returns-then-not-fits
 returns-then-not-fits c = outright (search (texts_unfit, rules))
 
 pub settle_by-requires : goal.settle_by-requires
-settle_by-requires c = record { tables_value = search (untabled, rules); tables_value_2 = search (texts_sound, rules); unasked = search (texts_unasked, rules) }
+settle_by-requires c =
+    record { tables_value = search (untabled, rules); tables_value_2 = search (texts_sound, rules); unasked = search (texts_unasked, rules) }
 
 pub returns-in-Refused : goal.returns-in-Refused
 returns-in-Refused c = outright (search (texts_refused, rules))

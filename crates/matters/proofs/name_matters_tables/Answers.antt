@@ -8,7 +8,8 @@ pub returns-then-not-fits : goal.returns-then-not-fits
 returns-then-not-fits c = outright (search (tables_unfit, rules))
 
 pub settle_by-requires : goal.settle_by-requires
-settle_by-requires c = record { tables_value = search (tables_whole, rules); tables_value_2 = search (tables_sound, rules); unasked = search (tables_unasked, rules) }
+settle_by-requires c =
+    record { tables_value = search (tables_whole, rules); tables_value_2 = search (tables_sound, rules); unasked = search (tables_unasked, rules) }
 
 pub returns-in-Refused : goal.returns-in-Refused
 returns-in-Refused c = outright (search (tables_refused, rules))

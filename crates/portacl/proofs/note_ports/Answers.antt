@@ -5,13 +5,15 @@ use Rattle.text.proofs.Search.{outright}
 use Rattle.portacl.proofs.note_ports.Goals as goal
 
 pub returns-then-text-eq0 : goal.returns-then-text-eq0
-returns-then-text-eq0 c = record { answer = search (note_empty, rules); over_tcp = search (notes_empty, rules); over_udp = search (notes_empty, rules) }
+returns-then-text-eq0 c =
+    record { answer = search (note_empty, rules); over_tcp = search (notes_empty, rules); over_udp = search (notes_empty, rules) }
 
 pub loop-at-init : goal.loop-at-init
 loop-at-init c = outright (search (noting_start, rules))
 
 pub returns-in-Nothing : goal.returns-in-Nothing
-returns-in-Nothing c = record { answer = search (noting_bad, rules); over_tcp = search (noting_bad_tcp, rules); over_udp = search (noting_bad_udp, rules) }
+returns-in-Nothing c =
+    record { answer = search (noting_bad, rules); over_tcp = search (noting_bad_tcp, rules); over_udp = search (noting_bad_udp, rules) }
 
 pub loop-at-preserved : goal.loop-at-preserved
 loop-at-preserved c = outright (search (noting_on, rules))

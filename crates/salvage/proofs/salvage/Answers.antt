@@ -8,10 +8,12 @@ pub salvage_parts-requires : goal.salvage_parts-requires
 salvage_parts-requires c = outright (search (call_small, rules))
 
 pub returns-in-Refused : goal.returns-in-Refused
-returns-in-Refused c = let both = call_refused _ _ _ _ c.frame.ensures _ (search rules) in record { answer = both.0; sheet = both.1.0; changes = both.1.1 }
+returns-in-Refused c = let both = call_refused _ _ _ _ c.frame.ensures _ (search rules) in
+    record { answer = both.0; sheet = both.1.0; changes = both.1.1 }
 
 pub returns-in-Parts : goal.returns-in-Parts
 returns-in-Parts c = let both = call_done _ c.args.out.now
     c.args.list.now _
     c.frame.ensures _ _ _ _
-    (c.salvage_parts.ensures.answer, (c.salvage_parts.ensures.sheet, c.salvage_parts.ensures.changes)) c.in-Parts.is in record { answer = both.0; sheet = both.1.0; changes = both.1.1 }
+    (c.salvage_parts.ensures.answer, (c.salvage_parts.ensures.sheet, c.salvage_parts.ensures.changes)) c.in-Parts.is in
+    record { answer = both.0; sheet = both.1.0; changes = both.1.1 }

@@ -16,4 +16,5 @@ returns c = let both = texts_done c.args.sheet.now c.args.parts _
     c.part_of-5.ensures
     c.args.out.now
     c.args.list.now _ _ _
-    (c.salvage_texts.ensures.answer, (c.salvage_texts.ensures.sheet, c.salvage_texts.ensures.changes)) in record { answer = both.0; sheet = both.1.0; changes = both.1.1 }
+    (c.salvage_texts.ensures.answer, (c.salvage_texts.ensures.sheet, c.salvage_texts.ensures.changes)) in
+    record { answer = both.0; sheet = both.1.0; changes = both.1.1 }

@@ -1,4 +1,3 @@
-
 use mathlib.Core.Path.{sym, ap}
 use Rattle.section.specs.Refusal.{fault_number}
 use Rattle.section.proofs.fault_number.Goals as goal

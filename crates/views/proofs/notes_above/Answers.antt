@@ -19,8 +19,7 @@ pub bounds-notes-k-in-loop-i : goal.bounds-notes-k-in-loop-i
 bounds-notes-k-in-loop-i c = outright (search (raised_place, rules))
 
 pub loop-i-preserved : goal.loop-i-preserved
-loop-i-preserved c = let b = c in
-    raised_more _ _ _ _ _ _ b.loop-i.invariant b.loop-i-test.true _ b.entry_span-span.ensures b.if-span.false
+loop-i-preserved c = raised_more _ _ _ _ _ _ c.loop-i.invariant c.loop-i-test.true _ c.entry_span-span.ensures c.if-span.false
     _ c.entry_text.ensures _ c.leads.ensures _ refl
     _ c.mark.ensures _ c.after_entry-next.ensures
 

@@ -11,9 +11,8 @@ pub slice_bounds-read_groups-end : goal.slice_bounds-read_groups-end
 slice_bounds-read_groups-end c = sym (length-take-le _ _ (search rules))
 
 pub join-requires : goal.join-requires
-join-requires c = let b = c in
-    let l = groups_fit_lem false _ _ _ (sym b.read_groups-left.ensures ∙ c.in-Groups.is) in
-    (l.0, (l.1, groups_fit_lem true _ _ _ (sym b.read_groups-right.ensures ∙ c.in-Groups-right.is)))
+join-requires c = let l = groups_fit_lem false _ _ _ (sym c.read_groups-left.ensures ∙ c.in-Groups.is) in
+    (l.0, (l.1, groups_fit_lem true _ _ _ (sym c.read_groups-right.ensures ∙ c.in-Groups-right.is)))
 
 pub returns-in-Nothing : goal.returns-in-Nothing
 returns-in-Nothing c = outright (search (sides_left, rules))

@@ -4,9 +4,10 @@ use Rattle.expansion.proofs.TextLaws.{length_alone, length_joined}
 use Rattle.expansion.proofs.directive.inserted_length.Goals as goal
 
 pub returns-then-has_at : goal.returns-then-has_at
-returns-then-has_at c = let b = c in
-    let both = length_joined _ _ _ b.directive_text-text.ensures _ b.has_at.ensures (search rules) c.if-has_at.true _ c.name_before-name.ensures in record { length = both.0; within = both.1 }
+returns-then-has_at c = let both = length_joined _ _ _ c.directive_text-text.ensures _ c.has_at.ensures (search rules) c.if-has_at.true _
+    c.name_before-name.ensures in
+    record { length = both.0; within = both.1 }
 
 pub returns : goal.returns
-returns c = let b = c in
-    let both = length_alone _ _ _ b.directive_text-text.ensures _ b.has_at.ensures (search rules) c.if-has_at.false in record { length = both.0; within = both.1 }
+returns c = let both = length_alone _ _ _ c.directive_text-text.ensures _ c.has_at.ensures (search rules) c.if-has_at.false in
+    record { length = both.0; within = both.1 }

@@ -6,24 +6,33 @@ use Rattle.expansion.proofs.TextLaws.{name_room, at_room, text_room, text_all}
 use Rattle.expansion.proofs.directive.put_joined.Goals as goal
 
 pub put_safe-p-requires : goal.put_safe-p-requires
-put_safe-p-requires c = let s = c in name_room s.args.out.now s.args.name.now s.args.text.now s.args.at s.requires
+put_safe-p-requires c = name_room c.args.out.now c.args.name.now c.args.text.now c.args.at c.requires
 
 pub bounds-out-p : goal.bounds-out-p
-bounds-out-p c = let p = c in let s = p in
-    at_room s.args.out.now s.args.name.now s.args.text.now s.args.at s.requires _ _ (p.put_safe-p.ensures.next, p.put_safe-p.ensures.written)
+bounds-out-p c = at_room c.args.out.now c.args.name.now c.args.text.now c.args.at c.requires _ _ (
+  c.put_safe-p.ensures.next,
+  c.put_safe-p.ensures.written,
+)
 
 pub overflow_add-p : goal.overflow_add-p
-overflow_add-p c = let p = c in let s = p in
-    omega (arith, at_room s.args.out.now s.args.name.now s.args.text.now s.args.at s.requires _ _ (p.put_safe-p.ensures.next, p.put_safe-p.ensures.written))
+overflow_add-p c = omega (
+  arith,
+  at_room c.args.out.now c.args.name.now c.args.text.now c.args.at c.requires _ _ (
+    c.put_safe-p.ensures.next,
+    c.put_safe-p.ensures.written,
+  ),
+)
 
 pub put_safe-requires : goal.put_safe-requires
-put_safe-requires c = let p = c in let s = p in
-    text_room s.args.out.now s.args.name.now s.args.text.now s.args.at s.requires _ _ (p.put_safe-p.ensures.next, p.put_safe-p.ensures.written)
+put_safe-requires c = text_room c.args.out.now c.args.name.now c.args.text.now c.args.at c.requires _ _ (
+  c.put_safe-p.ensures.next,
+  c.put_safe-p.ensures.written,
+)
 
 pub shape_of-out : goal.shape_of-out
 shape_of-out c = c.put_safe.auto.out ∙ simp length-set c.put_safe-p.auto.out
 
 pub returns : goal.returns
-returns c = let p = c in let s = p in
-    let both = text_all s.args.out.now s.args.name.now s.args.text.now s.args.at
-    s.requires _ _ (p.put_safe-p.ensures.next, p.put_safe-p.ensures.written) _ _ (c.put_safe.ensures.next, c.put_safe.ensures.written) in record { next = both.0; written = both.1 }
+returns c = let both = text_all c.args.out.now c.args.name.now c.args.text.now c.args.at
+    c.requires _ _ (c.put_safe-p.ensures.next, c.put_safe-p.ensures.written) _ _ (c.put_safe.ensures.next, c.put_safe.ensures.written) in
+    record { next = both.0; written = both.1 }

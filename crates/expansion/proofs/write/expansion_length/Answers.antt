@@ -8,8 +8,7 @@ pub loop-i-init : goal.loop-i-init
 loop-i-init c = outright (search (measured_start, rules))
 
 pub loop-i-preserved-then-t-i-eq37 : goal.loop-i-preserved-then-t-i-eq37
-loop-i-preserved-then-t-i-eq37 c = let l = c in
-    measured_directive _ _ _ _ l.loop-i.invariant c.loop-i-test.true
+loop-i-preserved-then-t-i-eq37 c = measured_directive _ _ _ _ c.loop-i.invariant c.loop-i-test.true
     c.if-t-i-eq37.true _ c.byte_at.ensures _ c.inserted_length-n.ensures.length c.inserted_length-n.ensures.within
 
 pub loop-i-preserved : goal.loop-i-preserved

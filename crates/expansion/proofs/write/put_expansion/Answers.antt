@@ -8,33 +8,28 @@ pub loop-j-init : goal.loop-j-init
 loop-j-init c = outright (search (expanded_start, rules))
 
 pub put_inserted-n-requires : goal.put_inserted-n-requires
-put_inserted-n-requires c = let l = c in
-    directive_room _ _ _ _ _ _ l.loop-j.invariant l.requires c.loop-j-test.true
+put_inserted-n-requires c = directive_room _ _ _ _ _ _ c.loop-j.invariant c.requires c.loop-j-test.true
     c.if-t-j-eq37.true _ c.byte_at.ensures
 
 pub loop-j-preserved-then-t-j-eq37 : goal.loop-j-preserved-then-t-j-eq37
-loop-j-preserved-then-t-j-eq37 c = let l = c in
-    expanded_directive _ _ _ _ _ _ l.loop-j.invariant l.requires
+loop-j-preserved-then-t-j-eq37 c = expanded_directive _ _ _ _ _ _ c.loop-j.invariant c.requires
     c.loop-j-test.true
     c.if-t-j-eq37.true _ c.byte_at.ensures _ _
     (c.put_inserted-n.ensures.next, c.put_inserted-n.ensures.written) c.put_inserted-n.auto.out
 
 pub bounds-out-n : goal.bounds-out-n
-bounds-out-n c = let l = c in
-    literal_room _ _ _ _ _ _ l.loop-j.invariant l.requires c.loop-j-test.true
+bounds-out-n c = literal_room _ _ _ _ _ _ c.loop-j.invariant c.requires c.loop-j-test.true
     c.if-t-j-eq37.false
 
 pub overflow_add-n : goal.overflow_add-n
-overflow_add-n c = let l = c in
-    omega (
-      arith,
-      literal_room _ _ _ _ _ _ l.loop-j.invariant l.requires c.loop-j-test.true
-          c.if-t-j-eq37.false,
-    )
+overflow_add-n c = omega (
+  arith,
+  literal_room _ _ _ _ _ _ c.loop-j.invariant c.requires c.loop-j-test.true
+      c.if-t-j-eq37.false,
+)
 
 pub loop-j-preserved : goal.loop-j-preserved
-loop-j-preserved c = let l = c in
-    expanded_literal _ _ _ _ _ _ l.loop-j.invariant l.requires c.loop-j-test.true
+loop-j-preserved c = expanded_literal _ _ _ _ _ _ c.loop-j.invariant c.requires c.loop-j-test.true
     c.if-t-j-eq37.false
 
 pub shape_of-out : goal.shape_of-out

@@ -10,4 +10,5 @@ returns-then-out-n c = let both = room_refused _ _ c.args.out.now _ c.expansion_
 pub returns : goal.returns
 returns c = let both = room_count _ _ c.args.out.now _
     c.expansion_length-n.ensures
-    (omega (arith, c.if-out-n.false)) _ _ (c.put_expansion-count.ensures.count, c.put_expansion-count.ensures.written) in record { answer = both.0; holds = both.1 }
+    (omega (arith, c.if-out-n.false)) _ _ (c.put_expansion-count.ensures.count, c.put_expansion-count.ensures.written) in
+    record { answer = both.0; holds = both.1 }

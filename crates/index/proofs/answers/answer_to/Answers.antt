@@ -6,15 +6,11 @@ pub found_answer-requires : goal.found_answer-requires
 found_answer-requires c = record { classes = c.requires.classes; ready = c.requires.ready }
 
 pub returns-then-states-fits : goal.returns-then-states-fits
-returns-then-states-fits c = let f = c in
-    let x = f in
-    answer_fits _ _ _ _ x.requires.ready _ _ _ x.read_states-states.ensures _
-    f.named.ensures _ f.held-request.ensures _ f.fits.ensures
+returns-then-states-fits c = answer_fits _ _ _ _ c.requires.ready _ _ _ c.read_states-states.ensures _
+    c.named.ensures _ c.held-request.ensures _ c.fits.ensures
     c.if-states-fits.true _ c.found_answer.ensures
 
 pub returns : goal.returns
-returns c = let f = c in
-    let x = f in
-    answer_unfit _ _ _ _ x.requires.ready _ _ _ x.read_states-states.ensures _
-    f.named.ensures _ f.held-request.ensures _ f.fits.ensures
+returns c = answer_unfit _ _ _ _ c.requires.ready _ _ _ c.read_states-states.ensures _
+    c.named.ensures _ c.held-request.ensures _ c.fits.ensures
     c.if-states-fits.false _ c.unfit_answer.ensures

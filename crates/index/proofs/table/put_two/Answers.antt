@@ -4,5 +4,6 @@ use Rattle.index.proofs.TableLaws.{put_two}
 use Rattle.index.proofs.table.put_two.Goals as goal
 
 pub returns : goal.returns
-returns c = let p₂ = c in let p₁ = p₂ in
-    let both = put_two _ _ _ _ _ _ _ _ (search rules) (p₁.put_count-second.ensures.next, p₁.put_count-second.ensures.written) (p₂.put_count.ensures.next, p₂.put_count.ensures.written) in record { next = both.0; written = both.1 }
+returns c = let both = put_two _ _ _ _ _ _ _ _ (search rules) (c.put_count-second.ensures.next, c.put_count-second.ensures.written)
+    (c.put_count.ensures.next, c.put_count.ensures.written) in
+    record { next = both.0; written = both.1 }

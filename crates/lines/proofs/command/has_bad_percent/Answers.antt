@@ -10,8 +10,8 @@ pub returns-then-s-k : goal.returns-then-s-k
 returns-then-s-k c = outright (search (bad_end, rules))
 
 pub loop-i-preserved-then-is_directive : goal.loop-i-preserved-then-is_directive
-loop-i-preserved-then-is_directive c = let b = c in
-    checked_pair _ _ b.loop-i.invariant b.loop-i-test.true (search rules) (search rules) _ c.is_directive.ensures c.if-is_directive.true
+loop-i-preserved-then-is_directive c = checked_pair _ _ c.loop-i.invariant c.loop-i-test.true (search rules) (search rules) _
+    c.is_directive.ensures c.if-is_directive.true
 
 pub returns-else-is_directive : goal.returns-else-is_directive
 returns-else-is_directive c = outright (search (bad_byte, rules))

@@ -17,4 +17,5 @@ pub returns : goal.returns
 returns c = let both = change_all _ _ _ _ _ c.if-not-bad.false-raw
     c.requires _
     c.order_of.ensures _ _
-    (c.put_count-second.ensures.next, c.put_count-second.ensures.written) _ _ (c.put_count.ensures.next, c.put_count.ensures.written) in record { next = both.0; written = both.1 }
+    (c.put_count-second.ensures.next, c.put_count-second.ensures.written) _ _ (c.put_count.ensures.next, c.put_count.ensures.written) in
+    record { next = both.0; written = both.1 }

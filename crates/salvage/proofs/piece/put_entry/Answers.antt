@@ -23,4 +23,5 @@ pub returns : goal.returns
 returns c = let both = entry_all _ _ _ _ _ c.if-bad.false
     c.if-alone.false
     c.requires _ _
-    (c.put-start.ensures.next, c.put-start.ensures.written) _ _ (c.put-2.ensures.next, c.put-2.ensures.written) in record { next = both.0; written = both.1 }
+    (c.put-start.ensures.next, c.put-start.ensures.written) _ _ (c.put-2.ensures.next, c.put-2.ensures.written) in
+    record { next = both.0; written = both.1 }

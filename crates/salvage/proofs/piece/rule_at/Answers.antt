@@ -8,4 +8,5 @@ pub is_faulty-requires : goal.is_faulty-requires
 is_faulty-requires c = record { classes = search rules; scanned_line = search (scanned_line, rules) }
 
 pub returns : goal.returns
-returns c = let both = rule_found_lem _ _ _ _ (search rules) _ c.scan_line-span.ensures.scanned _ c.is_faulty.ensures in record { allow = both.0; deny = both.1 }
+returns c = let both = rule_found_lem _ _ _ _ (search rules) _ c.scan_line-span.ensures.scanned _ c.is_faulty.ensures in
+    record { allow = both.0; deny = both.1 }

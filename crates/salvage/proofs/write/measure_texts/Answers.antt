@@ -15,8 +15,11 @@ pub measure-requires-4 : goal.measure-requires-4
 measure-requires-4 c = c.requires.portacl
 
 pub returns : goal.returns
-returns c = record { sizes = sizes_measured _ _ _ _ _ _ _ _ _ _ c.measure.ensures.count c.measure-2.ensures.count
-          c.measure-3.ensures.count c.measure-4.ensures.count; few = (
-        c.measure.ensures.few,
-        (c.measure-2.ensures.few, (c.measure-3.ensures.few, c.measure-4.ensures.few)),
-      ) }
+returns c = record {
+  sizes = sizes_measured _ _ _ _ _ _ _ _ _ _ c.measure.ensures.count c.measure-2.ensures.count
+      c.measure-3.ensures.count c.measure-4.ensures.count;
+  few = (
+    c.measure.ensures.few,
+    (c.measure-2.ensures.few, (c.measure-3.ensures.few, c.measure-4.ensures.few)),
+  );
+}

@@ -17,11 +17,13 @@ pub overflow_add-allow-in-Sound-4 : goal.overflow_add-allow-in-Sound-4
 overflow_add-allow-in-Sound-4 c = let fits = sheet_fits _ _ _ _ _ _ c.check_texts.ensures (search rules) in omega (arith, fits)
 
 pub returns-then-out-allow : goal.returns-then-out-allow
-returns-then-out-allow c = let both = pack_no_room _ _ _ _ _ _ c.check_texts.ensures (search rules) _ c.if-out-allow.true _ c.placeless.ensures in record { answer = both.0; holds = both.1 }
+returns-then-out-allow c = let both = pack_no_room _ _ _ _ _ _ c.check_texts.ensures (search rules) _ c.if-out-allow.true _ c.placeless.ensures in
+    record { answer = both.0; holds = both.1 }
 
 pub returns-in-Refused : goal.returns-in-Refused
 returns-in-Refused c = let both = pack_refused _ _ _ _ _ _ c.check_texts.ensures _ (search rules) _ in record { answer = both.0; holds = both.1 }
 
 pub returns-else-out-allow : goal.returns-else-out-allow
-returns-else-out-allow c = let p = c in
-    let both = pack_count _ _ _ _ _ _ p.check_texts.ensures (search rules) _ _ _ p.if-out-allow.false (c.put_sheet.ensures.count, c.put_sheet.ensures.written) in record { answer = both.0; holds = both.1 }
+returns-else-out-allow c = let both = pack_count _ _ _ _ _ _ c.check_texts.ensures (search rules) _ _ _ c.if-out-allow.false
+    (c.put_sheet.ensures.count, c.put_sheet.ensures.written) in
+    record { answer = both.0; holds = both.1 }

@@ -3,5 +3,8 @@ use Rattle.sheet.proofs.PackLaws.{put_counted}
 use Rattle.sheet.proofs.pack.put_counted.Goals as goal
 
 pub returns : goal.returns
-returns c = let p = c in
-    let both = put_counted _ _ _ _ _ _ _ (p.put_count-start.ensures.next, p.put_count-start.ensures.written) (c.put.ensures.next, c.put.ensures.written) p.requires in record { next = both.0; written = both.1 }
+returns c = let both = put_counted _ _ _ _ _ _ _ (c.put_count-start.ensures.next, c.put_count-start.ensures.written) (
+  c.put.ensures.next,
+  c.put.ensures.written,
+) c.requires in
+    record { next = both.0; written = both.1 }

@@ -4,11 +4,13 @@ use Rattle.sheet.proofs.UpgradeLaws.{upgrade_refused, upgrade_no_room, upgrade_c
 use Rattle.sheet.proofs.upgrade.upgrade.Goals as goal
 
 pub returns-then-out-sheet : goal.returns-then-out-sheet
-returns-then-out-sheet c = let both = upgrade_no_room _ _ c.check_four.ensures (search rules) _ c.if-out-sheet.true _ c.placeless.ensures in record { answer = both.0; holds = both.1 }
+returns-then-out-sheet c = let both = upgrade_no_room _ _ c.check_four.ensures (search rules) _ c.if-out-sheet.true _ c.placeless.ensures in
+    record { answer = both.0; holds = both.1 }
 
 pub returns-in-Refused : goal.returns-in-Refused
 returns-in-Refused c = let both = upgrade_refused _ _ c.check_four.ensures _ (search rules) _ in record { answer = both.0; holds = both.1 }
 
 pub returns-else-out-sheet : goal.returns-else-out-sheet
-returns-else-out-sheet c = let p = c in
-    let both = upgrade_count _ _ p.check_four.ensures (search rules) _ _ _ p.if-out-sheet.false (c.put_upgraded.ensures.count, c.put_upgraded.ensures.written) in record { answer = both.0; holds = both.1 }
+returns-else-out-sheet c = let both = upgrade_count _ _ c.check_four.ensures (search rules) _ _ _ c.if-out-sheet.false
+    (c.put_upgraded.ensures.count, c.put_upgraded.ensures.written) in
+    record { answer = both.0; holds = both.1 }

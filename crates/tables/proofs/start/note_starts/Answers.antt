@@ -14,8 +14,12 @@ pub overflow_sub-made-then-made-k : goal.overflow_sub-made-then-made-k
 overflow_sub-made-then-made-k c = outright (search (starting_within, rules))
 
 pub loop-i-preserved : goal.loop-i-preserved
-loop-i-preserved c = 
-    elim c.if-made-k.branch [ then-made-k w ↦ outright (search (starting_new, w, rules)) | else-made-k w ↦ outright (search (starting_kept, w, rules)) ]
+loop-i-preserved c =
+    elim c.if-made-k.branch [
+      | then-made-k w ↦ outright (search (starting_new, w, rules))
+      | else-made-k w ↦ outright
+          (search (starting_kept, w, rules))
+    ]
 
 pub returns : goal.returns
 returns c = outright (search (starting_end, rules))

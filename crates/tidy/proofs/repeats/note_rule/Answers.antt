@@ -5,7 +5,8 @@ use Rattle.tidy.proofs.RepeatLaws.{repeat_all, repeat_marks, repeat_links, secon
 use Rattle.tidy.proofs.repeats.note_rule.Goals as goal
 
 pub returns-then-is_repeated : goal.returns-then-is_repeated
-returns-then-is_repeated c = record { answer = search (repeat_all, rules); marked = search (repeat_marks, rules); hung = search (repeat_links, rules) }
+returns-then-is_repeated c =
+    record { answer = search (repeat_all, rules); marked = search (repeat_marks, rules); hung = search (repeat_links, rules) }
 
 pub bounds-links-b : goal.bounds-links-b
 bounds-links-b c = outright (search (second_write, rules))
