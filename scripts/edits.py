@@ -25,22 +25,22 @@ def read(path):
         return f.read()
 
 
+def crates_below():
+    """The crates, each with those that it builds on, of this repository."""
+    lines = [line.split('#')[0].partition(':') for line in read('crates.txt').split('\n') if ':' in line.split('#')[0]]
+    listed = {name.split()[0]: below.split() for name, _, below in lines}
+    return {name: [b for b in below if b in listed] for name, below in listed.items()}
+
+
 def listed_crates():
-    lines = (line.split('#')[0] for line in read('crates.txt').split('\n'))
-    return [line.split(':')[0].strip() for line in lines if ':' in line]
+    return list(crates_below())
 
 
 def edit_files(name):
-    """The edit files of a crate, by their labels: those that rt tries, and those that are tried over the proved crate."""
-    found = {}
-    for where in ('crates/%s/must-fail' % name, 'crates/%s/must-fail/incremental' % name):
-        for file in sorted(os.listdir(where)) if os.path.isdir(where) else []:
-            if file.endswith('.edit'):
-                label = file[:-len('.edit')]
-                if label in found:
-                    raise SystemExit('%s/%s: another edit file of the crate has this name' % (where, file))
-                found[label] = '%s/%s' % (where, file)
-    return found
+    """The edit files of a crate, by their labels."""
+    where = 'crates/%s/must-fail' % name
+    files = sorted(os.listdir(where)) if os.path.isdir(where) else []
+    return {file[:-len('.edit')]: '%s/%s' % (where, file) for file in files if file.endswith('.edit')}
 
 
 def source_files(name):
@@ -76,12 +76,3 @@ def place_of(files, file, old):
     if not old or files.get(file, '').count(old) != 1:
         raise Complaint('its old text is not in %s, once' % file)
     return files[file].index(old)
-
-
-def applied(path, files):
-    """The files with all wrong programs of an edit file made."""
-    for program in programs_of(path):
-        for file, old, new in program.replacements:
-            at = place_of(files, file, old)
-            files = {**files, file: files[file][:at] + new + files[file][at + len(old):]}
-    return files
