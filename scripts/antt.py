@@ -12,7 +12,7 @@ import re
 
 TOKEN = re.compile(r'--.*|(?P<word>"(?:\\.|[^"\\])*"|\[\]|[(){}\[\];,⌜⌝⟦⟧]|[^\s(){}\[\];,"⌜⌝⟦⟧]+)')
 IMPORT = re.compile(r"^(?:pub |ghost )?use (?P<path>[^\s{};]+?)(?:\.\{(?P<names>[^}]*)\})?(?: as (?P<alias>[^\s;]+))?;?[ \t]*$", re.M)
-SIGNATURE = re.compile(r"^\s*(?:abbrev |unfoldable )?(?:pub )?(?P<name>[^\s(){}]+)(?: [({][^(){}]*[)}])* :(?: |$)")
+SIGNATURE = re.compile(r"^\s*(?:(?:abbrev|unfoldable|opaque|pub) )*(?P<name>[^\s(){}]+)(?: [({][^(){}]*[)}])* :(?: |$)")
 GROUP = re.compile(r"^\s*(?:pub )?(?P<kind>record|data) (?P<name>\S+)")
 HEADER = re.compile(r"^\s*(?:infix[lr]? |module |(?:unfoldable |abbrev )?mutual$)")
 CONSTRUCTORS = re.compile(r"^  (\S[^:(){}]*?) :(?: |$)")
@@ -27,7 +27,7 @@ class Token:
 
 @dataclasses.dataclass
 class Import:
-    """`path.{names}`, each under its name here; or the module `path` under an alias."""
+    """`path.{names}`, each under its name here; or the module `path` under an alias, by default its last word."""
     path: str
     names: dict
     alias: str
@@ -67,7 +67,8 @@ def read_imports(text):
             original, _, renamed = item.strip().partition(" as ")
             if original:
                 names[renamed.strip() or original] = original
-        imports.append(Import(match.group("path"), names, match.group("alias")))
+        last = match.group("path").rpartition(".")[2]
+        imports.append(Import(match.group("path"), names, match.group("alias") or ("" if names else last)))
     return imports
 
 

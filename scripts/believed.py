@@ -12,7 +12,9 @@ import antt
 
 SYNTAX = set("abbrev unfoldable pub record data where let in do elim requires ensures ( ) [ ] { } ; , . : = → ← ↦ | λ ⌜ ⌝ ⟦ ⟧ _".split())
 LITERAL = re.compile(r'^(?:"|\d|\.)')
-CODE_IMPORT = re.compile(r"^(?:pub )?use ([\w:]+);$", re.M)
+# What a contract says of its answer and of what a slice holds at the call's entry and exit, beside the names of its parameters.
+ANSWER, HELD = "result", {"now", "old", "new"}
+CODE_IMPORT = re.compile(r"^(?:pub )?use ([^;]+);$", re.M)
 CODE_TYPE = r"^(?P<text>(?:pub )?(?:struct|enum) %s\b(?:[^;{]*;|.*?^\}))"
 FUNCTION = r"^(?P<text>(?:pub )?(?:extern \"C\" )?fn %s\b[^{}]*?(?:^ *(?:requires|ensures)\b.*?(?=^\{$))?)(?:^\{$| \{$)"
 CLAUSE = re.compile(r"^ *(?:requires|ensures)\b", re.M)
@@ -57,8 +59,19 @@ def code_path(crate, modules):
 
 
 def operator_parts(name):
-    """The words of an operator: `if`, `then` and `else` of `if_then_else_`."""
-    return [part for part in name.split("_") if part] if "_" in name else []
+    """The words of an operator: `if`, `then` and `else` of `if◌then◌else◌`."""
+    return [part for part in name.split("◌") if part] if "◌" in name else []
+
+
+def code_imports(text):
+    """{name: path} of what a file of code imports: `use a::b;` and `use a::{b, c::d};`."""
+    found = {}
+    for path in CODE_IMPORT.findall(text):
+        start, brace, names = re.sub(r"\s", "", path).partition("{")
+        for name in names.rstrip("}").split(",") if brace else [""]:
+            if start + name:
+                found[(start + name).split("::")[-1]] = start + name
+    return found
 
 
 class Crates:
@@ -113,12 +126,12 @@ class Crates:
 
     def imported(self, module, name):
         """What a name means that is imported from a module: of these crates, or of the kit."""
-        match = re.match(r"Rattle·(\w+?)(?:·specs)?\.specs\.(.*)$", module)
-        if not match:
+        match = re.match(r"Rattle\.(\w+)\.specs\.(.*)$", module)
+        if not match or not (self.top / "crates" / match.group(1)).is_dir():
             return KitName(module, name)
         crate, rest = match.group(1), match.group(2).split(".")
         if rest[0] == "declared":
-            rest = [part for part in rest[1:] if part != "the-variants"]
+            rest = [part for part in rest[1:] if part != "TheVariants"]
             return CodeType(code_path(crate, rest[:-1]), rest[-1])
         found = self.scope(f"crates/{crate}/specs/{'/'.join(rest)}.antt").names.get(name)
         return found or KitName(module, name)
@@ -130,7 +143,10 @@ class Crates:
         explained = bound | antt.local_names(tokens) | SYNTAX | {part for name in scope.names for part in operator_parts(name)}
         for word in {token.word for token in tokens}:
             found = self.meanings_of(word, scope)
-            if not found and word not in explained and not LITERAL.match(word):
+            head, _, field = word.partition(".")
+            if not found and head in scope.names and word != head:
+                found = [scope.names[head]]
+            if not found and word not in explained and head not in explained and not LITERAL.match(word):
                 found = [KitName("", word)]
             yield from found
 
@@ -142,7 +158,7 @@ class Crates:
         if member and alias in scope.aliases:
             return [self.imported(scope.aliases[alias], member)]
         if word == "do":
-            return [meaning for name, meaning in scope.names.items() if name == "_>>=_"]
+            return [meaning for name, meaning in scope.names.items() if name == "◌>>=◌"]
         return [meaning for name, meaning in scope.names.items() if word in operator_parts(name)[:1]]
 
     # ## Code
@@ -157,7 +173,7 @@ class Crates:
     def code_name(self, word, path):
         """The type that a word would be in a file of code: by its imports, by a path, or in the file itself."""
         crate, *modules = pathlib.PurePath(path.removeprefix("crates/").replace("/src/", "/")).with_suffix("").parts
-        imports = {full.split("::")[-1]: full for full in CODE_IMPORT.findall(self.text(path))}
+        imports = code_imports(self.text(path))
         first, *rest = imports.get(word, word).split("::")
         if not rest:
             return CodeType(path, word)
@@ -186,8 +202,10 @@ class Crates:
         if isinstance(item, Contract):
             signature, *clauses = CLAUSE.split(self.code(item))
             unlabelled = "\n".join(clause[clause.index("{"):] for clause in clauses)
-            arguments = set(re.findall(r"(\w+):", signature))
-            return [*self.code_types(signature, item.path), *self.meanings(unlabelled, item.path, arguments)]
+            arguments = set(re.findall(r"(\w+):", signature)) | {ANSWER}
+            said = {KitName("", word) for word in HELD if re.search(rf"\w\.{word}\b", unlabelled)}
+            said |= {KitName("", ANSWER)} if re.search(rf"\b{ANSWER}\b", unlabelled) else set()
+            return [*self.code_types(signature, item.path), *self.meanings(unlabelled, item.path, arguments), *said]
         return []
 
     def closure(self, roots):

@@ -9,6 +9,7 @@ import subprocess
 import tempfile
 import threading
 
+import rattle
 from edits import Complaint, crates_below, source_files
 
 TARGET = pathlib.Path('target/must-fail')
@@ -53,6 +54,8 @@ class Tries:
         self.room = tempfile.TemporaryDirectory(prefix='tries-')
         self.top = pathlib.Path(self.room.name).resolve()
         self.count, self.modules, self.stopped, self.running = 0, None, False, set()
+        # whether the libraries are those that `rt ci` left, which `rt check` would prove once more
+        self.of_ci = not [*pathlib.Path().glob('crates/*/out/rlib/stamp')]
         self.kit = subprocess.run(['rt', 'version'], capture_output=True, text=True, check=True).stdout
 
     def __enter__(self):
@@ -81,11 +84,15 @@ class Tries:
                 self.below[name] = texts, hashlib.sha256(repr((self.kit, sorted(texts.items()))).encode()).hexdigest()
         return self.below[name]
 
-    def rt_check(self, folder):
-        """What `rt check` says of the crate in this folder, and its status."""
+    def rt_check(self, folder, name=None):
+        """What `rt check` says of the crate in this folder, and its status. A crate with a name stands in a room of its own."""
         if self.stopped:
             raise Complaint('it was not tried')
-        ran = subprocess.Popen(['rt', 'check', '--jobs', '1'], cwd=folder, stdout=subprocess.PIPE, stderr=subprocess.STDOUT, stdin=subprocess.DEVNULL,
+        command = ['rt', 'check', '--jobs', '1']
+        if name and self.of_ci:
+            command = [rattle.kit() / 'bin/rattle', 'check', *rattle.words(name, folder.parent.parent), '--incremental', 'out/incremental', '--jobs', '1']
+            (folder / 'out').mkdir(exist_ok=True)
+        ran = subprocess.Popen(command, cwd=folder, stdout=subprocess.PIPE, stderr=subprocess.STDOUT, stdin=subprocess.DEVNULL,
                                start_new_session=True)
         self.running.add(ran)
         said = ran.communicate()[0].decode(errors='replace')
@@ -135,7 +142,7 @@ class Tries:
         write(room / 'crates' / name, files)
         for below in all_below(name):
             rlib = pathlib.Path('crates', below, 'out/rlib')
-            if (rlib / 'stamp').is_file():
+            if (rlib / 'stamp').is_file() or self.of_ci and rlib.is_dir():
                 shutil.copytree(rlib, room / rlib, copy_function=linked)
         if seed:
             shutil.copytree(seed, room / 'crates' / name / 'out/incremental', symlinks=True, copy_function=linked_modules)
@@ -151,7 +158,7 @@ class Tries:
             before = None
         if before != tried:
             room = self.make(name, files)
-            status, log = self.rt_check(room / 'crates' / name)
+            status, log = self.rt_check(room / 'crates' / name, name)
             shutil.rmtree(room, ignore_errors=True)
             if status not in (0, 1):
                 raise Complaint('the prover gave no verdict (status %d): %s' % (status, log[-300:]))

@@ -139,7 +139,7 @@ class Page:
 
     def check_contracts(self):
         """Every export is listed, and no listed contract asks anything of its caller."""
-        path = code_path("gate", [])
+        path = code_path("gate_c", [])
         for name in self.crates.exports(path):
             if Contract(path, name) not in self.believed:
                 self.faults.append(f"{path}: {name} is exported and not listed")

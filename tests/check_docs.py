@@ -13,7 +13,7 @@ sys.path.insert(0, str(TOP / "scripts"))
 from antt import read_declarations
 
 COPIED = ("crates", "docs", "include", "scripts", "tests")
-REQUIREMENTS, TRUSTED, GATE = "docs/REQUIREMENTS.md", "docs/TRUSTED.md", "crates/gate/src/lib.rt"
+REQUIREMENTS, TRUSTED, GATE = "docs/REQUIREMENTS.md", "docs/TRUSTED.md", "crates/gate_c/src/lib.rt"
 LISTED_FILE = re.compile(r"^\| `(crates/(\w+)/specs/(\w+)\.antt)` \| (\d+) \| (?!def )", re.M)
 
 
@@ -40,7 +40,7 @@ def moved_definition():
             imports = "\n".join(line for line in lines if line.startswith("use ")) + "\n"
             kept = "\n".join(line for number, line in enumerate(lines) if number not in last.lines)
             new = f"crates/{crate}/specs/Planted.antt"
-            own = f"use Rattle·{crate}·specs.specs.Planted.{{{last.name}}}\n"
+            own = f"use Rattle.{crate}.specs.Planted.{{{last.name}}}\n"
             return {path: "pub " + own + kept, new: imports + moved}, f"{new}: {last.name} is believed and not listed"
     sys.exit("check_docs.py: no listed file ends with a definition")
 
@@ -76,15 +76,15 @@ def type_left_out():
 
 
 def export_left_out():
-    return changed(TRUSTED, r"^\| fn `gate::(\w+)`.*\n", ""), "is exported and not listed"
+    return changed(TRUSTED, r"^\| fn `gate_c::(\w+)`.*\n", ""), "is exported and not listed"
 
 
 def caller_asked():
-    return changed(GATE, r"^    ensures", "    requires { ⌜ Type ⌝ }\n    ensures"), "has a requires"
+    return changed(GATE, r"^    ensures", "    requires { Type }\n    ensures"), "has a requires"
 
 
 def uncited_definition():
-    return changed(TRUSTED, r"^(\| fn `gate::.*)\| nothing is changed \|$", r"\1| def `section.lentAfter` |"), "does not cite section.lentAfter"
+    return changed(TRUSTED, r"^(\| fn `gate_c::.*)\| nothing is changed \|$", r"\1| def `section.lent_after` |"), "does not cite section.lent_after"
 
 
 def wrong_count():

@@ -1,5 +1,5 @@
 #!/usr/bin/env python3
-"""header.py [ARCHIVE]: include/gate.h says what crates/gate and crates/codes export, and compiles cleanly.
+"""header.py [ARCHIVE]: include/gate.h says what crates/gate_c exports, with the structs of crates/codes, and compiles cleanly.
 
 Read from the sources: the exports' names, parameters and answers, the structs, and the numbers and limits of the definitions. From
 these a C file is made, of which every line holds only where the header agrees: function pointers, sizes, offsets, numbers. Names of
@@ -17,7 +17,7 @@ import sys
 import tempfile
 
 top = pathlib.Path(__file__).resolve().parent.parent
-HEADER, EXPORTS, STRUCTS = "include/gate.h", "crates/gate/src/lib.rt", "crates/codes/src/lib.rt"
+HEADER, EXPORTS, STRUCTS = "include/gate.h", "crates/gate_c/src/lib.rt", "crates/codes/src/lib.rt"
 FAULTS, SECTIONS = "crates/section/specs/Refusal.antt", "crates/section/specs/Section.antt"
 ANSWERS, REQUESTS = "crates/codes/specs/Answers.antt", "crates/codes/specs/Requests.antt"
 FIELDS, LINES, GROUPS = "crates/elements/specs/Request.antt", "crates/lines/specs/Line.antt", "crates/portacl/specs/Portacl.antt"
@@ -62,14 +62,14 @@ def exports(source):
     for name, parameters, answer in re.findall(r'pub extern "C" fn (\w+)(?:<[^>]*>)?\(([^)]*)\) -> (\w+)', source):
         pairs = [re.sub(r"'\w+ ", "", p).split(": ") for p in re.split(r",\s*", parameters.strip()) if p]
         found[name] = ([tuple(p) for p in pairs], answer)
-    if len(found) != source.count("#[no_mangle]"):
+    if len(found) != source.count("#[unsafe(no_mangle)]"):
         raise Disagreement("an export was not read")
     return found
 
 
 def structs(source):
     """{name: [(field, kind)]}"""
-    return {name: re.findall(r"pub (\w+): (\w+)", body) for name, body in re.findall(r"#\[repr\(C\)\]\npub struct (\w+) \{([^}]*)\}", source)}
+    return {name: re.findall(r"pub (\w+): (\w+)", body) for name, body in re.findall(r"#\[repr\(C\)\]\n(?:#\[derive\([\w, ]*\)\]\n)?pub struct (\w+) \{([^}]*)\}", source)}
 
 
 def parameters_in_c(parameters):
@@ -129,31 +129,31 @@ def sections(text):
 def numbers(text):
     """{enumerator: number} that the definitions give"""
     told = {name: 0 for name in ZEROS}
-    for case, number in equations(text[FAULTS], "faultNumber", r"F\.(\w+) = (\d+)"):
+    for case, number in equations(text[FAULTS], "fault_number", r"F\.(\w+) = (\d+)"):
         told["GATE_" + snake(case).upper()] = int(number)
     for section, (order, _) in sections(text).items():
         told["GATE_" + section] = order
     for case, _, number in words(text):
         told["GATE_" + snake(case).upper()] = int(number)
-    told["GATE_NO_ADDRESS"] = constant(text[ANSWERS], r"^noAddress = (\d+)$", "a refused address's kind")
-    for function, prefix in (("nameState", "NAME_"), ("userState", "USER_"), ("protocolOf", "")):
+    told["GATE_NO_ADDRESS"] = constant(text[ANSWERS], r"^no_address = (\d+)$", "a refused address's kind")
+    for function, prefix in (("name_state", "NAME_"), ("user_state", "USER_"), ("protocol_of", "")):
         for case, number in kinds(text[REQUESTS], function):
             told["GATE_" + prefix + snake(case).upper()] = int(number)
-    for case, number in kinds(text[REQUESTS], "markOf"):
+    for case, number in kinds(text[REQUESTS], "mark_of"):
         told["GATE_" + snake(case).upper() + "_FILE"] = int(number)
-    for case, number in kinds(text[ORDER], "accessOf"):
+    for case, number in kinds(text[ORDER], "access_of"):
         told["GATE_" + snake(case).upper()] = int(number)
-    for case, number in kinds(text[REQUESTS], "addressOf"):
+    for case, number in kinds(text[REQUESTS], "address_of"):
         told["GATE_" + {"Unknown": "ADDRESS_UNKNOWN", "V4": "IPV4", "V6": "IPV6"}[case]] = int(number)
     return told
 
 
 def answer_size(text):
     """of an answer's bytes: pairs of four, and numbers by their digits of 256"""
-    body = re.search(r"^answerBytes a =\n((?: .*\n)+)", text[INDEX], re.M)
+    body = re.search(r"^answer_bytes a =\n((?: .*\n)+)", text[INDEX], re.M)
     if not body:
         raise Disagreement("no definition of an answer's bytes")
-    return 8 * body.group(1).count("twoBytes ") + sum(int(n) for n in re.findall(r"toDigits 256 (\d+)", body.group(1)))
+    return 8 * body.group(1).count("two_bytes ") + sum(int(n) for n in re.findall(r"to_digits 256 (\d+)", body.group(1)))
 
 
 def limits(text):
@@ -161,21 +161,21 @@ def limits(text):
     fields, found = text[FIELDS], {f"GATE_{name}_LIMIT": limit for name, (_, limit) in sections(text).items()}
     # the tables have no count of bytes before them
     found["GATE_SHEET_LIMIT"] = sum(4 + limit for limit in found.values()) - 4
-    found["GATE_TABLES_COUNT"] = constant(text[TABLES], r"ltb (\d+) \(length \(tablesOf t\)\)", "the most tables")
-    found["GATE_TABLE_NAME_LIMIT"] = constant(text[TABLES], r"^isTableName n = .*inRange 1 (\d+) \(length n\)", "the limit of a table's name")
-    found["GATE_DAEMON_LIMIT"] = constant(fields, r"inRange 1 (\d+) \(length \(r \.daemon\)\)", "the daemon's limit")
-    found["GATE_USER_LIMIT"] = constant(fields, r"inRange 1 (\d+) \(length \(r \.userName\)\)", "the user's limit")
-    found["GATE_NAME_LIMIT"] = constant(fields, r"inRange 1 (\d+) \(length \(h \.name\)\)", "the name's limit")
-    found["GATE_GROUPS_LIMIT"] = constant(text[GROUPS], r"leb \(length \(b \.groups\)\) (\d+)", "the groups' limit")
-    line = found["GATE_LINE_LIMIT"] = constant(text[LINES], r"isTooLong t = ltb (\d+) \(length t\)", "the line's limit")
+    found["GATE_TABLES_COUNT"] = constant(text[TABLES], r"ltb (\d+) \(length \(tables_of t\)\)", "the most tables")
+    found["GATE_TABLE_NAME_LIMIT"] = constant(text[TABLES], r"^is_table_name n = .*in_range 1 (\d+) \(length n\)", "the limit of a table's name")
+    found["GATE_DAEMON_LIMIT"] = constant(fields, r"in_range 1 (\d+) \(length r\.daemon\)", "the daemon's limit")
+    found["GATE_USER_LIMIT"] = constant(fields, r"in_range 1 (\d+) \(length r\.user_name\)", "the user's limit")
+    found["GATE_NAME_LIMIT"] = constant(fields, r"in_range 1 (\d+) \(length h\.name\)", "the name's limit")
+    found["GATE_GROUPS_LIMIT"] = constant(text[GROUPS], r"leb \(length b\.groups\) (\d+)", "the groups' limit")
+    line = found["GATE_LINE_LIMIT"] = constant(text[LINES], r"is_too_long t = ltb (\d+) \(length t\)", "the line's limit")
     found["GATE_ADDRESS_ROOM"] = 8 * 4 + 7
     found["GATE_CARRY_ROOM"] = found["GATE_PORTACL_LIMIT"]
     most_changed = {"ALLOW": (0, len("x\n")), "DENY": (0, len("ALL: ALL\n")), "BYUID": (1, len("0.0.0.0/0:0,0\n")), "PORTACL": (1, len(","))}
     found["GATE_CHANGES_ROOM"] = 8 * sum((found[f"GATE_{name}_LIMIT"] + unended) // least for name, (unended, least) in most_changed.items())
     found["GATE_TIDY_ROOM"] = max(found["GATE_ALLOW_LIMIT"], found["GATE_DENY_LIMIT"])
     found["GATE_INDEX_ROOM"] = 8 + 32 * sum(found[f"GATE_{name}_LIMIT"] // len("a:b\n") for name in ("ALLOW", "DENY"))
-    found["GATE_REQUESTS"] = constant(text[INDEX], r"^readRequests t = parted (\d+) t$", "the most requests")
-    name_at = constant(text[INDEX], r"^readHost t = do\n  h ← cut (\d+) t\n", "a host's numbers")
+    found["GATE_REQUESTS"] = constant(text[INDEX], r"^read_requests t = parted (\d+) t$", "the most requests")
+    name_at = constant(text[INDEX], r"^read_host t = do\n  h ← cut (\d+) t\n", "a host's numbers")
     found["GATE_REQUEST_ROOM"] = 256 + 2 * (name_at + 256) + 1 + 256
     found["GATE_ANSWER_BYTES"] = answer_size(text)
     found["GATE_AUTHBIND_ROOM"] = len("/etc/authbind/byaddr/!") + found["GATE_ADDRESS_ROOM"] + len(",1023")
@@ -297,7 +297,7 @@ PLANTED = [
     (HEADER, "GATE_REQUEST_ROOM (41 + 4 * 255)", "GATE_REQUEST_ROOM (41 + 4 * 256)"),
     (HEADER, "GATE_ANSWER_BYTES 36", "GATE_ANSWER_BYTES 32"),
     (INDEX, "parted 32 t", "parted 31 t"),
-    (INDEX, "toDigits 256 8 (a .looked)", "toDigits 256 4 (a .looked)"),
+    (INDEX, "to_digits 256 8 a.looked", "to_digits 256 4 a.looked"),
     (EXPORTS, "pub extern \"C\" fn gate_verdicts", "pub extern \"C\" fn gate_answers"),
     (HEADER, "GATE_TIDY_ROOM GATE_ALLOW_LIMIT", "GATE_TIDY_ROOM GATE_BYUID_LIMIT"),
     (HEADER, "struct gate_written gate_propose(", "struct gate_written gate_offer("),
@@ -326,12 +326,12 @@ PLANTED = [
     (EXPORTS, "    uid: u32,\n) -> GateAnswer", "    uid: u64,\n) -> GateAnswer"),
     (STRUCTS, "    pub kind: u32,\n    pub high: u64,", "    pub high: u64,\n    pub kind: u32,"),
     (STRUCTS, "    pub word: u32,\n    pub file: u32,", "    pub word: u32,\n    pub file: u32,\n    pub looked_at: u64,"),
-    (FAULTS, "faultNumber F.BadTable = 17", "faultNumber F.BadTable = 17\nfaultNumber F.Later = 18"),
-    (TABLES, "ltb 64 (length (tablesOf t))", "ltb 63 (length (tablesOf t))"),
-    (TABLES, "inRange 1 64 (length n)", "inRange 1 65 (length n)"),
+    (FAULTS, "fault_number F.BadTable = 17", "fault_number F.BadTable = 17\nfault_number F.Later = 18"),
+    (TABLES, "ltb 64 (length (tables_of t))", "ltb 63 (length (tables_of t))"),
+    (TABLES, "in_range 1 64 (length n)", "in_range 1 65 (length n)"),
     (ANSWERS, 'word "no line" 4', 'word "no line" 5'),
     (ANSWERS, 'word "not ruled" 5', 'word "unruled" 5'),
-    (ANSWERS, "noAddress = 255", "noAddress = 0"),
+    (ANSWERS, "no_address = 255", "no_address = 0"),
     (HEADER, "GATE_NO_ADDRESS = 255", "GATE_NO_ADDRESS = 0"),
     (HEADER, "struct gate_command_answer gate_command(uint8_t *out", "struct gate_answer gate_command(uint8_t *out"),
     (HEADER, "    uint64_t place, len;\n    uint64_t count;", "    uint64_t count;\n    uint64_t place, len;"),
@@ -340,7 +340,7 @@ PLANTED = [
     (REQUESTS, "given (eqb n 2) U.Known", "given (eqb n 3) U.Known"),
     (REQUESTS, "given (eqb n 1) Marked", "given (eqb n 33) Marked"),
     (LINES, "ltb 2047", "ltb 2048"),
-    (GROUPS, "(length (b .groups)) 16", "(length (b .groups)) 17"),
+    (GROUPS, "(length b.groups) 16", "(length b.groups) 17"),
 ]
 
 

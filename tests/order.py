@@ -1,5 +1,5 @@
 #!/usr/bin/env python3
-"""order.py: scripts/test ends with rt's last line exactly if all that it calls succeeds.
+"""order.py: scripts/test ends with rt's last line exactly if all that it calls succeeds, and no must-fail edit is bad.
 
 It is run in a folder where each thing that it calls is a stand-in, once with all of them well and once for each that fails.
 """
@@ -11,8 +11,9 @@ import sys
 import tempfile
 
 top = pathlib.Path(__file__).resolve().parent.parent
-CALLED = ("scripts/need", "scripts/check-docs", "scripts/try-edits", "scripts/check-edits", "tests/run")
-RT = ("rt fmt", "rt ci")
+CALLED = ("scripts/need", "scripts/check-docs", "scripts/build", "scripts/check-edits", "tests/run")
+RT = ("rt ci",)
+WELL, BAD, SILENT = "rt: ok; must-fail edits: 5 refused; done", "rt: ok; must-fail edits: 5 refused, 1 bad; done", ""
 LAST = "7 passed, 0 failed"
 
 
@@ -22,13 +23,13 @@ def stand_in(path, body):
     path.chmod(0o755)
 
 
-def run(failing):
-    """The status and the last line of scripts/test where the thing of that name fails."""
+def run(failing, said=WELL):
+    """The status and the last line of scripts/test where the thing of that name fails, and rt says this before its last line."""
     with tempfile.TemporaryDirectory() as folder:
         root = pathlib.Path(folder)
         for name in CALLED:
             stand_in(root / name, "exit %d\n" % (name == failing))
-        stand_in(root / "bin/rt", 'echo "%s"\ncase "rt $1" in "%s") exit 1 ;; esac\n' % (LAST, failing))
+        stand_in(root / "bin/rt", 'echo "%s"\necho "%s"\ncase "rt $1" in "%s") exit 1 ;; esac\n' % (said, LAST, failing))
         shutil.copy(top / "scripts/test", root / "scripts/test")
         path = "%s:%s" % (root / "bin", os.environ["PATH"])
         ran = subprocess.run([root / "scripts/test"], capture_output=True, text=True, env=dict(os.environ, PATH=path), timeout=60)
@@ -43,6 +44,10 @@ def main():
         status, last = run(name)
         if status == 0 or last == LAST:
             sys.exit(f"order: where {name} fails scripts/test ends with status {status} and {last!r}")
+    for said in (BAD, SILENT):
+        status, last = run(None, said)
+        if status == 0 or last == LAST:
+            sys.exit(f"order: where rt says {said!r} scripts/test ends with status {status} and {last!r}")
     print(f"order: scripts/test stops at each of the {len(CALLED + RT)} things that it calls")
 
 

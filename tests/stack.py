@@ -28,8 +28,8 @@ def macro(name):
 RECURSIVE = {"views::level::raised": 5}
 
 
-# a frame of many pages is taken page by page, in a loop: it is read as taken at once
-PAGES = re.compile(r"\tmov +%rsp,%r11\n.*\tsub +\$(0x[0-9a-f]+),%r11\n.*\tsub +\$0x1000,%rsp\n.*\tmovq +\$0x0,\(%rsp\)\n.*\tcmp +%r11,%rsp\n.*\tjne .*\n")
+# a frame of many pages is taken step by step, in a loop: it is read as taken at once
+PAGES = re.compile(r"\tmov +%rsp,%r11\n.*\tsub +\$(0x[0-9a-f]+),%r11\n.*\tsub +\$0x[0-9a-f]+,%rsp\n.*\tmovq +\$0x0,\(%rsp\)\n.*\tcmp +%r11,%rsp\n.*\tjne .*\n")
 
 
 def fail(what):

@@ -300,6 +300,18 @@ kept_dropped t marks m p e names is-names =
     (λ l. ap (λ (b : Bool). when b then [] else line_bytes l)
     (ap (λ (k : List ℕ). eqb (get_or k l.number 0) 2) is-names ∙ named_by t marks m p e l.number)) (lines t)
 
+module _ (t marks out : List ℕ) (short : length t ≤ 16384) (m : Marked marks (proposal t)) where
+  marked_are : marked_bytes marks ≡ word_bytes (proposal t)
+  unfolding marked_bytes
+  marked_are = ap word_bytes (marked_proposal t marks short m)
+
+  pub numbers_made : (r : Written) → r ≡ written_of (within_room (length out) (marked_bytes marks)) → r ≡ written_of (within_room (length out) (word_bytes (proposal t)))
+  numbers_made r h = h ∙ ap (λ (b : List ℕ). written_of (within_room (length out) b)) marked_are
+
+  pub numbers_written : (o : List ℕ) → o ≡ lent_after out (within_room (length out) (marked_bytes marks))
+      → o ≡ lent_after out (within_room (length out) (word_bytes (proposal t)))
+  numbers_written o h = h ∙ ap (λ (b : List ℕ). lent_after out (within_room (length out) b)) marked_are
+
 module _ (n : ℕ) (t five : List ℕ) (c : Checked) (is_c : c ≡ checked_of (section_fault n t five)) where
   pub passed_short : c ≡ C.Sound → length t ≤ 16384
   passed_short e = (sound_text n t five (checked_none (section_fault n t five) c is_c e)).0
@@ -330,19 +342,15 @@ module _ (n : ℕ) (t five : List ℕ) (c : Checked) (is_c : c ≡ checked_of (s
       pub drop_unwritten : (p : List ℕ) → out ≡ lent_after out (drop_rules n t five p (length out))
       drop_unwritten p = rw (drops p)
 
-    module _ (e : c ≡ C.Sound) (marks : List ℕ) (m : Marked marks (proposal t)) where
-      sound : section_fault n t five ≡ none
-      sound = checked_none (section_fault n t five) c is_c e
+    module _ (e : c ≡ C.Sound) where
+      proposing : propose n t five (length out) ≡ within_room (length out) (word_bytes (proposal t))
+      proposing = propose_is n t five (length out) ∙ rw (checked_none (section_fault n t five) c is_c e)
 
-      made : propose n t five (length out) ≡ within_room (length out) (marked_bytes marks)
-      unfolding marked_bytes
-      made = propose_is n t five (length out) ∙ rw (sound, marked_proposal t marks (sound_text n t five sound).0 m)
+      pub propose_made : (r : Written) → r ≡ written_of (within_room (length out) (word_bytes (proposal t))) → r ≡ written_of (propose n t five (length out))
+      propose_made r h = h ∙ ap written_of (sym proposing)
 
-      pub propose_made : (r : Written) → r ≡ written_of (within_room (length out) (marked_bytes marks)) → r ≡ written_of (propose n t five (length out))
-      propose_made r h = h ∙ ap written_of (sym made)
-
-      pub propose_written : (o : List ℕ) → o ≡ lent_after out (within_room (length out) (marked_bytes marks)) → o ≡ lent_after out (propose n t five (length out))
-      propose_written o h = h ∙ ap (lent_after out) (sym made)
+      pub propose_written : (o : List ℕ) → o ≡ lent_after out (within_room (length out) (word_bytes (proposal t))) → o ≡ lent_after out (propose n t five (length out))
+      propose_written o h = h ∙ ap (lent_after out) (sym proposing)
 
     module _ (e : c ≡ C.Sound) (p : List ℕ) where
       dropping : drop_rules n t five p (length out) ≡ drop_sound t p (length out)

@@ -10,12 +10,13 @@ pub mod repeats;
 pub mod same;
 
 ghost use Rattle.std.specs.Prelude.{◌≡◌, ◌≤◌, length};
-ghost use Rattle.section.specs.Refusal.{written_of, lent_after};
+ghost use Rattle.section.specs.Refusal.{written_of, lent_after, within_room};
 ghost use Rattle.text.specs.Basics.{◌or_else◌};
 ghost use Rattle.tables.specs.Table.{tables_frame, tables_of};
 ghost use Rattle.tables.specs.Code.{tables_in};
 ghost use Rattle.rules.specs.Code.{contents_fault};
-ghost use Rattle.tidy.specs.Tidy.{propose as proposeOf, drop_rules};
+ghost use Rattle.text.specs.Words.{word_bytes};
+ghost use Rattle.tidy.specs.Tidy.{propose as proposeOf, proposal, drop_rules};
 ghost use Rattle.tidy.specs.Code.{checked_of, checked_by, texts_fault, section_fault, Sound, drop_sound};
 
 use crate::kept::write_kept;
@@ -94,6 +95,19 @@ fn check_file(text: &[u8], tables: &[u8], section: u32) -> Checked
     Checked::Refused(section::placeless(Fault::BadRequest))
 }
 
+// The numbers of the lines to drop of a text that passed its checks. The marks are in a frame of its own, so that they do not stand on the
+// stack while the text is checked.
+#[inline(never)]
+fn propose_sound(out: &mut [u8], text: &[u8]) -> Written
+    requires { (length text.now ≤ 16384) × Sound text.now }
+    ensures answer { result ≡ written_of (within_room (length out.old) (word_bytes (proposal text.now))) }
+    ensures holds { out.new
+        ≡ lent_after out.old (within_room (length out.old) (word_bytes (proposal text.now))) }
+{
+    let marks = covered_lines(text);
+    write_numbers(out, &marks)
+}
+
 // Writes the numbers of the lines to drop, four bytes each, most significant first; a refusal leaves out as it was.
 pub fn propose(out: &mut [u8], text: &[u8], tables: &[u8], section: u32) -> Written
     ensures answer { result ≡ written_of (proposeOf section text.now tables.now (length out.old)) }
@@ -102,11 +116,12 @@ pub fn propose(out: &mut [u8], text: &[u8], tables: &[u8], section: u32) -> Writ
 {
     match check_file(text, tables, section) {
         Checked::Refused(refusal) => Written::Refused(refusal),
-        Checked::Sound => write_numbers(out, &covered_lines(text)),
+        Checked::Sound => propose_sound(out, text),
     }
 }
 
 // The same of a text that passed its checks.
+#[inline(never)]
 fn drop_sound(out: &mut [u8], text: &[u8], proposal: &[u8]) -> Written
     requires { (length text.now ≤ 16384) × Sound text.now }
     ensures answer { result ≡ written_of (drop_sound text.now proposal.now (length out.old)) }
