@@ -75,6 +75,12 @@ def main():
         expect("no argument", [], "", "usage: checker FILE\n")
         expect("a missing file", [folder + "/none"], "", folder + "/none: No such file or directory\n")
         expect("a folder", [folder], "", folder + ": Is a directory\n")
+        path.write_bytes(SHEET)
+        with open("/dev/full", "wb") as full:
+            run = subprocess.run([program, str(path)], stdout=full, stderr=subprocess.PIPE, timeout=120, check=False)
+            if run.stderr != b"standard output: No space left on device\n":
+                print(f"checker: a full disk: {run.stderr}")
+                sys.exit(1)
         for ran in range(1, 201):
             sheet = bytearray(SHEET)
             for _ in range(rng.choice([0, 1, 1, 3])):

@@ -17,7 +17,6 @@ NAME = r"[^\s(){}.;,@\"«»\[\]:\\]+"
 TOKEN = re.compile(r"--[^\n]*|//[^\n]*|\"(?:[^\"\\\n]|\\.)*\"|" + NAME)
 DECLARED = re.compile(r"(?m)^ *(?:(?:pub|abbrev|unfoldable|opaque|pattern|data|record|\|) )*(" + NAME + r")(?: \{[^{}\n]*\})*(?: \([^\n]*?\))* :(?= |$)")
 HEADED = re.compile(r"(?m)^\s*(?:pub )?(?:data|record) (\S+)")
-KEEP = {"if◌then◌else◌"}
 
 
 def snake(name):
@@ -58,9 +57,11 @@ def respellings(found):
         names.sort(key=rank)
         for at, name in enumerate(names):
             new = plain if at == 0 else plain + "_lem" * at
-            if new != name and name not in KEEP:
+            if new != name:
                 to[name] = new
     to["◌orElse◌"] = "◌or_else◌"
+    # today's library has a choice of that name, which is no part of a chain
+    to.update({"when": "when_found", "if": "when", "if◌then◌else◌": "when◌then◌else◌"})
     to["◌andThen◌"] = "◌and_then◌"
     # these would meet a word of the library, or a field of the code, in one file
     for name in ("bit-and", "bit-or", "name-end"):

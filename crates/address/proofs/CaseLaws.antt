@@ -10,7 +10,7 @@ use native.Mathlib.Omega.{arith}
 use borrow.Author.Tests.{eqb-true}
 use lib.Dec.{eqb, ltb}
 use lib.ListN.{length, replicate}
-use Rattle.text.specs.Basics.{if◌then◌else◌, ◌>>=◌, ◌or_else◌, given, is_empty, any, all, each}
+use Rattle.text.specs.Basics.{when◌then◌else◌, ◌>>=◌, ◌or_else◌, given, is_empty, any, all, each}
 use Rattle.text.specs.Text.{bytes, among, split_once, split, in_range, char_range, is_digit, lower}
 use Rattle.text.specs.Number.{from_digits, to_digits, digit_value, read_decimal}
 use Rattle.text.proofs.CaseLaws.{Blindly, blind_test, test_blindly, blind_number, number_blindly, Alike, AlikePair, AlikeList, alike_length, alike_all}
@@ -84,7 +84,7 @@ module _ (f : List ℕ → Option (List ℕ)) (h : (xs ys : List ℕ) → Alike 
   alike_read_groups (v ∷ v' ∷ vs) (w ∷ w' ∷ ws) a = rw (alike_read_group v w a.0, alike_read_groups (v' ∷ vs) (w' ∷ ws) a.1)
 
 -- the groups of one side of `::`
-alike_side : (xs ys : List ℕ) → Alike xs ys → AlikeList (if is_empty xs then [] else split ":" xs) (if is_empty ys then [] else split ":" ys)
+alike_side : (xs ys : List ℕ) → Alike xs ys → AlikeList (when is_empty xs then [] else split ":" xs) (when is_empty ys then [] else split ":" ys)
 alike_side [] [] a = tt
 alike_side [] (y ∷ ys) a = absurd a
 alike_side (x ∷ xs) [] a = absurd a

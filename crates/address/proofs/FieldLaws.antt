@@ -12,7 +12,7 @@ use borrow.Author.Tests.{eqb-true, eqb-false, eq-eqb, ne_eqb, le-leb, lt-leb, le
 use lib.Dec.{leb, ltb, eqb}
 use lib.ListN.{length, take, drop, get_or, drop_of_length-le}
 use lib.Seq.{drop-cons}
-use Rattle.text.specs.Basics.{if◌then◌else◌, ◌>>=◌, given, all, any, each}
+use Rattle.text.specs.Basics.{when◌then◌else◌, ◌>>=◌, given, all, any, each}
 use Rattle.text.specs.Text.{among, equal, split, cons_head, is_digit}
 use Rattle.text.specs.Number.{from_digits, digit_value, numeral, read_decimal}
 use Rattle.text.specs.Scan.{as_number}
@@ -51,7 +51,7 @@ started v (b ∷ t) p h = by (is_digit b) (leb (field_more v b) 255) refl refl (
         let l : 255 < rest (field_more v b) t = omega (arith, leb-false (field_more v b) 255 f) in
         simp (e, f, lt-leb (rest (field_more v b) t) 255 l) (dead (all is_digit t) (not (eqb v 0)) (rest (field_more v b) t))
       where
-        dead : (x y : Bool) (n : ℕ) → (if y && false then digits_from (field_more v b) true t else none) ≡ given (x && false) n
+        dead : (x y : Bool) (n : ℕ) → (when y && false then digits_from (field_more v b) true t else none) ≡ given (x && false) n
         dead true true n = refl
         dead true false n = refl
         dead false true n = refl
@@ -63,7 +63,7 @@ zero_read [] = refl
 zero_read (c ∷ t) =
     read_decimal_not 255 (48 ∷ c ∷ t) (omega arith) (λ k. k.lead (omega arith) refl) ∙ sym (by (is_digit c) (leb (field_more 0 c) 255))
   where
-    by : (x y : Bool) → (if x && (not (true && true) && y) then digits_from (field_more 0 c) true t else none) ≡ none
+    by : (x y : Bool) → (when x && (not (true && true) && y) then digits_from (field_more 0 c) true t else none) ≡ none
     by true y = refl
     by false y = refl
 
@@ -113,7 +113,7 @@ unfolding split
 split_cons [] = ([], [], refl)
 split_cons (x ∷ s) = by (among "." x) (split "." s)
   where
-    by : (b : Bool) (l : List (List ℕ)) → (w : List ℕ) × (ws : List (List ℕ)) × ((if b then [] ∷ l else cons_head x l) ≡ w ∷ ws)
+    by : (b : Bool) (l : List (List ℕ)) → (w : List ℕ) × (ws : List (List ℕ)) × ((when b then [] ∷ l else cons_head x l) ≡ w ∷ ws)
     by true l = ([], l, refl)
     by false [] = (x ∷ [], [], refl)
     by false (w ∷ ws) = (x ∷ w, ws, refl)
@@ -124,12 +124,12 @@ each_split t = let q = split_cons t in rw q.2 (sym (each_from_lem q.0 q.1))
 module _ (v : ℕ) (d : Bool) where
   -- one part, and what follows a dot
   pub dot_after : (o p : Option (List ℕ)) → o ≡ p → (x : Bool)
-      → (if x then (o >>= λ fs. some (v ∷ fs)) else none) ≡ (given x v >>= λ y. p >>= λ ys. some (y ∷ ys))
+      → (when x then (o >>= λ fs. some (v ∷ fs)) else none) ≡ (given x v >>= λ y. p >>= λ ys. some (y ∷ ys))
   dot_after o p e true = rw e
   dot_after o p e false = refl
 
   pub digit_after : (o : Option (List ℕ)) (w : List ℕ) (ws : List (List ℕ)) → o ≡ each_from v d (w ∷ ws) → (x : Bool)
-      → (if x then o else none) ≡ ((if x then digits_from v d w else none) >>= λ y. each (read_decimal 255) ws >>= λ ys. some (y ∷ ys))
+      → (when x then o else none) ≡ ((when x then digits_from v d w else none) >>= λ y. each (read_decimal 255) ws >>= λ ys. some (y ∷ ys))
   digit_after o w ws e true = e
   digit_after o w ws e false = refl
 
@@ -191,7 +191,7 @@ module _ (n k v : ℕ) (d : Bool) (b : ℕ) (t : List ℕ) where
   AddressSteps S.Stop = address_from n k v d (b ∷ t) ≡ none
   AddressSteps (S.Go m j u x) = address_from n k v d (b ∷ t) ≡ address_from m j u x t
 
-  dead : (g : Bool) → eqb b 46 ≡ false → field_fits v d b ≡ false → AddressSteps (if g then S.Nothing else S.Stop)
+  dead : (g : Bool) → eqb b 46 ≡ false → field_fits v d b ≡ false → AddressSteps (when g then S.Nothing else S.Stop)
   unfolding run_fields
   dead true e f = simp (e, f)
   dead false e f = simp (e, f)
@@ -282,8 +282,8 @@ unfolding step_of
 step_bounds n k v d b m l u x few small field h = by (eqb b 46) (d && ltb k 3) (leb (field_more v b) 255) (is_digit b) (not (d && eqb v 0)) refl refl h
   where
     by : (p q f g o : Bool) → (d && ltb k 3) ≡ q → leb (field_more v b) 255 ≡ f
-        → (if p then (if q then S.Go (n * 256 + v) (k + 1) 0 false else S.Nothing) else if g && (o && f) then S.Go n k (field_more v b) true
-        else if g then S.Nothing else S.Stop)
+        → (when p then (when q then S.Go (n * 256 + v) (k + 1) 0 false else S.Nothing) else when g && (o && f) then S.Go n k (field_more v b) true
+        else when g then S.Nothing else S.Stop)
         ≡ S.Go m l u x
         → (m < 256 ^ l) × ((l ≤ 3) × (u ≤ 255))
     by true true f g o e1 e2 h =

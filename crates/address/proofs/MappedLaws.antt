@@ -3,7 +3,7 @@
 use Prim.Native.Nat.{ℕ, ◌%◌}
 use mathlib.Core.Bool.{Bool, true, false}
 use mathlib.Core.Path.{◌≡◌, refl}
-use Rattle.text.specs.Basics.{if◌then◌else◌}
+use Rattle.text.specs.Basics.{when◌then◌else◌}
 use Rattle.address.specs.declared.Addr.{Addr}
 use Rattle.address.specs.declared.Addr.TheVariants as A
 use Rattle.address.specs.Mapped.{is_mapped, unmapped}
@@ -32,6 +32,6 @@ none_mapped A.Unknown = refl
 none_mapped (A.V4 n) = refl
 none_mapped (A.V6 high low) = by (is_mapped (A.V6 high low)) refl
   where
-    by : (b : Bool) → is_mapped (A.V6 high low) ≡ b → is_mapped (if b then A.V4 (low % 4294967296) else A.V6 high low) ≡ false
+    by : (b : Bool) → is_mapped (A.V6 high low) ≡ b → is_mapped (when b then A.V4 (low % 4294967296) else A.V6 high low) ≡ false
     by true e = refl
     by false e = e

@@ -13,7 +13,7 @@ use borrow.Author.Tests.{eqb-true, ltb-true, lt-ltb, le-leb}
 use lib.Dec.{ltb, eqb}
 use lib.Arith.{digits_lt, digits_div, digits_mod}
 use lib.ListN.{length, replicate, length-append, length-replicate, length-map}
-use Rattle.text.specs.Basics.{if◌then◌else◌, is_empty, any, all, each}
+use Rattle.text.specs.Basics.{when◌then◌else◌, is_empty, any, all, each}
 use Rattle.text.specs.Text.{bytes, among, equal, split_once, split, intercalate, char_range, is_digit}
 use Rattle.text.specs.Number.{from_digits, to_digits, digit_byte, numeral, decimal, read_decimal}
 use Rattle.text.proofs.BasicLaws.{and_true}
@@ -115,12 +115,12 @@ split_hex_groups : (gs : List ℕ) → 0 < length gs → split ":" (hex_groups g
 split_hex_groups gs pos =
     split_intercalate ":" (map (numeral 16 4) gs) (omega (arith, length-map gs (numeral 16 4))) (all_map (free colon) (numeral 16 4) free_numeral gs)
 
-side_hex_groups : (gs : List ℕ) → (if is_empty (hex_groups gs) then [] else split ":" (hex_groups gs)) ≡ map (numeral 16 4) gs
+side_hex_groups : (gs : List ℕ) → (when is_empty (hex_groups gs) then [] else split ":" (hex_groups gs)) ≡ map (numeral 16 4) gs
 unfolding intercalate
 side_hex_groups [] = refl
 side_hex_groups (g ∷ gs) =
     ap
-    (λ (b : Bool). if b then [] else split ":" (hex_groups (g ∷ gs)))
+    (λ (b : Bool). when b then [] else split ":" (hex_groups (g ∷ gs)))
     (is_empty_intercalate colon (bytes ":") (numeral 16 4 g) (map (numeral 16 4) gs) (is_field_numeral g))
     ∙ split_hex_groups (g ∷ gs) (omega arith)
 

@@ -13,7 +13,7 @@ use lib.Dec.{leb, ltb, eqb}
 use lib.ListN.{length, drop, get_or, replicate, take, length-append, length-replicate, length-drop}
 use lib.Pow.{pow-add, high, low}
 use lib.Seq.{drop-cons}
-use Rattle.text.specs.Basics.{◌>>=◌, given, all, if◌then◌else◌, ◌or_else◌, any, each}
+use Rattle.text.specs.Basics.{◌>>=◌, given, all, when◌then◌else◌, ◌or_else◌, any, each}
 use Rattle.text.specs.Text.{bytes, among, equal, starts_with, cons_head, split_once, split}
 use Rattle.text.specs.Number.{from_digits, numeral, read_decimal}
 use Rattle.text.specs.Scan.{as_number}
@@ -47,7 +47,7 @@ unfolding place_of
 place_of_le m [] = omega arith
 place_of_le m (x ∷ t) = by (starts_with m (x ∷ t)) (place_of_le m t)
   where
-    by : (b : Bool) → place_of m t ≤ length t → (if b then 0 else suc (place_of m t)) ≤ suc (length t)
+    by : (b : Bool) → place_of m t ≤ length t → (when b then 0 else suc (place_of m t)) ≤ suc (length t)
     by true h = omega arith
     by false h = omega arith
 
@@ -89,14 +89,14 @@ unfolding place_of equal
 place_short [] h = refl
 place_short (x ∷ []) h = by (eqb 58 x)
   where
-    by : (b : Bool) → ◌≡◌ {A = ℕ} (if b && false then 0 else 1) 1
+    by : (b : Bool) → ◌≡◌ {A = ℕ} (when b && false then 0 else 1) 1
     by true = refl
     by false = refl
 place_short (x ∷ y ∷ t) h = absurd (omega arith)
 
 module _ (s : List ℕ) (i : ℕ) (so_far : place_of (bytes "::") s ≡ i + place_of (bytes "::") (drop i s)) where
   module _ (h : i + 1 < length s) where
-    place_pair : place_of (bytes "::") (drop i s) ≡ (if eqb (get_or s i 0) 58 && eqb (get_or s (i + 1) 0) 58 then 0 else suc (place_of (bytes "::") (drop (i + 1) s)))
+    place_pair : place_of (bytes "::") (drop i s) ≡ (when eqb (get_or s i 0) 58 && eqb (get_or s (i + 1) 0) 58 then 0 else suc (place_of (bytes "::") (drop (i + 1) s)))
     unfolding place_of
     place_pair =
         let l : i < length s = omega arith in
@@ -127,7 +127,7 @@ groups_are : (o : Option (List ℕ)) (a : ℕ) (l : Words) → groups_from 0 0 o
 groups_are none a l e = let z : ◌≡◌ {A = ℕ} 0 1 = cc in absurd (omega arith)
 groups_are (some gs) a l e = by (leb (0 + length gs) 8) refl e
   where
-    by : (b : Bool) → leb (0 + length gs) 8 ≡ b → (if b then R.Groups (0 + length gs) (words_of (from_digits 65536 0 gs)) else R.Nothing) ≡ R.Groups a l
+    by : (b : Bool) → leb (0 + length gs) 8 ≡ b → (when b then R.Groups (0 + length gs) (words_of (from_digits 65536 0 gs)) else R.Nothing) ≡ R.Groups a l
         → AreGroups (some gs) a l
     by true p q =
         let x : 0 + length gs ≡ a = cc in
@@ -142,7 +142,7 @@ groups_none : (o : Option (List ℕ)) → groups_from 0 0 o ≡ R.Nothing → (g
 groups_none none e gs q = let z : ◌≡◌ {A = ℕ} 0 1 = cc in absurd (omega arith)
 groups_none (some hs) e gs q = let r : hs ≡ gs = cc in omega (arith, ap length r, by (leb (0 + length hs) 8) refl e)
   where
-    by : (b : Bool) → leb (0 + length hs) 8 ≡ b → (if b then R.Groups (0 + length hs) (words_of (from_digits 65536 0 hs)) else R.Nothing) ≡ R.Nothing
+    by : (b : Bool) → leb (0 + length hs) 8 ≡ b → (when b then R.Groups (0 + length hs) (words_of (from_digits 65536 0 hs)) else R.Nothing) ≡ R.Nothing
         → 8 < length hs
     by true p q = let z : ◌≡◌ {A = ℕ} 0 1 = cc in absurd (omega arith)
     by false p q = omega (arith, leb-false (0 + length hs) 8 p)
@@ -342,15 +342,15 @@ of_groups_nothing none e = refl
 of_groups_nothing (some gs) e = rw (ne_eqb (length gs) 8 (λ q. omega (arith, groups_none (some gs) e gs refl)))
 
 of_groups_are : (o : Option (List ℕ)) (c : ℕ) (w : Words) → groups_from 0 0 o ≡ R.Groups c w → as_v6 (of_groups o)
-    ≡ (if eqb c 8 then S.Value w.high w.low else S.Nothing)
+    ≡ (when eqb c 8 then S.Value w.high w.low else S.Nothing)
 of_groups_are o c w e = let r : AreGroups o c w = groups_are o c w e in by r.groups r.read r.count r.number
   where
-    if_given : (b : Bool) (n : ℕ) → as_v6 (given b n) ≡ (if b then S.Value (n / 2 ^ 64) (n % 2 ^ 64) else S.Nothing)
+    if_given : (b : Bool) (n : ℕ) → as_v6 (given b n) ≡ (when b then S.Value (n / 2 ^ 64) (n % 2 ^ 64) else S.Nothing)
     if_given true n = refl
     if_given false n = refl
 
     by : (gs : List ℕ) → o ≡ some gs → c ≡ length gs → w ≡ words_of (from_digits 65536 0 gs) → as_v6 (of_groups o)
-        ≡ (if eqb c 8 then S.Value w.high w.low else S.Nothing)
+        ≡ (when eqb c 8 then S.Value w.high w.low else S.Nothing)
     by gs x y n = rw (x, y, n) (if_given (eqb (length gs) 8) (from_digits 65536 0 gs))
 
 -- with `::` in it

@@ -12,7 +12,7 @@ use borrow.Author.Tests.{ltb-true, ltb-false, le-leb, lt-leb, lt-ltb, le-ltb}
 use lib.Dec.{leb, ltb}
 use lib.ListN.{length, drop, take, length-append, length-drop}
 use lib.Seq.{drop-drop}
-use Rattle.text.specs.Basics.{◌>>=◌, all, if◌then◌else◌, ◌or_else◌}
+use Rattle.text.specs.Basics.{◌>>=◌, all, when◌then◌else◌, ◌or_else◌}
 use Rattle.text.specs.Text.{among, cons_head, split}
 use Rattle.text.specs.Number.{from_digits, to_digits}
 use Rattle.text.specs.Scan.{as_number, index_of}
@@ -58,7 +58,7 @@ unfolding split
 split_some [] e = let z : ◌≡◌ {A = ℕ} 0 1 = cc in omega arith
 split_some (x ∷ t) e = by (among ":" x) (split ":" t) e
   where
-    by : (b : Bool) (ws : List (List ℕ)) → (if b then [] ∷ ws else cons_head x ws) ≡ [] → ⊥
+    by : (b : Bool) (ws : List (List ℕ)) → (when b then [] ∷ ws else cons_head x ws) ≡ [] → ⊥
     by true ws e = let z : ◌≡◌ {A = ℕ} 0 1 = cc in omega arith
     by false [] e = let z : ◌≡◌ {A = ℕ} 0 1 = cc in omega arith
     by false (w ∷ ws) e = let z : ◌≡◌ {A = ℕ} 0 1 = cc in omega arith
@@ -78,7 +78,7 @@ unfolding from_digits
 groups_from_cons k n g none = refl
 groups_from_cons k n g (some gs) =
     let e : k + suc (length gs) ≡ (k + 1) + length gs = omega arith in
-    ap (λ (j : ℕ). if leb j 8 then R.Groups j (words_of (from_digits 65536 (n * 65536 + g) gs)) else R.Nothing) e
+    ap (λ (j : ℕ). when leb j 8 then R.Groups j (words_of (from_digits 65536 (n * 65536 + g) gs)) else R.Nothing) e
 
 -- the groups of t after k groups that make n
 unfoldable pub row_from : Bool → ℕ → ℕ → List ℕ → GroupsRead

@@ -9,7 +9,7 @@
 -- Assumes nothing: these are definitions.
 use Rattle.std.specs.Prelude.{ℕ, suc, ◌+◌, ◌*◌, ◌/◌, ◌%◌, ◌^◌, Bool, true, false, ◌&&◌, ◌||◌, List, [], ◌∷◌, map, length, take, leb, ltb, eqb}
 use Rattle.std.proofs.Math.Option.{Option, none, some}
-use Rattle.text.specs.Basics.{if◌then◌else◌, ◌>>=◌, given, is_empty, all}
+use Rattle.text.specs.Basics.{when◌then◌else◌, ◌>>=◌, given, is_empty, all}
 use Rattle.text.specs.Text.{starts_with, in_range, char_range, is_digit, split}
 use Rattle.text.specs.Number.{from_digits, to_digits, digit_value, read_decimal}
 use Rattle.text.specs.Scan.{index_of}
@@ -35,7 +35,7 @@ abbrev pub is_hex : ℕ → Bool
 is_hex b = is_digit b || char_range "A" "F" b || char_range "a" "f" b
 
 unfoldable pub hex_value : ℕ → ℕ
-hex_value b = if is_hex b then digit_value b else 16
+hex_value b = when is_hex b then digit_value b else 16
 
 unfoldable pub group_value : List ℕ → Option ℕ
 group_value t = given (all is_hex t && in_range 1 4 (length t)) (from_digits 16 0 (map digit_value t))
@@ -51,7 +51,7 @@ first_group t = group_at (index_of 58 t) (ltb (index_of 58 t) (length t)) (group
 
 abbrev pub groups_from : ℕ → ℕ → Option (List ℕ) → GroupsRead
 groups_from k n none = R.Nothing
-groups_from k n (some gs) = if leb (k + length gs) 8 then R.Groups (k + length gs) (words_of (from_digits 65536 n gs)) else R.Nothing
+groups_from k n (some gs) = when leb (k + length gs) 8 then R.Groups (k + length gs) (words_of (from_digits 65536 n gs)) else R.Nothing
 
 -- IPv4 text as two groups
 abbrev pub read_tail : List ℕ → Option (List ℕ)
@@ -64,12 +64,12 @@ reads_last false = read_group
 
 -- the texts of one side of `::`
 abbrev pub side_parts : List ℕ → List (List ℕ)
-side_parts t = if is_empty t then [] else split ":" t
+side_parts t = when is_empty t then [] else split ":" t
 
 -- the first place of the mark m in t, the length where there is none
 unfoldable pub place_of : List ℕ → List ℕ → ℕ
 place_of m [] = 0
-place_of m (x ∷ t) = if starts_with m (x ∷ t) then 0 else suc (place_of m t)
+place_of m (x ∷ t) = when starts_with m (x ∷ t) then 0 else suc (place_of m t)
 
 -- the number of eight groups
 abbrev pub of_groups : Option (List ℕ) → Option ℕ

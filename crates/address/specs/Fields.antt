@@ -9,7 +9,7 @@
 -- Assumes nothing: these are definitions.
 use Rattle.std.specs.Prelude.{ℕ, suc, ◌+◌, ◌-◌, ◌*◌, Bool, true, false, not, ◌&&◌, List, [], ◌∷◌, leb, ltb, eqb, length}
 use Rattle.std.proofs.Math.Option.{Option, none, some}
-use Rattle.text.specs.Basics.{if◌then◌else◌, ◌>>=◌, given}
+use Rattle.text.specs.Basics.{when◌then◌else◌, ◌>>=◌, given}
 use Rattle.text.specs.Text.{is_digit}
 use Rattle.text.specs.Number.{from_digits}
 use Rattle.address.specs.declared.fields.Step.{Step}
@@ -26,13 +26,13 @@ field_fits v d b = is_digit b && (not (d && eqb v 0) && leb (field_more v b) 255
 
 unfoldable pub digits_from : ℕ → Bool → List ℕ → Option ℕ
 digits_from v d [] = given d v
-digits_from v d (b ∷ t) = if field_fits v d b then digits_from (field_more v b) true t else none
+digits_from v d (b ∷ t) = when field_fits v d b then digits_from (field_more v b) true t else none
 
 unfoldable pub run_fields : ℕ → Bool → List ℕ → Option (List ℕ)
 run_fields v d [] = given d (v ∷ [])
 run_fields v d (b ∷ t) =
-    if eqb b 46 then (if d then (run_fields 0 false t >>= λ fs. some (v ∷ fs)) else none)
-    else if field_fits v d b then run_fields (field_more v b) true t
+    when eqb b 46 then (when d then (run_fields 0 false t >>= λ fs. some (v ∷ fs)) else none)
+    else when field_fits v d b then run_fields (field_more v b) true t
     else none
 
 abbrev pub address_from : ℕ → ℕ → ℕ → Bool → List ℕ → Option ℕ
@@ -45,9 +45,9 @@ ended_address n k v d = given (d && eqb k 3) (n * 256 + v)
 -- the pass fails, stops before a byte that is neither digit nor dot, or goes on
 unfoldable pub step_of : ℕ → ℕ → ℕ → Bool → ℕ → Step
 step_of n k v d b =
-    if eqb b 46 then (if d && ltb k 3 then S.Go (n * 256 + v) (k + 1) 0 false else S.Nothing)
-    else if field_fits v d b then S.Go n k (field_more v b) true
-    else if is_digit b then S.Nothing
+    when eqb b 46 then (when d && ltb k 3 then S.Go (n * 256 + v) (k + 1) 0 false else S.Nothing)
+    else when field_fits v d b then S.Go n k (field_more v b) true
+    else when is_digit b then S.Nothing
     else S.Stop
 
 abbrev pub on_step : Step → Run → (ℕ → ℕ → ℕ → Bool → Run) → Run

@@ -3,7 +3,7 @@
 --   unmapped a == a, held as IPv4 where it is mapped
 -- Assumes nothing: these are definitions.
 use Rattle.std.specs.Prelude.{◌/◌, ◌%◌, ◌^◌, Bool, false, ◌&&◌, eqb}
-use Rattle.text.specs.Basics.{if◌then◌else◌}
+use Rattle.text.specs.Basics.{when◌then◌else◌}
 use Rattle.address.specs.declared.Addr.{Addr}
 use Rattle.address.specs.declared.Addr.TheVariants as A
 
@@ -17,4 +17,4 @@ is_mapped (A.V6 high low) = eqb high 0 && eqb (low / 2 ^ 32) 0xffff
 unfoldable pub unmapped : Addr → Addr
 unmapped A.Unknown = A.Unknown
 unmapped (A.V4 n) = A.V4 n
-unmapped (A.V6 high low) = if is_mapped (A.V6 high low) then A.V4 (low % 2 ^ 32) else A.V6 high low
+unmapped (A.V6 high low) = when is_mapped (A.V6 high low) then A.V4 (low % 2 ^ 32) else A.V6 high low

@@ -5,7 +5,7 @@
 --   longest_run gs   == the first of the longest runs of zeros in gs
 -- Assumes nothing: these are definitions.
 use Rattle.std.specs.Prelude.{ℕ, suc, ◌+◌, List, [], ◌∷◌, ◌++◌, leb, eqb}
-use Rattle.text.specs.Basics.{if◌then◌else◌}
+use Rattle.text.specs.Basics.{when◌then◌else◌}
 use Rattle.text.specs.Text.{bytes}
 use Rattle.text.specs.Number.{numeral}
 use Rattle.address_format.specs.declared.Run.{Run}
@@ -19,7 +19,7 @@ run_at p n = record { place = p; len = n }
 
 -- the zeros from a group on, where there are n after it
 abbrev pub longer_zeros : ℕ → ℕ → ℕ
-longer_zeros n g = if eqb g 0 then n + 1 else 0
+longer_zeros n g = when eqb g 0 then n + 1 else 0
 
 unfoldable pub leading_zeros : List ℕ → ℕ
 leading_zeros [] = 0
@@ -27,7 +27,7 @@ leading_zeros (g ∷ gs) = longer_zeros (leading_zeros gs) g
 
 -- the longer of a run and an earlier one, the earlier of equals
 abbrev pub longer_run : Run → ℕ → ℕ → Run
-longer_run r place len = if leb r.len len then run_at place len else r
+longer_run r place len = when leb r.len len then run_at place len else r
 
 -- the first of the longest runs in gs, where gs stands from the place p on
 unfoldable pub longest_from : ℕ → List ℕ → Run

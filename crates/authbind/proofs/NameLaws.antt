@@ -9,7 +9,7 @@ use borrow.Author.Tests.{lt-ltb, le-ltb, eq-eqb, ne_eqb, eqb-true, eqb-false}
 use lib.Dec.{ltb, eqb}
 use lib.ListN.{length, take, drop, get_or, length-append}
 use lib.Seq.{take-length, take-paste}
-use Rattle.text.specs.Basics.{if◌then◌else◌}
+use Rattle.text.specs.Basics.{when◌then◌else◌}
 use Rattle.text.specs.Text.{bytes, equal, in_range}
 use Rattle.text.specs.Number.{to_digits, decimal}
 use Rattle.text.specs.Scan.{put_at, after}
@@ -95,7 +95,7 @@ length_folder File.Uid = omega arith
 length_mark : (p : ℕ) → length (mark_for p) ≤ 1
 length_mark p = by (in_range 512 1023 p)
   where
-    by : (t : Bool) → length (if t then bytes "!" else []) ≤ 1
+    by : (t : Bool) → length (when t then bytes "!" else []) ≤ 1
     by true = omega arith
     by false = omega arith
 

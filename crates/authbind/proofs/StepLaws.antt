@@ -11,7 +11,7 @@ use borrow.Author.Tests.{le-ltb, ltb-true, ltb-false, leb-true, leb-false, eqb-t
 use lib.Dec.{leb, ltb, eqb}
 use lib.ListN.{length, drop, get_or, drop_of_length-le}
 use lib.Seq.{drop-cons}
-use Rattle.text.specs.Basics.{if◌then◌else◌, given, all}
+use Rattle.text.specs.Basics.{when◌then◌else◌, given, all}
 use Rattle.text.specs.Basics.{◌>>=◌ as ◌and_then◌}
 use Rattle.section.specs.declared.Fault.TheVariants as F
 use Rattle.section.specs.declared.Refusal.{Refusal}
@@ -183,22 +183,22 @@ module _ (s : List ℕ) (p : ℕ) (a : Addr) (uid : ℕ) where
   -- what follows the checks of 13
   abbrev further : ℕ → Outcome Step
   further room =
-      if not (is_ruled p uid) then answered not_ruled
-      else if left_out a then refused (placeless F.DottedAddress)
+      when not (is_ruled p uid) then answered not_ruled
+      else when left_out a then refused (placeless F.DottedAddress)
       else (walk (by_uid p uid) (map access_by s) (tests p a) >>= with_room room)
 
   abbrev after_fit : ℕ → Asked → Outcome Step
   after_fit room q =
-      if not (is_ruled q.wanted.port q.wanted.uid) then answered not_ruled
-      else if left_out q.wanted.address then refused (placeless F.DottedAddress)
+      when not (is_ruled q.wanted.port q.wanted.uid) then answered not_ruled
+      else when left_out q.wanted.address then refused (placeless F.DottedAddress)
       else (walk (by_uid q.wanted.port q.wanted.uid) q.answers (tests q.wanted.port q.wanted.address) >>= with_room room)
 
-  checked : (room : ℕ) → next_step (asking s (bind p a uid)) room ≡ (if all is_access s && known then further room else refused (placeless F.BadRequest))
+  checked : (room : ℕ) → next_step (asking s (bind p a uid)) room ≡ (when all is_access s && known then further room else refused (placeless F.BadRequest))
   unfolding next_step
   checked room = rw (each_access s) (by (all is_access s))
     where
       by : (t : Bool) → fitting address_known (given t (map access_by s) and_then λ xs. some (asked (bind p a uid) xs)) (after_fit room)
-          ≡ (if t && known then further room else refused (placeless F.BadRequest))
+          ≡ (when t && known then further room else refused (placeless F.BadRequest))
       by true = refl
       by false = refl
 

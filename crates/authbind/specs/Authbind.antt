@@ -8,7 +8,7 @@
 use Rattle.std.specs.Prelude.{ℕ, ◌/◌, ◌^◌, Bool, true, false, not, ◌&&◌, ◌||◌, List, [], ◌∷◌, ◌++◌, length, ltb, eqb}
 use Prim.Native.String.{String}
 use Rattle.std.proofs.Math.Option.{Option, some}
-use Rattle.text.specs.Basics.{if◌then◌else◌, ◌>>=◌, given, each}
+use Rattle.text.specs.Basics.{when◌then◌else◌, ◌>>=◌, given, each}
 use Rattle.text.specs.Text.{bytes, equal, in_range}
 use Rattle.text.specs.Number.{to_digits, decimal}
 use Rattle.section.specs.declared.Fault.TheVariants as F
@@ -25,7 +25,7 @@ use Rattle.authbind.specs.declared.Next.TheVariants as N
 
 -- "Names are written whole, from `/etc/authbind/` on, .. with `!` before the leaf for 512 to 1023."
 abbrev pub file_name : String → ℕ → List ℕ → List ℕ
-file_name folder p leaf = bytes "/etc/authbind/" ++ bytes folder ++ (if in_range 512 1023 p then bytes "!" else []) ++ leaf
+file_name folder p leaf = bytes "/etc/authbind/" ++ bytes folder ++ (when in_range 512 1023 p then bytes "!" else []) ++ leaf
 
 -- "byport"
 abbrev pub by_port : ℕ → List ℕ
@@ -43,7 +43,7 @@ unabbreviated n = hex_groups (to_digits 65536 8 n)
 unfoldable pub tests : ℕ → Addr → List (List ℕ)
 tests p a = by_port p ∷ by_addr p (addr_text a) "," ∷ addr_case a []
     (λ n. by_addr p (text_v4 n) ":" ∷ [])
-    (λ n. if equal (text_v6 n) (unabbreviated n) then [] else by_addr p (unabbreviated n) "," ∷ [])
+    (λ n. when equal (text_v6 n) (unabbreviated n) then [] else by_addr p (unabbreviated n) "," ∷ [])
 
 -- "then byuid"
 abbrev pub by_uid : ℕ → ℕ → List ℕ
@@ -88,7 +88,7 @@ asked b xs = record { wanted = b; answers = xs }
 
 -- "(allowed, absent, other)": a byte for each; none where one is outside these kinds
 abbrev pub access_of : ℕ → Option Access
-access_of n = if eqb n 0 then some Absent else if eqb n 1 then some Allowed else given (eqb n 2) Other
+access_of n = when eqb n 0 then some Absent else when eqb n 1 then some Allowed else given (eqb n 2) Other
 
 abbrev pub asking : List ℕ → Bind → Option Asked
 asking answers b = each access_of answers >>= λ xs. some (asked b xs)
@@ -112,8 +112,8 @@ with_room room s = refusing (given (ltb room (length (name_of s))) (placeless F.
 unfoldable pub next_step : Option Asked → ℕ → Outcome Step
 next_step o room = fitting address_known o λ q.
     let b : Bind = q.wanted in
-    if not (is_ruled b.port b.uid) then answered not_ruled
-    else if left_out b.address then refused (placeless F.DottedAddress)
+    when not (is_ruled b.port b.uid) then answered not_ruled
+    else when left_out b.address then refused (placeless F.DottedAddress)
     else (walk (by_uid b.port b.uid) q.answers (tests b.port b.address) then with_room room)
 
 -- what the lent output gets: the name, or nothing

@@ -7,7 +7,7 @@
 --   step_at t p a uid room  == what comes next, where the answers lead to t
 -- Assumes nothing: these are definitions.
 use Rattle.std.specs.Prelude.{ℕ, suc, Bool, true, false, not, List, [], ◌∷◌, ◌++◌, length, leb, ltb, eqb}
-use Rattle.text.specs.Basics.{if◌then◌else◌}
+use Rattle.text.specs.Basics.{when◌then◌else◌}
 use Rattle.text.specs.Text.{bytes, equal, in_range}
 use Rattle.text.specs.Number.{decimal}
 use Rattle.section.specs.declared.Fault.TheVariants as F
@@ -30,25 +30,25 @@ abbrev pub is_access : ℕ → Bool
 is_access b = leb b 2
 
 abbrev pub access_by : ℕ → Access
-access_by b = if eqb b 0 then Absent else if eqb b 1 then Allowed else Other
+access_by b = when eqb b 0 then Absent else when eqb b 1 then Allowed else Other
 
 -- an answer that is not "absent", and that others follow or not
 abbrev pub settled_by : ℕ → Bool → Turn
-settled_by x last = if last then (if eqb x 1 then T.Allowed else T.Other) else T.Late
+settled_by x last = when last then (when eqb x 1 then T.Allowed else T.Other) else T.Late
 
 unfoldable pub turn_at : ℕ → List ℕ → ℕ → Turn
-turn_at i [] n = if ltb i n then T.Test i else T.Byuid
-turn_at i (x ∷ s) n = if leb n i then T.Late else if eqb x 0 then turn_at (suc i) s n else settled_by x (eqb (length s) 0)
+turn_at i [] n = when ltb i n then T.Test i else T.Byuid
+turn_at i (x ∷ s) n = when leb n i then T.Late else when eqb x 0 then turn_at (suc i) s n else settled_by x (eqb (length s) 0)
 
 -- whether there is a third test
 abbrev pub has_third : Addr → Bool
 has_third a = addr_case a false (λ n. true) (λ n. not (equal (text_v6 n) (unabbreviated n)))
 
 abbrev pub count_tests : Addr → ℕ
-count_tests a = if has_third a then 3 else 2
+count_tests a = when has_third a then 3 else 2
 
 abbrev pub file_of : ℕ → File
-file_of k = if eqb k 0 then File.Port else if eqb k 1 then File.Address else File.Third
+file_of k = when eqb k 0 then File.Port else when eqb k 1 then File.Address else File.Third
 
 -- ## The parts of a name
 
@@ -59,7 +59,7 @@ folder_of File.Third = bytes "/etc/authbind/byaddr/"
 folder_of File.Uid = bytes "/etc/authbind/byuid/"
 
 abbrev pub mark_for : ℕ → List ℕ
-mark_for p = if in_range 512 1023 p then bytes "!" else []
+mark_for p = when in_range 512 1023 p then bytes "!" else []
 
 -- the address that stands in the name of the third test, and its mark
 unfoldable pub third_text : Addr → List ℕ

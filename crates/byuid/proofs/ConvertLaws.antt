@@ -16,7 +16,7 @@ use borrow.Author.Tests.{lt-ltb, le-ltb, ltb-true, ltb-false, leb-true, leb-fals
 use lib.Dec.{leb, ltb}
 use lib.ListN.{length, take, drop, set, length-append, length-map, length-set, length-drop, length-take, drop_of_length-le}
 use lib.Seq.{length-take-le, take_all, take-length, drop-drop, drop-cons, set-append_seam}
-use Rattle.text.specs.Basics.{if◌then◌else◌, ◌>>=◌, ◌or_else◌, holds, any, all}
+use Rattle.text.specs.Basics.{when◌then◌else◌, ◌>>=◌, ◌or_else◌, holds, any, all}
 use Rattle.text.specs.Text.{bytes, in_range, split_once, split, intercalate}
 use Rattle.text.specs.Scan.{index_of, put_at, after}
 use Rattle.text.proofs.BasicLaws.{and_true, all_append}
@@ -180,7 +180,7 @@ unfolding retired_fault
 unretired_same n [] e = refl
 unretired_same n (l ∷ ls) e = by (is_retired l) refl e (λ h. unretired_same (n + 1) ls h)
   where
-    by : (b : Bool) → is_retired l ≡ b → (if b then some (refusal F.RetiredForm (S.byuid).order n) else retired_fault (n + 1) ls) ≡ none
+    by : (b : Bool) → is_retired l ≡ b → (when b then some (refusal F.RetiredForm (S.byuid).order n) else retired_fault (n + 1) ls) ≡ none
         → (retired_fault (n + 1) ls ≡ none → map convert_line ls ≡ ls) → convert_line l ∷ map convert_line ls ≡ l ∷ ls
     by true q h ih = let z : ◌≡◌ {A = ℕ} 0 1 = cc in absurd (omega arith)
     by false q h ih = rw (convert_line_kept l q, ih h)
@@ -224,7 +224,7 @@ fitted : (t : List ℕ) (o : Option FileBind)
     ≡ fitting address_known o (λ b. answered (decision_before t b.mark b.asked.port b.asked.address b.asked.uid))
 fitted t none = refl
 fitted t (some b) =
-    ap (λ (d : Decision). if address_known b then answered d else refused (placeless F.BadRequest))
+    ap (λ (d : Decision). when address_known b then answered d else refused (placeless F.BadRequest))
     (decided t b.mark b.asked.port b.asked.address b.asked.uid)
 
 alone : (g : Option Refusal) (c : Outcome Decision) → ((g or_else none) before c) ≡ (g before c)

@@ -14,7 +14,7 @@ use native.Mathlib.Omega.{arith}
 use borrow.Author.Tests.{eqb-true, eqb-false, eq-eqb, ne_eqb, not-true}
 use lib.Dec.{eqb, leb, ltb}
 use lib.ListN.{length, take, drop, length-append}
-use Rattle.text.specs.Basics.{if◌then◌else◌, ◌>>=◌, ◌or_else◌, given, holds, any, all, each, is_empty}
+use Rattle.text.specs.Basics.{when◌then◌else◌, ◌>>=◌, ◌or_else◌, given, holds, any, all, each, is_empty}
 use Rattle.text.specs.Text.{bytes, equal, is_digit, char_range, in_range, starts_with, cons_first, split_once, split, among}
 use Rattle.text.specs.Number.{from_digits, to_digits, read_decimal}
 use Rattle.text.proofs.BasicLaws.{and_true, all_append}
@@ -40,7 +40,7 @@ free_before c (x ∷ t) p e = by (eqb c x) refl (split_once (c ∷ []) t) refl (
   where
     by : (b : Bool) → eqb c x ≡ b → (o : Option (List ℕ × List ℕ)) → split_once (c ∷ []) t ≡ o
         → ((q : List ℕ × List ℕ) → split_once (c ∷ []) t ≡ some q → free c q.0 ≡ true)
-        → (if b && true then some ([], t) else cons_first x o) ≡ some p → free c p.0 ≡ true
+        → (when b && true then some ([], t) else cons_first x o) ≡ some p → free c p.0 ≡ true
     by true q o k ih h = let same : ([], t) ≡ p = cc h in sym (ap (λ (r : List ℕ × List ℕ). free c r.0) same)
     by false q none k ih h = let z : ◌≡◌ {A = ℕ} 0 1 = cc in absurd (omega arith)
     by false q (some r) k ih h =
@@ -148,7 +148,7 @@ module _ (f : List ℕ → Option (List ℕ)) (last : (w : List ℕ) → slashed
       by false q ih = skip (read_group w) (read_groups f (v ∷ ws)) (ih (rw q at e))
 
 abbrev side : List ℕ → List (List ℕ)
-side t = if is_empty t then [] else split ":" t
+side t = when is_empty t then [] else split ":" t
 
 slashed_split : (t : List ℕ) → any slashed (split ":" t) ≡ slashed t
 unfolding slashed slash

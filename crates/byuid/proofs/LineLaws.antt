@@ -9,7 +9,7 @@ use native.Mathlib.Omega.{arith}
 use borrow.Author.Tests.{lt-ltb, le-ltb, ltb-false}
 use lib.Dec.{eqb, leb, ltb}
 use lib.ListN.{length, take, drop}
-use Rattle.text.specs.Basics.{if◌then◌else◌, ◌>>=◌, ◌or_else◌, holds, is_some, any}
+use Rattle.text.specs.Basics.{when◌then◌else◌, ◌>>=◌, ◌or_else◌, holds, is_some, any}
 use Rattle.text.specs.Text.{bytes, split_once}
 use Rattle.text.specs.Number.{read_decimal}
 use Rattle.text.specs.Scan.{index_of, as_number}
@@ -274,11 +274,11 @@ not_retired l n = by (is_retired l) n
 -- what a line says, by what it holds as one of a form that grants
 abbrev said : Membership → List ℕ → Looked
 said (H.Is b) l = L.Grants b
-said H.Nothing l = if is_retired l then L.Retired else L.Grants false
+said H.Nothing l = when is_retired l then L.Retired else L.Grants false
 
 -- a line of such a form is not of the retired one
 said_read : (p n : ℕ) (l : List ℕ) (o : Option (Range × Range)) → (is_retired l ≡ true → o ≡ none)
-    → said (membership (inside_both n p) o) l ≡ (if is_retired l then L.Retired else L.Grants (within p o n))
+    → said (membership (inside_both n p) o) l ≡ (when is_retired l then L.Retired else L.Grants (within p o n))
 unfolding membership
 said_read p n l none f = refl
 said_read p n l (some g) f =
@@ -291,7 +291,7 @@ said_held (A.V4 n) p l = said_read p n l (read_comma_form 32 read_v4 l) (retired
 said_held (A.V6 x y) p l = by (ltb (index_of 58 l) (length l)) refl
   where
     by : (b : Bool) → ltb (index_of 58 l) (length l) ≡ b
-        → said (held_v6 (x * 2 ^ 64 + y) p l) l ≡ (if is_retired l then L.Retired else L.Grants (within p (read_comma_form 128 read_v6 l) (x * 2 ^ 64 + y)))
+        → said (held_v6 (x * 2 ^ 64 + y) p l) l ≡ (when is_retired l then L.Retired else L.Grants (within p (read_comma_form 128 read_v6 l) (x * 2 ^ 64 + y)))
     by true e = simp e (said_read p (x * 2 ^ 64 + y) l (read_comma_form 128 read_v6 l) (retired_no_comma_v6 l))
     by false e =
         let h : length l ≤ index_of 58 l = ltb-false (index_of 58 l) (length l) e in
@@ -302,7 +302,7 @@ module _ (a : Addr) (p : ℕ) (l : List ℕ) (h : Membership) (is-h : h ≡ held
   look_is b e = ap (λ (m : Membership). said m l) (sym e ∙ is-h) ∙ said_held a p l
 
   module _ (e : h ≡ H.Nothing) (x : Bool) (is_x : x ≡ is_retired l) where
-    is_said : (if x then L.Retired else L.Grants false) ≡ look_of a p l
+    is_said : (when x then L.Retired else L.Grants false) ≡ look_of a p l
     is_said = rw is_x (ap (λ (m : Membership). said m l) (sym e ∙ is-h) ∙ said_held a p l)
 
     pub look_retired : x ≡ true → L.Retired ≡ look_of a p l

@@ -10,7 +10,7 @@ use native.Mathlib.Omega.{arith}
 use borrow.Author.Tests.{eqb-true}
 use lib.Dec.{eqb}
 use lib.ListN.{length}
-use Rattle.text.specs.Basics.{if◌then◌else◌, all}
+use Rattle.text.specs.Basics.{when◌then◌else◌, all}
 use Rattle.text.specs.Text.{cons_head, split, intercalate}
 use Rattle.text.proofs.Intercalate.{free, among_one}
 
@@ -25,7 +25,7 @@ module _ (c : Char) where
   split_some [] = omega arith
   split_some (x ∷ t) = rw (among_one c x) (by (eqb x (code c)) (parts t) (split_some t))
     where
-      by : (b : Bool) (ws : List (List ℕ)) → 0 < length ws → 0 < length (if b then [] ∷ ws else cons_head x ws)
+      by : (b : Bool) (ws : List (List ℕ)) → 0 < length ws → 0 < length (when b then [] ∷ ws else cons_head x ws)
       by true ws h = omega arith
       by false [] h = omega arith
       by false (w ∷ ws) h = omega arith
@@ -36,7 +36,7 @@ module _ (c : Char) where
   split_all_free (x ∷ t) = rw (among_one c x) (by (eqb x (code c)) refl (parts t) (split_all_free t))
     where
       by : (b : Bool) → eqb x (code c) ≡ b → (ws : List (List ℕ)) → all (free (code c)) ws ≡ true
-          → all (free (code c)) (if b then [] ∷ ws else cons_head x ws) ≡ true
+          → all (free (code c)) (when b then [] ∷ ws else cons_head x ws) ≡ true
       by true e ws h = h
       by false e [] h = rw e
       by false e (w ∷ ws) h = rw e h
@@ -49,7 +49,7 @@ module _ (c : Char) where
   intercalate_split (x ∷ t) = rw (among_one c x) (by (eqb x (code c)) refl (parts t) (split_some t) (intercalate_split t))
     where
       by : (b : Bool) → eqb x (code c) ≡ b → (ws : List (List ℕ)) → 0 < length ws → intercalate (code c ∷ []) ws ≡ t
-          → intercalate (code c ∷ []) (if b then [] ∷ ws else cons_head x ws) ≡ x ∷ t
+          → intercalate (code c ∷ []) (when b then [] ∷ ws else cons_head x ws) ≡ x ∷ t
       by b e [] h ih = absurd (omega arith)
       by true e (w ∷ ws) h ih = rw (eqb-true x (code c) e) (ap (λ (l : List ℕ). code c ∷ l) ih)
       by false e (w ∷ []) h ih = ap (λ (l : List ℕ). x ∷ l) ih

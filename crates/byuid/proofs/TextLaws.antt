@@ -10,7 +10,7 @@ use borrow.Author.Tests.{ltb-true, ltb-false}
 use lib.Dec.{ltb, eqb}
 use lib.ListN.{length, take, drop, length-drop, drop_of_length-le}
 use lib.Seq.{take_all, drop-drop}
-use Rattle.text.specs.Basics.{if◌then◌else◌, any}
+use Rattle.text.specs.Basics.{when◌then◌else◌, any}
 use Rattle.text.specs.Text.{split, in_range}
 use Rattle.text.specs.Scan.{index_of}
 use Rattle.text.proofs.ScanLaws.{take_rest, split_mark, split_no_mark}
@@ -43,7 +43,7 @@ look_retires : (a : Addr) (p : ℕ) (l : List ℕ) → look_of a p l ≡ L.Retir
 unfolding look_of
 look_retires a p l e = by (is_retired l) e
   where
-    by : (b : Bool) → (if b then L.Retired else L.Grants (line_grants a p l)) ≡ L.Retired → b ≡ true
+    by : (b : Bool) → (when b then L.Retired else L.Grants (line_grants a p l)) ≡ L.Retired → b ≡ true
     by true k = refl
     by false k = let z : ◌≡◌ {A = ℕ} 0 1 = cc in absurd (omega arith)
 
@@ -51,7 +51,7 @@ look_grants : (a : Addr) (p : ℕ) (l : List ℕ) (g : Bool) → look_of a p l �
 unfolding look_of
 look_grants a p l g e = by (is_retired l) e
   where
-    by : (b : Bool) → (if b then L.Retired else L.Grants (line_grants a p l)) ≡ L.Grants g → (b ≡ false) × (line_grants a p l ≡ g)
+    by : (b : Bool) → (when b then L.Retired else L.Grants (line_grants a p l)) ≡ L.Grants g → (b ≡ false) × (line_grants a p l ≡ g)
     by true k = let z : ◌≡◌ {A = ℕ} 0 1 = cc in absurd (omega arith)
     by false k = (refl, cc)
 
@@ -66,12 +66,12 @@ module _ (addr : Addr) (port : ℕ) where
 
   -- by the first line, and the text after its newline, if any
   found_first : (n : ℕ) (g : Bool) (t : List ℕ) (i : ℕ) → i ≡ index_of 10 t
-      → found n g t ≡ (if is_retired (take i t) then Retired n else found (n + 1) (g || line_grants addr port (take i t)) (drop (i + 1) t))
+      → found n g t ≡ (when is_retired (take i t) then Retired n else found (n + 1) (g || line_grants addr port (take i t)) (drop (i + 1) t))
   unfolding walk
   found_first n g t i is-i = by (ltb i (length t)) refl
     where
       by : (b : Bool) → ltb i (length t) ≡ b
-          → found n g t ≡ (if is_retired (take i t) then Retired n else found (n + 1) (g || line_grants addr port (take i t)) (drop (i + 1) t))
+          → found n g t ≡ (when is_retired (take i t) then Retired n else found (n + 1) (g || line_grants addr port (take i t)) (drop (i + 1) t))
       by true e = rw (split_mark "\n" 10 refl t i is-i (ltb-true i (length t) e))
       by false e =
           let h : length t ≤ i = ltb-false i (length t) e in
@@ -96,7 +96,7 @@ module _ (addr : Addr) (port : ℕ) where
       abbrev line : List ℕ
       line = take i (drop at t)
 
-      more : found 1 false t ≡ (if is_retired line then Retired n else found (n + 1) (g || line_grants addr port line) (drop (at + i + 1) t))
+      more : found 1 false t ≡ (when is_retired line then Retired n else found (n + 1) (g || line_grants addr port line) (drop (at + i + 1) t))
       more =
           let f : at + (i + 1) ≡ at + i + 1 = omega arith in
           w.so_far ∙ found_first n g (drop at t) i (rw (take_rest t at) at is-i) ∙ rw (drop-drop (i + 1) at t, f)
@@ -127,8 +127,8 @@ retired_fault_walk a p n g [] = refl
 retired_fault_walk a p n g (l ∷ ls) = by (is_retired l) (retired_fault_walk a p (n + 1) (g || line_grants a p l) ls)
   where
     by : (b : Bool) → retired_fault (n + 1) ls ≡ fault_of (walk a p (n + 1) (g || line_grants a p l) ls)
-        → (if b then some (refusal F.RetiredForm 3 n) else retired_fault (n + 1) ls)
-        ≡ fault_of (if b then Retired n else walk a p (n + 1) (g || line_grants a p l) ls)
+        → (when b then some (refusal F.RetiredForm 3 n) else retired_fault (n + 1) ls)
+        ≡ fault_of (when b then Retired n else walk a p (n + 1) (g || line_grants a p l) ls)
     by true ih = refl
     by false ih = ih
 
@@ -137,7 +137,7 @@ unfolding walk any
 any_walk a p n g h [] e = let q : h ≡ g = cc in q ∙ sym (or-false g)
 any_walk a p n g h (l ∷ ls) e = by (is_retired l) e (λ k. any_walk a p (n + 1) (g || line_grants a p l) h ls k)
   where
-    by : (b : Bool) → (if b then Retired n else walk a p (n + 1) (g || line_grants a p l) ls) ≡ Sound h
+    by : (b : Bool) → (when b then Retired n else walk a p (n + 1) (g || line_grants a p l) ls) ≡ Sound h
         → (walk a p (n + 1) (g || line_grants a p l) ls ≡ Sound h → h ≡ ((g || line_grants a p l) || any (line_grants a p) ls))
         → h ≡ (g || (line_grants a p l || any (line_grants a p) ls))
     by true k ih = let z : ◌≡◌ {A = ℕ} 0 1 = cc in absurd (omega arith)
@@ -214,8 +214,8 @@ unfolding decision_by byuid_decision searched_for
 decided t m p addr uid = by (is_ruled p uid) (in_span m p)
   where
     by : (z y : Bool)
-        → (if not z then NotRuled else if any (line_grants (if z && y then addr else A.Unknown) p) (split "\n" t) then Granted else NoLine)
-        ≡ (if not z then NotRuled else if y && any (line_grants addr p) (split "\n" t) then Granted else NoLine)
+        → (when not z then NotRuled else when any (line_grants (when z && y then addr else A.Unknown) p) (split "\n" t) then Granted else NoLine)
+        ≡ (when not z then NotRuled else when y && any (line_grants addr p) (split "\n" t) then Granted else NoLine)
     by false y = refl
     by true true = refl
     by true false = rw (grants_unknown p (split "\n" t))

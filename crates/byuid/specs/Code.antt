@@ -18,7 +18,7 @@
 -- Assumes nothing: these are definitions.
 use Rattle.std.specs.Prelude.{ℕ, ◌+◌, ◌-◌, ◌*◌, ◌%◌, ◌^◌, Bool, false, not, ◌&&◌, ◌||◌, List, [], ◌∷◌, eqb, leb, ltb, length, take}
 use Rattle.std.proofs.Math.Option.{Option, none, some}
-use Rattle.text.specs.Basics.{if◌then◌else◌, ◌>>=◌, given}
+use Rattle.text.specs.Basics.{when◌then◌else◌, ◌>>=◌, given}
 use Rattle.text.specs.Text.{bytes, split_once, in_range, is_digit}
 use Rattle.text.specs.Number.{read_decimal}
 use Rattle.text.specs.Scan.{span_len, index_of}
@@ -124,17 +124,17 @@ form_of f t = do
 
 -- without a colon a line holds no request at an IPv6 address, and is not of the retired form either
 unfoldable pub held_v6 : ℕ → ℕ → List ℕ → Membership
-held_v6 n p l = if ltb (index_of 58 l) (length l) then membership (inside_both n p) (read_comma_form 128 read_v6 l) else H.Is false
+held_v6 n p l = when ltb (index_of 58 l) (length l) then membership (inside_both n p) (read_comma_form 128 read_v6 l) else H.Is false
 
 unfoldable pub held_of : Addr → ℕ → List ℕ → Membership
 held_of a p l = addr_case a H.Nothing (λ n. membership (inside_both n p) (read_comma_form 32 read_v4 l)) (λ n. held_v6 n p l)
 
 unfoldable pub look_of : Addr → ℕ → List ℕ → Looked
-look_of a p l = if is_retired l then L.Retired else L.Grants (line_grants a p l)
+look_of a p l = when is_retired l then L.Retired else L.Grants (line_grants a p l)
 
 unfoldable pub walk : Addr → ℕ → ℕ → Bool → List (List ℕ) → Walked
 walk a p n g [] = Sound g
-walk a p n g (l ∷ ls) = if is_retired l then Retired n else walk a p (n + 1) (g || line_grants a p l) ls
+walk a p n g (l ∷ ls) = when is_retired l then Retired n else walk a p (n + 1) (g || line_grants a p l) ls
 
 abbrev pub checked_of : Option Refusal → Checked
 checked_of none = C.Sound
@@ -143,10 +143,10 @@ checked_of (some r) = C.Refused r
 -- ## The decision
 
 unfoldable pub searched_for : Mark → ℕ → Addr → ℕ → Addr
-searched_for m p a uid = if is_ruled p uid && in_span m p then a else A.Unknown
+searched_for m p a uid = when is_ruled p uid && in_span m p then a else A.Unknown
 
 unfoldable pub decision_by : ℕ → ℕ → Bool → Decision
-decision_by p uid granted = if not (is_ruled p uid) then NotRuled else if granted then Granted else NoLine
+decision_by p uid granted = when not (is_ruled p uid) then NotRuled else when granted then Granted else NoLine
 
 abbrev pub answer_by : ℕ → Addr → ℕ → Bool → Ruling
 answer_by p a uid granted =

@@ -6,7 +6,7 @@
 -- Assumes nothing: these are definitions.
 use Rattle.std.specs.Prelude.{ℕ, Bool, false, not, ◌&&◌, List, ◌++◌, map}
 use Rattle.std.proofs.Math.Option.{Option, none, some, get_or}
-use Rattle.text.specs.Basics.{if◌then◌else◌, ◌>>=◌, ◌or_else◌, any}
+use Rattle.text.specs.Basics.{when◌then◌else◌, ◌>>=◌, ◌or_else◌, any}
 use Rattle.text.specs.Text.{bytes, split_once, split, intercalate}
 use Rattle.section.specs.Refusal.{Outcome, answered, ◌>>=◌ as ◌>>=ᴼ◌, refusing, ◌before◌, fitting, within_room}
 use Rattle.section.specs.Section as S
@@ -27,7 +27,7 @@ exchanged l = do
 
 -- "rewrites just those lines .., and leaves every other byte"
 unfoldable pub convert_line : List ℕ → List ℕ
-convert_line l = if is_retired l then get_or (exchanged l) l else l
+convert_line l = when is_retired l then get_or (exchanged l) l else l
 
 unfoldable pub convert_text : List ℕ → List ℕ
 convert_text t = intercalate (bytes "\n") (map convert_line (split "\n" t))
@@ -45,8 +45,8 @@ line_granted a p l = addr_case a false (within p (read_comma_form 32 read_v4 l o
 -- document 01, with request 3: as byuid_decision and decide_byuid, by these lines, of which none is refused
 abbrev pub decision_before : List ℕ → Mark → ℕ → Addr → ℕ → Decision
 decision_before t m p a uid =
-    if not (is_ruled p uid) then NotRuled
-    else if in_span m p && any (line_granted a p) (split "\n" t) then Granted else NoLine
+    when not (is_ruled p uid) then NotRuled
+    else when in_span m p && any (line_granted a p) (split "\n" t) then Granted else NoLine
 
 unfoldable pub decided_before : List ℕ → Option FileBind → Outcome Decision
 decided_before t o =

@@ -9,7 +9,7 @@ use native.Mathlib.Omega.{arith}
 use borrow.Author.Tests.{lt-ltb, le-ltb, eq-eqb, ne_eqb}
 use lib.Dec.{ltb, eqb}
 use lib.ListN.{length, get_or, replicate, length-replicate, get_or-replicate}
-use Rattle.text.specs.Basics.{if◌then◌else◌, holds, any}
+use Rattle.text.specs.Basics.{when◌then◌else◌, holds, any}
 use Rattle.text.specs.Scan.{after}
 use Rattle.section.specs.declared.Fault.TheVariants as F
 use Rattle.section.specs.declared.Refusal.{Refusal}
@@ -65,9 +65,9 @@ span_same : (f g : ℕ → Bool) (k p : ℕ) → ((q : ℕ) → q < p + k → f 
 unfolding span_lines
 span_same f g zero p h = refl
 span_same f g (suc k) p h =
-    ap₂ (λ (s t : List ℕ). s ++ t) (ap (λ (b : Bool). if b then port_lines p else []) (h p (omega arith))) (span_same f g k (suc p) (λ q l. h q (omega arith)))
+    ap₂ (λ (s t : List ℕ). s ++ t) (ap (λ (b : Bool). when b then port_lines p else []) (h p (omega arith))) (span_same f g k (suc p) (λ q l. h q (omega arith)))
 
-one_noted : (b : Bool) → eqb (if b then 1 else 0) 1 ≡ b
+one_noted : (b : Bool) → eqb (when b then 1 else 0) 1 ≡ b
 one_noted true = refl
 one_noted false = refl
 
@@ -78,7 +78,7 @@ module _ (t : List ℕ) (uid : ℕ) (sound : portacl_fault t ≡ none) where
       let long : length zeros ≡ 1024 = length-replicate {A = ℕ} 1024 0 in
       let zero_there : get_or zeros q 0 ≡ 0 = get_or-replicate {A = ℕ} 1024 q 0 0 h in
       ap (λ (n : ℕ). eqb n 1)
-      (notes_here uid p t zeros q (rw long h) sound ∙ ap (λ (n : ℕ). if has_entry t uid p q then 1 else n) zero_there)
+      (notes_here uid p t zeros q (rw long h) sound ∙ ap (λ (n : ℕ). when has_entry t uid p q then 1 else n) zero_there)
       ∙ one_noted (has_entry t uid p q)
 
   both_noted : (q : ℕ) → q < 1024 → in_both (notes uid Tcp (entries_data t) (replicate 1024 0)) (notes uid Udp (entries_data t) (replicate 1024 0)) q

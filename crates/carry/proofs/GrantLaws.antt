@@ -12,7 +12,7 @@ use borrow.Author.Tests.{le-leb, lt-leb, leb-true, leb-false, eq-eqb, ne_eqb, eq
 use lib.Arith.{digits_lt}
 use lib.Dec.{leb, eqb}
 use lib.ListN.{length}
-use Rattle.text.specs.Basics.{if◌then◌else◌, ◌>>=◌, ◌or_else◌, given, holds, any, all, each, is_some}
+use Rattle.text.specs.Basics.{when◌then◌else◌, ◌>>=◌, ◌or_else◌, given, holds, any, all, each, is_some}
 use Rattle.text.specs.Text.{bytes, equal, lower, split, split_once, in_range, is_digit}
 use Rattle.text.specs.Number.{from_digits, to_digits, numeral, decimal, read_decimal}
 use Rattle.text.proofs.BasicLaws.{all_append, and_true}
@@ -187,7 +187,7 @@ span_any f zero q p a s h = rw (empty_line a p)
 span_any f (suc k) q p a s h = by (f q) (span_any f k (suc q) p a s (omega arith))
   where
     by : (b : Bool) → any (line_grants a p) (split "\n" (span_lines f k (suc q))) ≡ span_has f k (suc q) p
-        → any (line_grants a p) (split "\n" ((if b then port_lines q else []) ++ span_lines f k (suc q))) ≡ ((b && eqb q p) || span_has f k (suc q) p)
+        → any (line_grants a p) (split "\n" ((when b then port_lines q else []) ++ span_lines f k (suc q))) ≡ ((b && eqb q p) || span_has f k (suc q) p)
     by true ih =
         ap (any (line_grants a p)) (split_lines q (span_lines f k (suc q)))
         ∙ sym (or_assoc (line_grants a p (line_v4 q)) (line_grants a p (line_v6 q)) (any (line_grants a p) (split "\n" (span_lines f k (suc q)))))
@@ -225,7 +225,7 @@ span_unretired f zero q n = refl
 span_unretired f (suc k) q n = by (f q) (span_unretired f k (suc q))
   where
     by : (b : Bool) → ((n : ℕ) → retired_fault n (split "\n" (span_lines f k (suc q))) ≡ none)
-        → retired_fault n (split "\n" ((if b then port_lines q else []) ++ span_lines f k (suc q))) ≡ none
+        → retired_fault n (split "\n" ((when b then port_lines q else []) ++ span_lines f k (suc q))) ≡ none
     by true ih = ap (retired_fault n) (split_lines q (span_lines f k (suc q))) ∙ passed
       where
         passed : retired_fault n (line_v4 q ∷ line_v6 q ∷ split "\n" (span_lines f k (suc q))) ≡ none

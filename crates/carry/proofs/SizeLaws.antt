@@ -7,7 +7,7 @@ use mathlib.Core.List.{List, []}
 use mathlib.Core.Path.{◌≡◌}
 use native.Mathlib.Omega.{arith}
 use lib.ListN.{length, length-append}
-use Rattle.text.specs.Basics.{if◌then◌else◌}
+use Rattle.text.specs.Basics.{when◌then◌else◌}
 use Rattle.text.specs.Number.{decimal}
 use Rattle.portacl.specs.declared.Protocol.TheVariants.{Tcp, Udp}
 use Rattle.portacl.proofs.SizeLaws.{weight, sum_if, sum_split, granted_bytes}
@@ -21,10 +21,10 @@ unfolding span_lines sum_if weight
 span_sum a b zero p = omega arith
 span_sum a b (suc k) p =
     let ih = span_sum a b k (suc p) in
-    let l = length-append (if a p && b p then port_lines p else []) (span_lines (λ q. a q && b q) k (suc p)) in
+    let l = length-append (when a p && b p then port_lines p else []) (span_lines (λ q. a q && b q) k (suc p)) in
     omega (arith, by (a p) (b p))
   where
-    by : (x y : Bool) → length (if x && y then port_lines p else []) ≤ (if x then 9 + length (decimal p) else 0) + (if y then 9 + length (decimal p) else 0)
+    by : (x y : Bool) → length (when x && y then port_lines p else []) ≤ (when x then 9 + length (decimal p) else 0) + (when y then 9 + length (decimal p) else 0)
     by true true = let l = length_port_lines p in omega arith
     by true false = omega arith
     by false y = omega arith

@@ -8,7 +8,7 @@ use native.Mathlib.Numerals.{add-one}
 use native.Mathlib.Omega.{arith}
 use lib.Dec.{eqb}
 use lib.ListN.{length, get_or, length-append, get_or-eq_default}
-use Rattle.text.specs.Basics.{if◌then◌else◌}
+use Rattle.text.specs.Basics.{when◌then◌else◌}
 use Rattle.text.specs.Text.{bytes}
 use Rattle.text.specs.Number.{decimal}
 use Rattle.text.specs.Scan.{put_at, after}
@@ -140,11 +140,11 @@ append_nil (x ∷ s) = ap (λ (t : List ℕ). x ∷ t) (append_nil s)
 -- one port more
 pub span_more : (f : ℕ → Bool) (k p : ℕ) → span_lines f (suc k) p ≡ span_lines f k p ++ lines_if f (p + k)
 unfolding span_lines lines_if
-span_more f zero p = append_nil (if f p then port_lines p else []) ∙ ap (λ (q : ℕ). if f q then port_lines q else []) (omega arith)
+span_more f zero p = append_nil (when f p then port_lines p else []) ∙ ap (λ (q : ℕ). when f q then port_lines q else []) (omega arith)
 span_more f (suc k) p =
-    ap (λ (t : List ℕ). (if f p then port_lines p else []) ++ t) (span_more f k (suc p))
-    ∙ sym (append_assoc (if f p then port_lines p else []) (span_lines f k (suc p)) (lines_if f (suc p + k)))
-    ∙ ap (λ (q : ℕ). ((if f p then port_lines p else []) ++ span_lines f k (suc p)) ++ lines_if f q) (omega arith)
+    ap (λ (t : List ℕ). (when f p then port_lines p else []) ++ t) (span_more f k (suc p))
+    ∙ sym (append_assoc (when f p then port_lines p else []) (span_lines f k (suc p)) (lines_if f (suc p + k)))
+    ∙ ap (λ (q : ℕ). ((when f p then port_lines p else []) ++ span_lines f k (suc p)) ++ lines_if f q) (omega arith)
 
 length_more : (f : ℕ → Bool) (k p : ℕ) → length (span_lines f (suc k) p) ≡ length (span_lines f k p) + length (lines_if f (p + k))
 length_more f k p = ap length (span_more f k p) ∙ length-append (span_lines f k p) (lines_if f (p + k))
@@ -158,8 +158,8 @@ span_grows f (suc k) (suc m) p h =
     let q = span_grows f k m (suc p) (omega arith) in
     omega (
       arith,
-      length-append (if f p then port_lines p else []) (span_lines f k (suc p)),
-      length-append (if f p then port_lines p else []) (span_lines f m (suc p)),
+      length-append (when f p then port_lines p else []) (span_lines f k (suc p)),
+      length-append (when f p then port_lines p else []) (span_lines f m (suc p)),
     )
 
 -- k ports of count are measured: n bytes

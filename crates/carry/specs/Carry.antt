@@ -4,7 +4,7 @@
 --   carry t uid room other == the call: the plain text into room bytes, the marked one into other
 -- Assumes nothing: these are definitions.
 use Rattle.std.specs.Prelude.{ℕ, zero, suc, Bool, ◌&&◌, List, [], ◌++◌, eqb}
-use Rattle.text.specs.Basics.{if◌then◌else◌, ◌or_else◌, given, holds, any}
+use Rattle.text.specs.Basics.{when◌then◌else◌, ◌or_else◌, given, holds, any}
 use Rattle.text.specs.Text.{bytes}
 use Rattle.text.specs.Number.{decimal}
 use Rattle.section.specs.declared.Fault.TheVariants as F
@@ -30,7 +30,7 @@ port_lines p = bytes "0.0.0.0/0," ++ decimal p ++ bytes "\n" ++ bytes "::/0," ++
 -- of k ports from p on those of which f holds: "ascending, each port once"
 unfoldable pub span_lines : (ℕ → Bool) → ℕ → ℕ → List ℕ
 span_lines f zero p = []
-span_lines f (suc k) p = (if f p then port_lines p else []) ++ span_lines f k (suc p)
+span_lines f (suc k) p = (when f p then port_lines p else []) ++ span_lines f k (suc p)
 
 -- "Ports 1 to 511 go to the plain text and 512 to 1023 to the marked one"
 abbrev pub plain_text : (ℕ → Bool) → List ℕ

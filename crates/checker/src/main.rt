@@ -2,54 +2,56 @@
 // too long. A file that can't be read gets a message on standard error instead.
 #![tactic(auto)]
 
-use libc::STDERR_FILENO;
+use std::io;
+use std::io::Print;
+use std::rt::{Env, Files};
 
-fn check(sheet: &[u8]) {
+// What is read of a file at most: a sheet has at most 57,360 bytes. A longer file is read on, to 1 MiB, as the number that its tables are
+// refused by depends on them all.
+const MOST: usize = 1048577;
+
+fn check(rt: &impl Print, sheet: &[u8]) -> io::Result<()> {
     let c = gate::gate_check(sheet);
-    if report::refused(c.number, c.section, c.line) {
-        return;
+    if report::refused(rt, c.number, c.section, c.line)? {
+        return Ok(());
     }
-    report::word(report::SHEET_OK);
-    report::end_line();
+    report::word(rt, report::SHEET_OK)?;
+    report::end_line(rt)
 }
 
-// Whether reading stopped at the end of the file, and not at an error.
-fn at_end(fd: i32) -> bool {
-    let mut next = [0u8; 1];
-    libc::read(fd, &mut next) == 0
+fn check_front(rt: &impl Print, front: &[u8]) -> io::Result<()> {
+    if front.len() == MOST {
+        return report::text(
+            rt,
+            b"too long: over 1048576 bytes, and the longest sheet has 57360\n",
+        );
+    }
+    check(rt, front)
 }
 
-// A sheet has at most 57,360 bytes. A longer file is read on, to 1 MiB, as the number that its tables are refused by depends on them all.
-fn check_in(room: &mut [u8], fd: i32, name: &[u8]) {
-    let n = io::read_full(fd, room);
-    if n == room.len() {
-        report::text(b"too long: over 1048576 bytes, and the longest sheet has 57360\n");
-        return;
+fn check_file<R: Files + Print + AllocGlobal>(
+    rt: &R,
+    errors: &impl Print,
+    name: &[u8],
+) -> io::Result<()> {
+    match report::file::read_front(rt, name, MOST as u64) {
+        Ok(front) => check_front(rt, &front),
+        Err(e) => report::file::tell_failure(errors, rt.alloc(), name, e),
     }
-    if !at_end(fd) {
-        os::fail(name);
-        return;
-    }
-    check(&room[..n]);
 }
 
-fn check_file(fd: i32, name: &[u8]) {
-    let mut room = [0u8; 1048577];
-    check_in(&mut room, fd, name);
+fn run<R: Env + Files + Print + AllocGlobal>(rt: &R, errors: &impl Print) -> io::Result<()> {
+    let mut name = [0u8; 4096];
+    match rt.arg(1, &mut name) {
+        Ok(length) => check_file(rt, errors, &name[..length]),
+        Err(_) => errors.print("usage: checker FILE\n"),
+    }
 }
 
-fn main() {
-    let mut name = io::buffer();
-    let length = os::arg(1, &mut name);
-    if os::errno() != 0 {
-        io::write_all(STDERR_FILENO, b"usage: checker FILE\n");
-        return;
+// What can't be read is told in `run`: an error that comes back is of a write.
+fn main(rt: HostRuntime) {
+    let errors = rt.stderr();
+    if let Err(e) = run(&rt, &errors) {
+        let _ = report::file::tell_failure(&errors, rt.alloc(), b"standard output", e);
     }
-    let fd = os::open_read(&name[..length]);
-    if fd < 0 {
-        os::fail(&name[..length]);
-        return;
-    }
-    check_file(fd, &name[..length]);
-    libc::close(fd);
 }

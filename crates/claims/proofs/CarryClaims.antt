@@ -11,7 +11,7 @@ use lib.Dec.{ltb, eqb}
 use lib.ListN.{length, take, drop}
 use lib.Seq.{take_at}
 use mathlib.Core.Bool.{true≢false}
-use Rattle.text.specs.Basics.{if◌then◌else◌, ◌or_else◌, given, holds, any}
+use Rattle.text.specs.Basics.{when◌then◌else◌, ◌or_else◌, given, holds, any}
 use Rattle.text.specs.Text.{split}
 use Rattle.section.specs.declared.Fault.TheVariants as F
 use Rattle.section.specs.declared.Refusal.{Refusal}
@@ -69,14 +69,14 @@ carry_answered list uid room other p e =
 -- ## By portacl
 
 module _ (list : List ℕ) (uid port : ℕ) (short : length list ≤ 4096) (sound : portacl_fault list ≡ none) (low : port ≤ 1023) where
-  listed : (p : Protocol) → decide_portacl list strict (some (Portacl.bind uid [] p port)) ≡ answered (if has_entry list uid p port then P.Granted else P.Denied)
+  listed : (p : Protocol) → decide_portacl list strict (some (Portacl.bind uid [] p port)) ≡ answered (when has_entry list uid p port then P.Granted else P.Denied)
   unfolding decide_portacl portacl_decision
   listed p = rw (le-ltb 4096 (length list) short, sound, le-ltb 1023 port low)
 
   small : is_port port ≡ true
   small = lt-ltb port (2 ^ 16) (omega arith)
 
-  word_is : (b : Bool) → eqb (portacl_answer (answered (if b then P.Granted else P.Denied))).word 1 ≡ b
+  word_is : (b : Bool) → eqb (portacl_answer (answered (when b then P.Granted else P.Denied))).word 1 ≡ b
   unfolding portacl_answer
   word_is true = refl
   word_is false = refl
@@ -99,17 +99,17 @@ module _ (t : List ℕ) (m : Mark) (port uid : ℕ) (short : length t ≤ 8192) 
     (span : in_span m port ≡ true)
     (b : Bool) where
   line_decided : (a : Addr) → address_known (file_bind m (bind port a uid)) ≡ true → any (line_grants a port) (split "\n" t) ≡ b
-      → decide_byuid t (some (file_bind m (bind port a uid))) ≡ answered (if b then Granted else NoLine)
+      → decide_byuid t (some (file_bind m (bind port a uid))) ≡ answered (when b then Granted else NoLine)
   unfolding decide_byuid byuid_decision
   line_decided a k e = rw (le-ltb 8192 (length t) short, kept, k, ruled, span, e)
 
   address_decided : {kind high low : ℕ} → Address kind high low → is_port port ≡ true → ((a : Addr) → Somewhere a → any (line_grants a port) (split "\n" t) ≡ b)
-      → decide_byuid t (from_file m (byuid_bind port kind high low uid)) ≡ answered (if b then Granted else NoLine)
+      → decide_byuid t (from_file m (byuid_bind port kind high low uid)) ≡ answered (when b then Granted else NoLine)
   unfolding byuid_bind address_of
   address_decided (v4 high low h) small e = rw (lt-ltb low (2 ^ 32) h, small) (line_decided (A.V4 low) refl (e (A.V4 low) (at_v4 low h)))
   address_decided (v6 high low h k) small e = rw small (line_decided (A.V6 high low) refl (e (A.V6 high low) (at_v6 high low h k)))
 
-word_of : (b : Bool) → byuid_answer (answered (if b then Granted else NoLine)) ≡ word_answer (granted_if b)
+word_of : (b : Bool) → byuid_answer (answered (when b then Granted else NoLine)) ≡ word_answer (granted_if b)
 unfolding byuid_answer
 word_of true = refl
 word_of false = refl

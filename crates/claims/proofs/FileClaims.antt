@@ -9,7 +9,7 @@ use mathlib.Core.Path.{◌≡◌, refl, ap, ◌∙◌}
 use borrow.Author.Tests.{lt-ltb, le-ltb, le-leb, lt-leb, leb-true, ne_eqb}
 use lib.Dec.{leb}
 use lib.ListN.{length}
-use Rattle.text.specs.Basics.{if◌then◌else◌, ◌>>=◌, ◌or_else◌, given, any}
+use Rattle.text.specs.Basics.{when◌then◌else◌, ◌>>=◌, ◌or_else◌, given, any}
 use Rattle.text.specs.Text.{split}
 use Rattle.text.proofs.BasicLaws.{and_true}
 use Rattle.section.specs.declared.Fault.TheVariants as F
@@ -48,7 +48,7 @@ is_granted (answered NoLine) = 0
 is_granted (answered NotRuled) = 0
 
 -- of the tests of a decision: is it ruled, in the span of the file, granted by a line
-span_granted : (z y x : Bool) → is_granted (answered (if not z then NotRuled else if y && x then Granted else NoLine)) ≡ 1 → y ≡ true
+span_granted : (z y x : Bool) → is_granted (answered (when not z then NotRuled else when y && x then Granted else NoLine)) ≡ 1 → y ≡ true
 span_granted false y x e = absurd (omega arith)
 span_granted true false x e = absurd (omega arith)
 span_granted true true x e = refl

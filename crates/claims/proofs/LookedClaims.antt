@@ -7,7 +7,7 @@ use mathlib.Core.Option.{Option, none, some}
 use mathlib.Core.Path.{◌≡◌, refl}
 use native.Mathlib.Omega.{arith}
 use lib.ListN.{length}
-use Rattle.text.specs.Basics.{if◌then◌else◌}
+use Rattle.text.specs.Basics.{when◌then◌else◌}
 use Rattle.section.specs.declared.Fault.TheVariants as F
 use Rattle.section.specs.Refusal.{Outcome, refused, answered, placeless}
 use Rattle.section.specs.Section.{bytes_at}
@@ -44,7 +44,7 @@ over_le ts allow deny (some r) a d =
   where
     by : (b : Bool) → looked ts allow deny (held r) ≤ file_elements allow + file_elements deny
         → capped (looked ts allow deny (held r)) ≤ looked ts allow deny (held r)
-        → number_of (if b then answered (capped (looked ts allow deny (held r))) else refused (placeless F.BadRequest)) ≤ file_elements allow + file_elements deny
+        → number_of (when b then answered (capped (looked ts allow deny (held r))) else refused (placeless F.BadRequest)) ≤ file_elements allow + file_elements deny
     by true h g = omega arith
     by false h g = omega arith
 

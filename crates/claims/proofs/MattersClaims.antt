@@ -9,7 +9,7 @@ use mathlib.Core.Path.{◌≡◌, refl, sym, ap, ap₂, fun_ext, ◌∙◌}
 use borrow.Author.Tests.{le-leb, leb-true}
 use lib.Dec.{eqb, leb}
 use lib.ListN.{length}
-use Rattle.text.specs.Basics.{if◌then◌else◌, ◌or_else◌, given, first}
+use Rattle.text.specs.Basics.{when◌then◌else◌, ◌or_else◌, given, first}
 use Rattle.text.specs.Basics.{◌>>=◌ as ◌then◌}
 use Rattle.text.specs.Text.{in_range}
 use Rattle.text.proofs.BasicLaws.{and_true}
@@ -203,7 +203,7 @@ module _ (m : Matcher) (r : Request) (u : User) (t : List ℕ) where
 
   line_own : (l : Line) → line_told m (with_user r u t) l ≡ line_told m r l
   unfolding line_told
-  line_own l = ap (λ (k : Told). if is_comment l || is_blank l then Told.Passes else k) (parsed_own (parse_rule l.raw))
+  line_own l = ap (λ (k : Told). when is_comment l || is_blank l then Told.Passes else k) (parsed_own (parse_rule l.raw))
 
   text_own : (v : Verdict) (f : File) (s : List ℕ) → text_told v f m (with_user r u t) s ≡ text_told v f m r s
   unfolding text_told
@@ -248,7 +248,7 @@ module _ (call : Option Request → Outcome Answer) (tell : Option Request → O
   answers_fit q a e = by q is.checks refl (sym (is.call_is q) ∙ e)
     where
       last : (r : Request) (b : Bool) → well_formed r ≡ b → is.checks ≡ none
-          → (if b then answered (by_search r) else refused (placeless F.BadRequest)) ≡ answered a → Fits (some r)
+          → (when b then answered (by_search r) else refused (placeless F.BadRequest)) ≡ answered a → Fits (some r)
       last r true w k h = record { asked = r; is_asked = refl; unrefused = k; fits = w }
       last r false w k h = absurd (refused_answered (placeless F.BadRequest) a h)
 
@@ -262,7 +262,7 @@ module _ (call : Option Request → Outcome Answer) (tell : Option Request → O
     fit_gets r w = is.call_is (some r) ∙ by is.checks none-refuses (well_formed r) w
       where
         by : (o : Option Refusal) → o ≡ none → (b : Bool) → b ≡ true
-            → (o before (if b then answered (by_search r) else refused (placeless F.BadRequest))) ≡ answered (by_search r)
+            → (o before (when b then answered (by_search r) else refused (placeless F.BadRequest))) ≡ answered (by_search r)
         by (some f) k b h = absurd (none_some f (sym k))
         by none k true h = refl
         by none k false h = absurd (true≢false (sym h))
@@ -272,7 +272,7 @@ module _ (call : Option Request → Outcome Answer) (tell : Option Request → O
         is.tell_is (some r) ∙ ap (λ (o : Outcome Answer). o >>= λ a. matters_over is.over is.allow is.deny (some r)) (fit_gets r w)
         ∙ by (well_formed r) w
       where
-        by : (b : Bool) → b ≡ true → (if b then answered (settles r) else refused (placeless F.BadRequest)) ≡ answered (settles r)
+        by : (b : Bool) → b ≡ true → (when b then answered (settles r) else refused (placeless F.BadRequest)) ≡ answered (settles r)
         by true h = refl
         by false h = absurd (true≢false (sym h))
 
@@ -531,8 +531,8 @@ module _ (sheet : List ℕ) where
       found r = search (match_of (tables_of (bytes_at sheet p.tables))) (bytes_at sheet p.allow) (bytes_at sheet p.deny) (held r)
 
       fitted : (r : Request) (b : Bool)
-          → ((if b then answered (found r) else refused (placeless F.BadRequest)) >>= λ a. answered (in_sheet p a))
-          ≡ (if b then answered (in_sheet p (found r)) else refused (placeless F.BadRequest))
+          → ((when b then answered (found r) else refused (placeless F.BadRequest)) >>= λ a. answered (in_sheet p a))
+          ≡ (when b then answered (in_sheet p (found r)) else refused (placeless F.BadRequest))
       fitted r true = refl
       fitted r false = refl
 

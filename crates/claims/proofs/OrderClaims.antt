@@ -10,7 +10,7 @@ use lib.Dec.{leb}
 use lib.ListN.{length, take, drop, get_or, replicate, length-append}
 use lib.Seq.{take_at, drop_at, drop-cons, drop-length}
 use Rattle.text.specs.Basics as Basics
-use Rattle.text.specs.Basics.{if◌then◌else◌, all}
+use Rattle.text.specs.Basics.{when◌then◌else◌, all}
 use Rattle.text.specs.Text as Text
 use Rattle.text.specs.Text.{bytes, equal, in_range}
 use Rattle.text.specs.Number as Number
@@ -172,7 +172,7 @@ front x y z e =
 
 -- two leaves in one folder
 leaves : (p : ℕ) (x y : List ℕ) → file_name "byaddr/" p x ≡ file_name "byaddr/" p y → x ≡ y
-leaves p x y e = behind (bytes "/etc/authbind/" ++ bytes "byaddr/" ++ (if in_range 512 1023 p then bytes "!" else [])) x y e
+leaves p x y e = behind (bytes "/etc/authbind/" ++ bytes "byaddr/" ++ (when in_range 512 1023 p then bytes "!" else [])) x y e
 
 comma_colon : (p n : ℕ) (t : List ℕ) → file_name "byaddr/" p (t ++ bytes "," ++ decimal n) ≡ file_name "byaddr/" p (t ++ bytes ":" ++ decimal n) → ⊥
 comma_colon p n t e =

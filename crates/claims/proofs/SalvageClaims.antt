@@ -10,7 +10,7 @@ use native.Mathlib.Omega.{arith}
 use lib.ListN.{length, take, drop}
 use lib.Dec.{ltb}
 use lib.Seq.{take_at}
-use Rattle.text.specs.Basics.{if◌then◌else◌}
+use Rattle.text.specs.Basics.{when◌then◌else◌}
 use Rattle.section.specs.declared.Fault.TheVariants as F
 use Rattle.section.specs.Refusal.{Outcome, refused, answered, ◌>>=◌, placeless, first_after, second_after}
 use Rattle.tables.specs.Table.{tables_of, match_of}
@@ -147,8 +147,8 @@ module _ (ts : Texts) where
       good : Answer
       good = search (match_of (tables_of ts.tables)) (good_text ts.tables ts.allow) (good_text ts.tables ts.deny) (held r)
 
-      by : (b : Bool) → (verdict_answer ((if b then answered new else refused (placeless F.BadRequest)) >>= λ a. answered (in_sheet p a)) j).word ≡ granted.number
-          → (verdict_answer (if b then answered good else refused (placeless F.BadRequest)) k).word ≡ granted.number
+      by : (b : Bool) → (verdict_answer ((when b then answered new else refused (placeless F.BadRequest)) >>= λ a. answered (in_sheet p a)) j).word ≡ granted.number
+          → (verdict_answer (when b then answered good else refused (placeless F.BadRequest)) k).word ≡ granted.number
       by true h = grants_word good.verdict (good_grants ts (match_of (tables_of ts.tables)) (held r) (word_grants new.verdict h))
       by false h = absurd (omega arith)
 

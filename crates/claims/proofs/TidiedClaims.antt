@@ -9,7 +9,7 @@ use native.Mathlib.Omega.{arith}
 use borrow.Author.Tests.{eq-eqb, eqb-true}
 use lib.Dec.{eqb}
 use lib.ListN.{length}
-use Rattle.text.specs.Basics.{if◌then◌else◌, ◌or_else◌, any}
+use Rattle.text.specs.Basics.{when◌then◌else◌, ◌or_else◌, any}
 use Rattle.text.specs.Number.{from_digits}
 use Rattle.text.specs.Words.{word_bytes, read_words}
 use Rattle.section.specs.declared.Fault.TheVariants as F
@@ -97,7 +97,7 @@ ascend_rises n m (k ∷ ns) r = (r.0, ascend_rises (suc k) m ns r.1.1)
 -- the numbers without the first that is n
 without : ℕ → List ℕ → List ℕ
 without n [] = []
-without n (m ∷ ms) = if eqb n m then ms else (m ∷ without n ms)
+without n (m ∷ ms) = when eqb n m then ms else (m ∷ without n ms)
 
 length_without : (n : ℕ) (ms : List ℕ) → any (eqb n) ms ≡ true → suc (length (without n ms)) ≡ length ms
 unfolding any without
@@ -105,7 +105,7 @@ length_without n [] e = absurd (true≢false (sym e))
 length_without n (m ∷ ms) e = by (eqb n m) e (length_without n ms)
   where
     by : (b : Bool) → (b || any (eqb n) ms) ≡ true → (any (eqb n) ms ≡ true → suc (length (without n ms)) ≡ length ms)
-        → suc (length (if b then ms else (m ∷ without n ms))) ≡ suc (length ms)
+        → suc (length (when b then ms else (m ∷ without n ms))) ≡ suc (length ms)
     by true k ih = refl
     by false k ih = ap suc (ih k)
 
@@ -115,7 +115,7 @@ others_without n k [] d e = e
 others_without n k (m ∷ ms) d e = by (eqb n m) refl (eqb k m) refl e (others_without n k ms d)
   where
     by : (b : Bool) → eqb n m ≡ b → (c : Bool) → eqb k m ≡ c → (c || any (eqb k) ms) ≡ true
-        → (any (eqb k) ms ≡ true → any (eqb k) (without n ms) ≡ true) → any (eqb k) (if b then ms else (m ∷ without n ms)) ≡ true
+        → (any (eqb k) ms ≡ true → any (eqb k) (without n ms) ≡ true) → any (eqb k) (when b then ms else (m ∷ without n ms)) ≡ true
     by true p true q z ih = absurd (true≢false (sym (eq-eqb k n (eqb-true k m q ∙ sym (eqb-true n m p))) ∙ d))
     by true p false q z ih = z
     by false p true q z ih = rw q
@@ -216,7 +216,7 @@ tidied_files = record {
 
 -- b is the answer to a request by new files, a that by the old ones: each with its command at a place c, found by s
 module _ (allow deny newAllow new_deny : List ℕ) (section : ℕ) (text ns : List ℕ) (moved : File → ℕ → ℕ)
-    (moved-is : (f : File) (k : ℕ) → moved f k ≡ (if eqb (file_section f) section then k else 0))
+    (moved-is : (f : File) (k : ℕ) → moved f k ≡ (when eqb (file_section f) section then k else 0))
     (c d : Answer → Part) (s u : GateAnswer → List ℕ) where
   abbrev Same : Answer → Answer → Type 0
   Same a b = Tidy.SameVerdict allow deny newAllow new_deny (moved a.file (removed_above ns a.line (lines text))) a b
@@ -252,12 +252,12 @@ module _ (allow deny newAllow new_deny : List ℕ) (section : ℕ) (text ns : Li
     line_moves = ap (λ (m : ℕ). b.line + m) (sym (moved-is a.file (removed_above ns a.line (lines text)))) ∙ e.line;
   }
 
-allow_moves : (f : File) (k : ℕ) → in_allow f k ≡ (if eqb (file_section f) 1 then k else 0)
+allow_moves : (f : File) (k : ℕ) → in_allow f k ≡ (when eqb (file_section f) 1 then k else 0)
 allow_moves Neither k = refl
 allow_moves Allow k = refl
 allow_moves Deny k = refl
 
-deny_moves : (f : File) (k : ℕ) → in_deny f k ≡ (if eqb (file_section f) 2 then k else 0)
+deny_moves : (f : File) (k : ℕ) → in_deny f k ≡ (when eqb (file_section f) 2 then k else 0)
 deny_moves Neither k = refl
 deny_moves Allow k = refl
 deny_moves Deny k = refl
@@ -265,7 +265,7 @@ deny_moves Deny k = refl
 -- ## By texts
 
 abbrev command_of : List ℕ → List ℕ → GateAnswer → List ℕ
-command_of allow deny a = bytes_at (if eqb a.file (S.deny).order then deny else allow) (part a.place a.len)
+command_of allow deny a = bytes_at (when eqb a.file (S.deny).order then deny else allow) (part a.place a.len)
 
 text_command : (o : Option Refusal) (ts : List Table) (allow deny : List ℕ) (q : Option Request) (k : ℕ) (a : Answer)
     → (o before decide_over ts allow deny q) ≡ answered a → command_of allow deny (answer_numbers a k) ≡ command_bytes allow deny a
@@ -302,7 +302,7 @@ abbrev said_by : List ℕ → List ℕ → ℕ → Outcome Answer → Said
 said_by allow deny k o = found_in_texts allow deny (verdict_answer o k)
 
 module _ (allow deny newAllow new_deny tables : List ℕ) (n : RequestNumbers) (section : ℕ) (text ns : List ℕ) (moved : File → ℕ → ℕ)
-    (moved-is : (f : File) (k : ℕ) → moved f k ≡ (if eqb (file_section f) section then k else 0)) where
+    (moved-is : (f : File) (k : ℕ) → moved f k ≡ (when eqb (file_section f) section then k else 0)) where
   by_texts_lem : eqb 0 section ≡ false
       → Alike (λ a b. Tidy.SameVerdict allow deny newAllow new_deny (moved a.file (removed_above ns a.line (lines text))) a b)
       (decide_tables allow deny tables (request n)) (decide_tables newAllow new_deny tables (request n))
@@ -387,7 +387,7 @@ module _ (ts : Texts) (room : List ℕ) (e : (gate_pack ts room).answer.number �
       ∙ ap (λ (t : Texts). command_bytes t.allow t.deny a) unpacked.1
 
 module _ (ts us : Texts) (room other : List ℕ) (e : (gate_pack ts room).answer.number ≡ 0) (f : (gate_pack us other).answer.number ≡ 0) (n : RequestNumbers)
-    (section : ℕ) (text ns : List ℕ) (moved : File → ℕ → ℕ) (moved-is : (f : File) (k : ℕ) → moved f k ≡ (if eqb (file_section f) section then k else 0)) where
+    (section : ℕ) (text ns : List ℕ) (moved : File → ℕ → ℕ) (moved-is : (f : File) (k : ℕ) → moved f k ≡ (when eqb (file_section f) section then k else 0)) where
   by_sheets : eqb 0 section ≡ false
       → Alike (λ a b. Tidy.SameVerdict ts.allow ts.deny us.allow us.deny (moved a.file (removed_above ns a.line (lines text))) a b)
       (decide_tables ts.allow ts.deny ts.tables (request n)) (decide_tables us.allow us.deny us.tables (request n))

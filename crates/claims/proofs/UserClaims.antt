@@ -9,7 +9,7 @@ use mathlib.Core.Path.{◌≡◌, refl, sym, ap, subst, ◌∙◌}
 use borrow.Author.Tests.{le-leb, eqb-true, eqb-false}
 use lib.Dec.{eqb}
 use lib.ListN.{length}
-use Rattle.text.specs.Basics.{if◌then◌else◌, ◌>>=◌, ◌or_else◌, given}
+use Rattle.text.specs.Basics.{when◌then◌else◌, ◌>>=◌, ◌or_else◌, given}
 use Rattle.text.specs.Text.{in_range}
 use Rattle.section.specs.Refusal.{◌>>=◌ as ◌and_then◌}
 use Rattle.section.specs.Refusal.{Outcome, refused, answered}
@@ -65,7 +65,7 @@ unfolding user_state well_formed
 user_alike P f daemon client server name u t p = by (eqb u 1) refl
   where
     by : (b : Bool) → eqb u 1 ≡ b
-        → P ((if eqb u 0 then some U.NotFetched else if eqb u 1 then some U.Unknown else given (eqb u 2) U.Known) >>= λ v. some
+        → P ((when eqb u 0 then some U.NotFetched else when eqb u 1 then some U.Unknown else given (eqb u 2) U.Known) >>= λ v. some
         (request_of daemon client server v (known_user v t)))
         (some (request_of daemon client server U.NotFetched []))
     by true e = rw (eqb-true u 1 e) (f (request_of daemon client server U.NotFetched []) U.Unknown [] refl)
@@ -261,7 +261,7 @@ module _ (n : RequestNumbers) (call : Option Request → Outcome Answer) (none-q
     where
       by : (c s : Option Endpoint) (b d : Bool)
           → QuietOutcome
-          (call (c >>= λ x. s >>= λ y. (if b then some U.Unknown else given d U.Known) >>= λ v. some
+          (call (c >>= λ x. s >>= λ y. (when b then some U.Unknown else given d U.Known) >>= λ v. some
           (request_of n.daemon x y v (known_user v n.user_name))))
       by none s b d = none-quiet
       by (some x) none b d = none-quiet

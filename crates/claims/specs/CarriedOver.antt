@@ -1,7 +1,7 @@
 -- Document 02, request 13: what the texts that gate_carry writes grant, by gate_byuid, beside what the list grants, by gate_portacl.
 -- Assumes nothing: these are statements.
 use Rattle.std.specs.Prelude.{ℕ, ◌+◌, ◌≤◌, ◌<◌, ◌^◌, Bool, ◌&&◌, List, [], ◌≡◌, length, take, eqb}
-use Rattle.text.specs.Basics.{if◌then◌else◌}
+use Rattle.text.specs.Basics.{when◌then◌else◌}
 use Rattle.portacl.specs.declared.Settings.{Settings}
 use Rattle.codes.specs.Requests.{settings_of}
 use Rattle.codes.specs.Answers.{granted, no_line, word_answer}
@@ -29,7 +29,7 @@ marked_written w = take w.answer.other_count w.other
 
 -- the answer to a port of a text's span: granted exactly if portacl grants both, else "no line"
 abbrev pub granted_if : Bool → ℕ
-granted_if b = if b then granted.number else no_line.number
+granted_if b = when b then granted.number else no_line.number
 
 -- "The new text grants a port in its span to every address exactly if portacl .. grants both protocols."
 pub record CarriedOver : Type 0 where

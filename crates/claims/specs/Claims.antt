@@ -3,7 +3,7 @@
 -- Assumes nothing: these are statements.
 use Rattle.std.specs.Prelude.{ℕ, ◌+◌, ◌*◌, ◌≤◌, ◌<◌, ◌^◌, true, false, List, [], ◌∷◌, ◌++◌, ◌≡◌, length, take, ltb, eqb}
 use Rattle.std.proofs.Math.Option.{none}
-use Rattle.text.specs.Basics.{if◌then◌else◌, any, all}
+use Rattle.text.specs.Basics.{when◌then◌else◌, any, all}
 use Rattle.section.specs.declared.Fault.TheVariants as F
 use Rattle.section.specs.declared.Refusal.{Refusal}
 use Rattle.section.specs.Section as S
@@ -174,7 +174,7 @@ pub record ReadWritten : Type 0 where
 
 -- where the text of a verdict's file stands in a sheet, and the answer with its command found there
 abbrev pub file_place : GateParts → ℕ → ℕ
-file_place p file = if eqb file (S.allow).order then p.allow_place else if eqb file (S.deny).order then p.deny_place else 0
+file_place p file = when eqb file (S.allow).order then p.allow_place else when eqb file (S.deny).order then p.deny_place else 0
 
 abbrev pub placed_in : GateParts → GateAnswer → GateAnswer
 placed_in p a = record {
@@ -199,7 +199,7 @@ pub record SheetAsTexts : Type 0 where
 
 -- the raw command in the text that decided
 abbrev pub deciding : List ℕ → List ℕ → GateAnswer → List ℕ
-deciding allow deny a = if eqb a.file (S.deny).order then deny else allow
+deciding allow deny a = when eqb a.file (S.deny).order then deny else allow
 
 abbrev pub command_in : List ℕ → GateAnswer → List ℕ
 command_in text a = bytes_at text (part a.place a.len)
@@ -210,7 +210,7 @@ unwritten w = record { number = w.number; section = w.section; line = w.line; wo
 
 abbrev pub in_turn : GateAnswer → Wrote → List ℕ → WroteCommand
 in_turn v w out =
-    if eqb v.number 0 then record { answer = if eqb w.answer.number 0 then with_count v w.answer.count else unwritten w.answer; out = w.out }
+    when eqb v.number 0 then record { answer = when eqb w.answer.number 0 then with_count v w.answer.count else unwritten w.answer; out = w.out }
     else record { answer = with_count v 0; out = out }
 
 -- one call decides and expands as two do

@@ -1,7 +1,7 @@
 -- Document 02, request 9: what gate_salvage makes of a damaged sheet, and what it lists.
 -- Assumes nothing: these are statements.
 use Rattle.std.specs.Prelude.{ℕ, ◌≤◌, true, ◌&&◌, List, [], map, ◌≡◌, length, take, ltb, eqb}
-use Rattle.text.specs.Basics.{if◌then◌else◌, any, all}
+use Rattle.text.specs.Basics.{when◌then◌else◌, any, all}
 use Rattle.text.specs.Text.{bytes}
 use Rattle.section.specs.Refusal.{answered}
 use Rattle.lines.specs.Line.{Line, lines}
@@ -32,7 +32,7 @@ abbrev pub raw_lines : List ℕ → List (List ℕ)
 raw_lines t = map (λ (l : Line). l.raw) (lines t)
 
 abbrev pub replaced : List ℕ → List ℕ → List ℕ → List (List ℕ)
-replaced five instead t = map (λ (l : Line). if bad_line (tables_of five) l then instead else l.raw) (lines t)
+replaced five instead t = map (λ (l : Line). when bad_line (tables_of five) l then instead else l.raw) (lines t)
 
 -- the texts ts of a damaged sheet, and what was made of them
 pub record Mended (ts : Texts) (new list : List ℕ) : Type 0 where

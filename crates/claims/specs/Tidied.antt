@@ -2,7 +2,7 @@
 -- Assumes nothing: these are statements.
 use Rattle.std.specs.Prelude.{ℕ, suc, ◌+◌, ◌≤◌, true, false, ◌&&◌, ◌≡◌, length, take, eqb}
 use mathlib.Core.List.{List, [], ◌∷◌, map, flat_map}
-use Rattle.text.specs.Basics.{if◌then◌else◌, is_some, any, all}
+use Rattle.text.specs.Basics.{when◌then◌else◌, is_some, any, all}
 use Rattle.section.specs.Section as S
 use Rattle.section.specs.Section.{part, bytes_at}
 use Rattle.lines.specs.Line.{Line, lines}
@@ -63,7 +63,7 @@ abbrev pub all_lines : List ℕ → List (List ℕ)
 all_lines t = map line_bytes (lines t)
 
 abbrev pub other_lines : List ℕ → List ℕ → List (List ℕ)
-other_lines ns t = flat_map (λ l. if named ns l then [] else line_bytes l ∷ []) (lines t)
+other_lines ns t = flat_map (λ l. when named ns l then [] else line_bytes l ∷ []) (lines t)
 
 -- "a new file with only those rules gone"
 pub record TidiedFiles : Type 0 where
@@ -90,7 +90,7 @@ pub record Said : Type 0 where
   pub command : List ℕ
 
 abbrev pub found_in_texts : List ℕ → List ℕ → GateAnswer → Said
-found_in_texts allow deny a = record { answer = a; command = bytes_at (if eqb a.file (S.deny).order then deny else allow) (part a.place a.len) }
+found_in_texts allow deny a = record { answer = a; command = bytes_at (when eqb a.file (S.deny).order then deny else allow) (part a.place a.len) }
 
 abbrev pub found_in_sheet : List ℕ → GateAnswer → Said
 found_in_sheet sheet a = record { answer = a; command = bytes_at sheet (part a.place a.len) }
@@ -111,7 +111,7 @@ no_tables = 0 ∷ 0 ∷ []
 
 -- how many physical lines of the text of a section were removed above the line of an answer, where that file decides
 abbrev pub removed : ℕ → List ℕ → List ℕ → GateAnswer → ℕ
-removed section text ns a = if eqb a.file section then removed_above ns a.line (lines text) else 0
+removed section text ns a = when eqb a.file section then removed_above ns a.line (lines text) else 0
 
 -- "Every request then gets the same verdict or ask, file and command bytes; the line moves by the lines removed above it." A refusal is of
 -- the other file, or of the request, and stays as it is

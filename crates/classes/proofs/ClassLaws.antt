@@ -13,7 +13,7 @@ use lib.Dec.{T, eqb, ltb, leb, eqb→eq}
 use lib.ListN.{length, take, drop, get_or, drop_of_length-le}
 use lib.Seq.{drop-cons}
 use borrow.Author.Tests.{eqb-true, ne_eqb, le-leb, lt-leb, ltb-true, ltb-false, lt-ltb, le-ltb, not-true}
-use Rattle.text.specs.Basics.{if◌then◌else◌, any, all}
+use Rattle.text.specs.Basics.{when◌then◌else◌, any, all}
 use Rattle.text.specs.Text.{is_digit, is_letter}
 use Rattle.text.specs.Scan.{span_len}
 use Rattle.text.proofs.BasicLaws.{and_true}
@@ -36,7 +36,7 @@ classes_right l e t = record { long = e; each = λ b h. eqb→eq (get_or l b 0) 
 
 -- the class of a byte that parts no elements, by its tests: whether it is a name byte, a digit, a dot, a slash, `@`
 abbrev code : Bool → Bool → Bool → Bool → Bool → ℕ
-code n d p q a = if n then (if d then 2 else if p then 4 else 1) else if q then 8 else if a then 16 else 32
+code n d p q a = when n then (when d then 2 else when p then 4 else 1) else when q then 8 else when a then 16 else 32
 
 code_small : (n d p q a : Bool) → code n d p q a < 128
 code_small true true p q a = omega arith
@@ -77,7 +77,7 @@ module _ (b c : ℕ) (is_c : c ≡ class_of b) where
 -- the element at the front of t, from i on, its end counted from j, its classes added to m
 unfoldable pub scan_classes : ℕ → ℕ → ℕ → List ℕ → ClassSpan
 scan_classes i j m [] = class_span i j m
-scan_classes i j m (b ∷ t) = if is_parting b then class_span i j m else scan_classes i (suc j) (bit_or m (class_of b)) t
+scan_classes i j m (b ∷ t) = when is_parting b then class_span i j m else scan_classes i (suc j) (bit_or m (class_of b)) t
 
 scan_span : (i j m : ℕ) (t : List ℕ) → scan_classes i j m t ≡ class_span i (j + element_length t) (mask_from m (take (element_length t) t))
 unfolding scan_classes mask_from span_len is_element_byte

@@ -8,7 +8,7 @@
 -- Assumes nothing: these are definitions.
 use Rattle.std.specs.Prelude.{ℕ, ◌+◌, ◌<◌, Bool, not, List, [], ◌∷◌, ◌≡◌, eqb, ltb, length, take, drop, get_or}
 use Rattle.std.specs.Int.Bits.{bit_and, bit_or}
-use Rattle.text.specs.Basics.{if◌then◌else◌, all}
+use Rattle.text.specs.Basics.{when◌then◌else◌, all}
 use Rattle.text.specs.Text.{is_digit}
 use Rattle.lines.specs.Parts.{is_parting, parting_length, element_length}
 use Rattle.patterns.specs.Pattern.{is_name_byte}
@@ -17,11 +17,11 @@ use Rattle.classes.specs.declared.ClassSpan.{ClassSpan}
 
 -- of a name byte: 2 a digit, 4 a dot, 1 any other
 abbrev pub name_class : ℕ → ℕ
-name_class b = if is_digit b then 2 else if eqb b 46 then 4 else 1
+name_class b = when is_digit b then 2 else when eqb b 46 then 4 else 1
 
 -- else: 8 a slash, 16 `@`, 32 any other byte of an element; 128 parts elements
 unfoldable pub class_of : ℕ → ℕ
-class_of b = if is_parting b then 128 else if is_name_byte b then name_class b else if eqb b 47 then 8 else if eqb b 64 then 16 else 32
+class_of b = when is_parting b then 128 else when is_name_byte b then name_class b else when eqb b 47 then 8 else when eqb b 64 then 16 else 32
 
 pub record Classes (l : List ℕ) : Type 0 where
   pub long : length l ≡ 256

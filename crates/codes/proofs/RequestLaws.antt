@@ -9,7 +9,7 @@ use mathlib.Core.Path.{◌≡◌, refl, sym, ap, ◌∙◌}
 use borrow.Author.Tests.{ne_eqb, lt-ltb, le-ltb, leb-true}
 use lib.Dec.{leb, ltb, eqb}
 use lib.ListN.{length, replicate, length-append}
-use Rattle.text.specs.Basics.{if◌then◌else◌, ◌>>=◌, given, is_some, each}
+use Rattle.text.specs.Basics.{when◌then◌else◌, ◌>>=◌, given, is_some, each}
 use Rattle.text.specs.Text.{in_range}
 use Rattle.text.specs.Scan.{after}
 use Rattle.text.proofs.BasicLaws.{and_true}
@@ -51,11 +51,11 @@ some_given : {X : Type 0} (b : Bool) (x : X) → b ≡ is_some (given b x)
 some_given true x = refl
 some_given false x = refl
 
-some_two : {X : Type 0} (a b : Bool) (x y : X) → (a || b) ≡ is_some (if a then some x else given b y)
+some_two : {X : Type 0} (a b : Bool) (x y : X) → (a || b) ≡ is_some (when a then some x else given b y)
 some_two true b x y = refl
 some_two false b x y = some_given b y
 
-some_three : {X : Type 0} (a b c : Bool) (x y z : X) → ((a || b) || c) ≡ is_some (if a then some x else if b then some y else given c z)
+some_three : {X : Type 0} (a b c : Bool) (x y z : X) → ((a || b) || c) ≡ is_some (when a then some x else when b then some y else given c z)
 some_three true b c x y z = refl
 some_three false b c x y z = some_two b c y z
 
@@ -86,7 +86,7 @@ module _ (kind high low : ℕ) where
 
 -- ## What it stands for
 
-first_else : {X : Type 0} (b : Bool) (x : X) → x ≡ get_or (if b then some x else none) x
+first_else : {X : Type 0} (b : Bool) (x : X) → x ≡ get_or (when b then some x else none) x
 first_else true x = refl
 first_else false x = refl
 
@@ -308,7 +308,7 @@ module _ (port kind high low uid p : ℕ) (is-p : p ≡ port_by port) {B : Type 
   byuid_read m a is-a = rw (is-p, is-a) (by (is_port port) (address_of kind high low))
     where
       by : (b : Bool) (o : Option Addr)
-          → fitting address_known (some (Byuid.file_bind m (Byuid.bind (if b then port else 0) (if b then get_or o A.Unknown else A.Unknown) uid))) f
+          → fitting address_known (some (Byuid.file_bind m (Byuid.bind (when b then port else 0) (when b then get_or o A.Unknown else A.Unknown) uid))) f
           ≡ fitting address_known (Byuid.from_file m (o >>= λ x. given b (Byuid.bind port x uid))) f
       by true none = refl
       by true (some x) = refl
@@ -323,7 +323,7 @@ module _ (port kind high low uid p : ℕ) (is-p : p ≡ port_by port) {B : Type 
     where
       by : (o : Option Mark)
           → fitting address_known
-          (some (Byuid.file_bind (get_or o Plain) (Byuid.bind p (if is_some o then address_by port kind high low else A.Unknown) uid))) f
+          (some (Byuid.file_bind (get_or o Plain) (Byuid.bind p (when is_some o then address_by port kind high low else A.Unknown) uid))) f
           ≡ fitting address_known (o >>= λ x. Byuid.from_file x (byuid_bind port kind high low uid)) f
       by none = refl
       by (some x) = byuid_read x (address_by port kind high low) refl
@@ -351,7 +351,7 @@ module _ (port kind high low uid p : ℕ) (is-p : p ≡ port_by port) (answers :
       refuses = no_bind room
 
       by : (b : Bool) (o : Option Addr)
-          → next_step (asking answers (Byuid.bind (if b then port else 0) (if b then get_or o A.Unknown else A.Unknown) uid)) room
+          → next_step (asking answers (Byuid.bind (when b then port else 0) (when b then get_or o A.Unknown else A.Unknown) uid)) room
           ≡ next_step ((o >>= λ x. given b (Byuid.bind port x uid)) >>= asking answers) room
       by true none = unknown_refused port ∙ sym refuses
       by true (some x) = refl
@@ -359,14 +359,14 @@ module _ (port kind high low uid p : ℕ) (is-p : p ≡ port_by port) (answers :
       by false (some x) = unknown_refused 0 ∙ sym refuses
 
 module _ (uid protocol port : ℕ) (groups groups' : List ℕ) (x : Target) (is_x : x ≡ target_of protocol port)
-    (is-groups : groups' ≡ (if x.fit then groups else replicate 17 0)) where
+    (is-groups : groups' ≡ (when x.fit then groups else replicate 17 0)) where
   pub portacl_read : {B : Type 0} (f : Portacl.Bind → Outcome B)
       → fitting groups_fit (some (Portacl.bind uid groups' x.protocol x.port)) f ≡ fitting groups_fit (portacl_bind uid groups protocol port) f
   unfolding port_by portacl_bind
   portacl_read f = rw (is-groups, is_x) (by (protocol_of protocol) (is_port port))
     where
       by : (o : Option Protocol) (b : Bool)
-          → fitting groups_fit (some (Portacl.bind uid (if is_some o && b then groups else replicate 17 0) (get_or o Tcp) (if b then port else 0))) f
+          → fitting groups_fit (some (Portacl.bind uid (when is_some o && b then groups else replicate 17 0) (get_or o Tcp) (when b then port else 0))) f
           ≡ fitting groups_fit (o >>= λ q. given b (Portacl.bind uid groups q port)) f
       by none b = refl
       by (some q) true = refl

@@ -8,7 +8,7 @@
 -- Assumes nothing: these are definitions.
 use Rattle.std.specs.Prelude.{ℕ, ◌+◌, Bool, ◌&&◌, List, [], replicate}
 use Rattle.std.proofs.Math.Option.{get_or}
-use Rattle.text.specs.Basics.{if◌then◌else◌, is_some}
+use Rattle.text.specs.Basics.{when◌then◌else◌, is_some}
 use Rattle.section.specs.Section.{part}
 use Rattle.address.specs.declared.Addr.{Addr}
 use Rattle.address.specs.declared.Addr.TheVariants as A
@@ -118,22 +118,22 @@ abbrev pub mark_by : ℕ → Mark
 mark_by n = get_or (mark_of n) Plain
 
 unfoldable pub port_by : ℕ → ℕ
-port_by port = if is_port port then port else 0
+port_by port = when is_port port then port else 0
 
 -- with a port over 16 bits, or an address outside its kinds, an unknown address: "an unknown one is 13"
 unfoldable pub address_by : ℕ → ℕ → ℕ → ℕ → Addr
-address_by port kind high low = if is_port port then addr_by kind high low else A.Unknown
+address_by port kind high low = when is_port port then addr_by kind high low else A.Unknown
 
 -- the same with a mark outside its kinds
 unfoldable pub address_from : ℕ → ℕ → ℕ → ℕ → ℕ → Addr
-address_from mark port kind high low = if is_some (mark_of mark) then address_by port kind high low else A.Unknown
+address_from mark port kind high low = when is_some (mark_of mark) then address_by port kind high low else A.Unknown
 
 abbrev pub target_of : ℕ → ℕ → Target
 target_of protocol port = record { fit = is_some (protocol_of protocol) && is_port port; protocol = protocol_by protocol; port = port_by port }
 
 -- with a port or protocol outside its kinds 17 group ids: "at most 16 group ids", else 13
 abbrev pub bind_by : Target → ℕ → List ℕ → Bind
-bind_by x uid groups = bind uid (if x.fit then groups else replicate 17 0) x.protocol x.port
+bind_by x uid groups = bind uid (when x.fit then groups else replicate 17 0) x.protocol x.port
 
 -- ## Answers
 

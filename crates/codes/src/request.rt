@@ -1,7 +1,7 @@
 // What the numbers of a request stand for; a number outside its kinds stands for what is refused by 13.
 ghost use Rattle.std.specs.Prelude.{◌≡◌, ◌++◌, ◌≤◌, ◌+◌, length};
 ghost use Rattle.std.proofs.Math.Option.{some};
-ghost use Rattle.text.specs.Basics.{if◌then◌else◌, given, is_some};
+ghost use Rattle.text.specs.Basics.{when◌then◌else◌, given, is_some};
 ghost use Rattle.text.specs.Scan.{after};
 ghost use Rattle.section.specs.Refusal.{answered, fitting};
 ghost use Rattle.elements.specs.Request.{well_formed};
@@ -375,7 +375,7 @@ pub fn read_target(protocol: u32, port: u32) -> Target
 
 // The groups of a bind whose numbers fit; of another too many.
 pub fn groups_if<'a>(fit: bool, groups: &'a [u32], too_many: &'a [u32]) -> &'a [u32]
-    ensures { result.now ≡ (if fit then groups.now else too_many.now) }
+    ensures { result.now ≡ (when fit then groups.now else too_many.now) }
 {
     if fit {
         return groups;

@@ -2,19 +2,20 @@
 // every other byte as it is. What is over its limit, or can't be read, gets a message on standard error, and nothing is written.
 #![tactic(auto)]
 
-use libc::{STDERR_FILENO, STDOUT_FILENO};
+use std::io;
+use std::io::Print;
+use std::rt::{Env, Files};
 
-fn tell(s: &[u8]) {
-    io::write_all(STDERR_FILENO, s);
-}
+// A longer file is refused by its first 8,193 bytes, as it would be whole.
+const MOST: u64 = 8193;
 
-fn tell_refusal(name: &[u8], n: u32, section: u32) {
-    tell(name);
-    tell(b": refused ");
-    io::print_decimal(STDERR_FILENO, n as u64);
-    tell(b" section ");
-    io::print_decimal(STDERR_FILENO, section as u64);
-    tell(b": a byuid text has at most 8192 bytes\n");
+fn tell_refusal(errors: &impl Print, name: &[u8], n: u32, section: u32) -> io::Result<()> {
+    errors.write_all(name)?;
+    errors.print(": refused ")?;
+    errors.print(n)?;
+    errors.print(" section ")?;
+    errors.print(section)?;
+    errors.print(": a byuid text has at most 8192 bytes\n")
 }
 
 // The first n bytes of s; none where it has fewer.
@@ -26,53 +27,38 @@ fn front(s: &[u8], n: usize) -> &[u8] {
     &s[a..n]
 }
 
-fn write_text(text: &[u8]) {
-    if !io::write_all(STDOUT_FILENO, text) {
-        os::fail(b"standard output");
-    }
-}
-
-fn convert(name: &[u8], text: &[u8]) {
+fn convert(rt: &impl Print, errors: &impl Print, name: &[u8], text: &[u8]) -> io::Result<()> {
     let mut out = [0u8; 8192];
     let w = gate::gate_convert(&mut out, text);
     if w.number != 0 {
-        tell_refusal(name, w.number, w.section);
-        return;
+        return tell_refusal(errors, name, w.number, w.section);
     }
-    write_text(front(&out, w.count as usize));
+    rt.write_all(front(&out, w.count as usize))
 }
 
-// Whether reading stopped at the end of the file, and not at an error.
-fn at_end(fd: i32) -> bool {
-    let mut next = [0u8; 1];
-    libc::read(fd, &mut next) == 0
+fn convert_file<R: Files + Print + AllocGlobal>(
+    rt: &R,
+    errors: &impl Print,
+    name: &[u8],
+) -> io::Result<()> {
+    match report::file::read_front(rt, name, MOST) {
+        Ok(text) => convert(rt, errors, name, &text),
+        Err(e) => report::file::tell_failure(errors, rt.alloc(), name, e),
+    }
 }
 
-// A longer file is refused by its first 8,193 bytes, as it would be whole.
-fn convert_file(fd: i32, name: &[u8]) {
-    let mut text = [0u8; 8193];
-    let n = io::read_full(fd, &mut text);
-    if n < 8193 {
-        if !at_end(fd) {
-            os::fail(name);
-            return;
-        }
+fn run<R: Env + Files + Print + AllocGlobal>(rt: &R, errors: &impl Print) -> io::Result<()> {
+    let mut name = [0u8; 4096];
+    match rt.arg(1, &mut name) {
+        Ok(length) => convert_file(rt, errors, &name[..length]),
+        Err(_) => errors.print("usage: converter FILE\n"),
     }
-    convert(name, &text[..n]);
 }
 
-fn main() {
-    let mut name = io::buffer();
-    let length = os::arg(1, &mut name);
-    if os::errno() != 0 {
-        tell(b"usage: converter FILE\n");
-        return;
+// What can't be read is told in `run`: an error that comes back is of a write.
+fn main(rt: HostRuntime) {
+    let errors = rt.stderr();
+    if let Err(e) = run(&rt, &errors) {
+        let _ = report::file::tell_failure(&errors, rt.alloc(), b"standard output", e);
     }
-    let fd = os::open_read(&name[..length]);
-    if fd < 0 {
-        os::fail(&name[..length]);
-        return;
-    }
-    convert_file(fd, &name[..length]);
-    libc::close(fd);
 }

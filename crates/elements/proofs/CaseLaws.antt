@@ -10,7 +10,7 @@ use mathlib.Core.Path.{◌≡◌, refl, sym, ap, ap₂, ◌∙◌}
 use borrow.Author.Tests.{eqb-true}
 use lib.Dec.{eqb}
 use lib.ListN.{length, drop}
-use Rattle.text.specs.Basics.{if◌then◌else◌, ◌>>=◌, ◌or_else◌, given, holds, is_some, any, all, first}
+use Rattle.text.specs.Basics.{when◌then◌else◌, ◌>>=◌, ◌or_else◌, given, holds, is_some, any, all, first}
 use Rattle.text.specs.Text.{bytes, among, first_among, equal, cons_first, split_once, in_range, lower, equal_fold}
 use Rattle.text.proofs.CaseLaws.{Blindly, blind_test, test_blindly, Alike, AlikePair, fold_alike, alike_fold, alike_length, alike_all, alike_drop}
 use Rattle.text.proofs.CaseLaws.{alike_split_once}
@@ -105,8 +105,8 @@ module _ (m : Matcher) (unseen : Unseen m) where
       tail = alike_drop 1 xs ys a
 
       by : (b c : Bool)
-          → (if b then ((if b then given c (drop 1 xs) else none) >>= λ n. some (m n)) else host_pattern ys)
-          ≡ (if b then ((if b then given c (drop 1 ys) else none) >>= λ n. some (m n)) else host_pattern ys)
+          → (when b then ((when b then given c (drop 1 xs) else none) >>= λ n. some (m n)) else host_pattern ys)
+          ≡ (when b then ((when b then given c (drop 1 ys) else none) >>= λ n. some (m n)) else host_pattern ys)
       by true true = ap some (unseen (drop 1 xs) (drop 1 ys) tail)
       by true false = refl
       by false c = refl

@@ -6,7 +6,7 @@ use mathlib.Core.Path.{◌≡◌, refl, sym, ap, ◌∙◌}
 use native.Mathlib.Omega.{arith}
 use borrow.Author.Tests.{ltb-true, ltb-false, lt-ltb, le-ltb}
 use lib.Dec.{ltb}
-use Rattle.text.specs.Basics.{if◌then◌else◌}
+use Rattle.text.specs.Basics.{when◌then◌else◌}
 use Rattle.tables.specs.Tried.{capped}
 use Rattle.elements.specs.Code.{counted}
 
@@ -28,7 +28,7 @@ pub capped_lt : (n : ℕ) → capped n < 18446744073709551616
 unfolding capped
 capped_lt n = by (ltb n 18446744073709551616) refl
   where
-    by : (b : Bool) → ltb n 18446744073709551616 ≡ b → (if b then n else 18446744073709551615) < 18446744073709551616
+    by : (b : Bool) → ltb n 18446744073709551616 ≡ b → (when b then n else 18446744073709551615) < 18446744073709551616
     by true e = ltb-true n 18446744073709551616 e
     by false e = omega arith
 
@@ -40,7 +40,7 @@ capped_top : (n : ℕ) → 18446744073709551615 ≤ n → capped n ≡ 184467440
 unfolding capped
 capped_top n h = by (ltb n 18446744073709551616) refl
   where
-    by : (b : Bool) → ltb n 18446744073709551616 ≡ b → (if b then n else 18446744073709551615) ≡ 18446744073709551615
+    by : (b : Bool) → ltb n 18446744073709551616 ≡ b → (when b then n else 18446744073709551615) ≡ 18446744073709551615
     by true e = omega (arith, ltb-true n 18446744073709551616 e)
     by false e = refl
 
@@ -79,6 +79,6 @@ pub capped_le : (n : ℕ) → capped n ≤ n
 unfolding capped
 capped_le n = by (ltb n 18446744073709551616) refl
   where
-    by : (b : Bool) → ltb n 18446744073709551616 ≡ b → (if b then n else 18446744073709551615) ≤ n
+    by : (b : Bool) → ltb n 18446744073709551616 ≡ b → (when b then n else 18446744073709551615) ≤ n
     by true e = omega arith
     by false e = omega (arith, ltb-false n 18446744073709551616 e)

@@ -14,7 +14,7 @@ use native.Mathlib.Omega.{arith}
 use borrow.Author.Tests.{le-leb, lt-leb}
 use lib.Dec.{eqb, leb}
 use lib.ListN.{length, take, drop, get_or}
-use Rattle.text.specs.Basics.{if◌then◌else◌, ◌>>=◌, ◌or_else◌, given, holds, is_some, any, all}
+use Rattle.text.specs.Basics.{when◌then◌else◌, ◌>>=◌, ◌or_else◌, given, holds, is_some, any, all}
 use Rattle.text.specs.Text.{bytes, first_among, in_range, lower, equal, equal_fold, is_word}
 use Rattle.text.specs.Scan.{index_of}
 use Rattle.text.proofs.ScanLaws.{take_rest, split_once_mark, split_once_no_mark, eq_of_equal}
@@ -221,7 +221,7 @@ wildcard_of_cases t P all local known unknown paranoid nothing = by (is_word "AL
     (is_word "PARANOID" t) refl refl refl refl
   where
     by : (a l k u p : Bool) → is_word "ALL" t ≡ a → is_word "LOCAL" t ≡ l → is_word "KNOWN" t ≡ k → is_word "UNKNOWN" t ≡ u
-        → P (if a then W.All else if l then W.Local else if k then W.Known else if u then W.Unknown else if p then W.Paranoid else W.Nothing)
+        → P (when a then W.All else when l then W.Local else when k then W.Known else when u then W.Unknown else when p then W.Paranoid else W.Nothing)
     by true l k u p ea el ek eu = all ea
     by false true k u p ea el ek eu = local ea el
     by false false true u p ea el ek eu = known ea ek
@@ -434,8 +434,8 @@ pattern_sound : (m k : Matcher) (e : List ℕ) → is_some (pattern_with m e) �
 unfolding pattern_with
 pattern_sound m k e = by (first_among "/" e) (table_name e)
   where
-    by : (b : Bool) (o : Option (List ℕ)) → is_some (if b then (o >>= λ n. some (m n)) else host_pattern e)
-        ≡ is_some (if b then (o >>= λ n. some (k n)) else host_pattern e)
+    by : (b : Bool) (o : Option (List ℕ)) → is_some (when b then (o >>= λ n. some (m n)) else host_pattern e)
+        ≡ is_some (when b then (o >>= λ n. some (k n)) else host_pattern e)
     by true none = refl
     by true (some n) = refl
     by false o = refl
@@ -493,19 +493,19 @@ module _ (m : Matcher) (e : List ℕ) (at : ℕ) (is_at : at ≡ at_sign e) (c :
       by (some g) = refl
 
   module _ (h : at ≡ length e → ⊥) (x : Bool) (is_x : x ≡ matches_pattern (pattern_with m (after e at)) c) where
-    pub client_found_both : look_at (client_request c u name) (client_element m e) ≡ (if x then user_found (take at e) u name else No)
+    pub client_found_both : look_at (client_request c u name) (client_element m e) ≡ (when x then user_found (take at e) u name else No)
     unfolding client_element client_parts
     client_found_both =
         rw (parted m e at is_at h x, is_x, user_found_is (take at e) u name, ← (finds_same (take at e) (client_request c u name)))
         (by (user_half (take at e)) (pattern_with m (after e at)))
       where
         by : (o : Option (Request → Bool)) (p : Pattern)
-            → look_at (client_request c u name) (o >>= λ f. p >>= λ g. some (λ r. if g r.client then user_case r Ask (found_if (f r)) (found_if (f r)) else No))
-            ≡ (if matches_pattern p c then finds o (client_request c u name) else No)
+            → look_at (client_request c u name) (o >>= λ f. p >>= λ g. some (λ r. when g r.client then user_case r Ask (found_if (f r)) (found_if (f r)) else No))
+            ≡ (when matches_pattern p c then finds o (client_request c u name) else No)
         by none none = refl
         by none (some g) = neither (g c)
           where
-            neither : (b : Bool) → No ≡ (if b then No else No)
+            neither : (b : Bool) → No ≡ (when b then No else No)
             neither true = refl
             neither false = refl
         by (some f) none = refl
@@ -520,8 +520,8 @@ module _ (m : Matcher) (b : Bool) where
   pattern_once h t is_b = by (first_among "/" t) (table_name t) is_b
     where
       by : (x : Bool) (o : Option (List ℕ)) → b ≡ holds (λ n. m n h) o
-          → matches_pattern (if x then (o >>= λ n. some (saying b n)) else host_pattern t) h
-          ≡ matches_pattern (if x then (o >>= λ n. some (m n)) else host_pattern t) h
+          → matches_pattern (when x then (o >>= λ n. some (saying b n)) else host_pattern t) h
+          ≡ matches_pattern (when x then (o >>= λ n. some (m n)) else host_pattern t) h
       by true none q = refl
       by true (some n) q = q
       by false o q = refl
@@ -557,16 +557,16 @@ module _ (m : Matcher) (b : Bool) where
       whole (some g) = refl
 
       through : (f : Request → Bool) (p : Pattern)
-          → look_at q (p >>= λ g. some (λ r. if g r.client then user_case r Ask (found_if (f r)) (found_if (f r)) else No))
-          ≡ (if matches_pattern p q.client then user_case q Ask (found_if (f q)) (found_if (f q)) else No)
+          → look_at q (p >>= λ g. some (λ r. when g r.client then user_case r Ask (found_if (f r)) (found_if (f r)) else No))
+          ≡ (when matches_pattern p q.client then user_case q Ask (found_if (f q)) (found_if (f q)) else No)
       through f none = refl
       through f (some g) = refl
 
       both : (o : Option (Request → Bool)) (p k : Pattern) → matches_pattern p q.client ≡ matches_pattern k q.client
-          → look_at q (o >>= λ f. p >>= λ g. some (λ r. if g r.client then user_case r Ask (found_if (f r)) (found_if (f r)) else No))
-          ≡ look_at q (o >>= λ f. k >>= λ g. some (λ r. if g r.client then user_case r Ask (found_if (f r)) (found_if (f r)) else No))
+          → look_at q (o >>= λ f. p >>= λ g. some (λ r. when g r.client then user_case r Ask (found_if (f r)) (found_if (f r)) else No))
+          ≡ look_at q (o >>= λ f. k >>= λ g. some (λ r. when g r.client then user_case r Ask (found_if (f r)) (found_if (f r)) else No))
       both none p k z = refl
-      both (some f) p k z = through f p ∙ ap (λ (x : Bool). if x then user_case q Ask (found_if (f q)) (found_if (f q)) else No) z ∙ sym (through f k)
+      both (some f) p k z = through f p ∙ ap (λ (x : Bool). when x then user_case q Ask (found_if (f q)) (found_if (f q)) else No) z ∙ sym (through f k)
 
       by : (h : Option (List ℕ × List ℕ)) → b ≡ holds (λ n. m n q.client) (table_name (Option.get_or (h >>= λ p. some p.1) e))
           → look_at q (client_parts (saying b) e h) ≡ look_at q (client_parts m e h)
@@ -610,11 +610,11 @@ client_element_request m q e = by (halves e)
     whole (some g) = refl
 
     both : (o : Option (Request → Bool)) (p : Pattern) → finds o q ≡ finds o r
-        → look_at q (o >>= λ f. p >>= λ g. some (λ r. if g r.client then user_case r Ask (found_if (f r)) (found_if (f r)) else No))
-        ≡ look_at r (o >>= λ f. p >>= λ g. some (λ r. if g r.client then user_case r Ask (found_if (f r)) (found_if (f r)) else No))
+        → look_at q (o >>= λ f. p >>= λ g. some (λ r. when g r.client then user_case r Ask (found_if (f r)) (found_if (f r)) else No))
+        ≡ look_at r (o >>= λ f. p >>= λ g. some (λ r. when g r.client then user_case r Ask (found_if (f r)) (found_if (f r)) else No))
     both none p k = refl
     both (some f) none k = refl
-    both (some f) (some g) k = ap (λ (z : Found). if g q.client then z else No) k
+    both (some f) (some g) k = ap (λ (z : Found). when g q.client then z else No) k
 
     by : (h : Option (List ℕ × List ℕ)) → look_at q (client_parts m e h) ≡ look_at r (client_parts m e h)
     by none = whole (pattern_with m e)

@@ -11,7 +11,7 @@ use borrow.Author.Tests.{eqb-true, eq-eqb}
 use lib.Bits.{bit_and}
 use lib.Dec.{eqb, leb, ltb}
 use lib.ListN.{length, take, drop}
-use Rattle.text.specs.Basics.{if◌then◌else◌, ◌>>=◌, given, holds, is_some, any, all}
+use Rattle.text.specs.Basics.{when◌then◌else◌, ◌>>=◌, given, holds, is_some, any, all}
 use Rattle.text.specs.Text.{first_among, equal_fold}
 use Rattle.text.specs.Scan.{span_len, index_of}
 use Rattle.text.proofs.BasicLaws.{and_true}
@@ -165,13 +165,13 @@ module _ (m : Matcher) (e : List ℕ) (at : ℕ) (is_at : at ≡ at_sign e) (loo
     unfolding pattern_seen
     sound = ap₂ ◌&&◌ is_x (ap (λ (z : HostSeen). z.sound) is-g) ∙ sym (client_element_both m e at is_at parted x)
 
-    found : sought look (look_at (client_request c u name) (client_element m e)) ≡ (if g.matches then user_found (take at e) u name else No)
+    found : sought look (look_at (client_request c u name) (client_element m e)) ≡ (when g.matches then user_found (take at e) u name else No)
     unfolding pattern_seen
     found =
         ap (sought look) (client_found_both m e at is_at c u name parted (matches_pattern (pattern_with m (after e at)) c) refl)
-        ∙ by look (matches_pattern (pattern_with m (after e at)) c) ∙ sym (ap (λ (z : HostSeen). if z.matches then user_found (take at e) u name else No) is-g)
+        ∙ by look (matches_pattern (pattern_with m (after e at)) c) ∙ sym (ap (λ (z : HostSeen). when z.matches then user_found (take at e) u name else No) is-g)
       where
-        by : (l m : Bool) → sought l (if m then user_found (take at e) u name else No) ≡ (if l && m then user_found (take at e) u name else No)
+        by : (l m : Bool) → sought l (when m then user_found (take at e) u name else No) ≡ (when l && m then user_found (take at e) u name else No)
         by true m = refl
         by false m = refl
 

@@ -13,7 +13,7 @@
 -- Assumes nothing: these are definitions.
 use Rattle.std.specs.Prelude.{ℕ, ◌+◌, Bool, true, false, ◌&&◌, List, [], ◌∷◌, length, drop}
 use Rattle.std.proofs.Math.Option.{Option, none, some}
-use Rattle.text.specs.Basics.{if◌then◌else◌, holds, is_some, all}
+use Rattle.text.specs.Basics.{when◌then◌else◌, holds, is_some, all}
 use Rattle.text.specs.Text.{in_range, equal_fold}
 use Rattle.text.specs.Scan.{index_of}
 use Rattle.address.specs.declared.Addr.TheVariants as A
@@ -119,18 +119,18 @@ misnamed N.Missing = E.Missing
 misnamed N.Deep = E.Deep
 
 abbrev pub fault_of : Bool → Bool → Naming → ElementFault
-fault_of reserved sound naming = if reserved then E.Reserved else if sound then misnamed naming else E.Unknown
+fault_of reserved sound naming = when reserved then E.Reserved else when sound then misnamed naming else E.Unknown
 
 unfoldable pub element_fault : Kind → List ℕ → ElementFault
 element_fault kind e = fault_of (kind.reserved e) (is_some (kind.element e)) (kind.naming e)
 
 -- what an element finds, if it is looked at
 abbrev pub sought : Bool → Found → Found
-sought look f = if look then f else No
+sought look f = when look then f else No
 
 -- what an element counts, if it is looked at
 abbrev pub counted : Bool → ℕ → ℕ
-counted look n = if look then n else 0
+counted look n = when look then n else 0
 
 -- what was found, and how many elements were looked at for it
 abbrev pub looked_for : Found → ℕ → Looked

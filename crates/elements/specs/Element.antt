@@ -8,7 +8,7 @@
 -- Assumes nothing: these are definitions.
 use Rattle.std.specs.Prelude.{ℕ, Bool, true, false, not, ◌&&◌, ◌||◌, List, [], ◌∷◌, length}
 use Rattle.std.proofs.Math.Option.{Option, none, some, get_or}
-use Rattle.text.specs.Basics.{if◌then◌else◌, ◌>>=◌, ◌or_else◌, given, holds, is_some, all}
+use Rattle.text.specs.Basics.{when◌then◌else◌, ◌>>=◌, ◌or_else◌, given, holds, is_some, all}
 use Rattle.text.specs.Text.{bytes, first_among, cons_first, split_once, in_range, equal_fold, is_word}
 use Rattle.patterns.specs.Pattern.{wildcard, is_name_byte}
 use Rattle.tables.specs.Table.{Matcher, table_name, pattern_with}
@@ -81,7 +81,7 @@ client_parts m e none = do
 client_parts m e (some p) = do
   f ← user_half p.0
   g ← pattern_with m p.1
-  some λ r. if g r.client then user_case r Ask (found_if (f r)) (found_if (f r)) else No
+  some λ r. when g r.client then user_case r Ask (found_if (f r)) (found_if (f r)) else No
 
 unfoldable pub daemon_element : Matcher → List ℕ → Element
 daemon_element m e = daemon_parts m e (halves e)

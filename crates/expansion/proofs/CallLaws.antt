@@ -9,7 +9,7 @@ use mathlib.Core.Path.{◌≡◌, refl, sym, ap, subst, ◌∙◌}
 use borrow.Author.Tests.{lt-ltb, le-ltb, not-true, not-false}
 use lib.ListN.{length, take, drop, length-append, length-reverse}
 use lib.Seq.{take_at}
-use Rattle.text.specs.Basics.{if◌then◌else◌}
+use Rattle.text.specs.Basics.{when◌then◌else◌}
 use Rattle.text.specs.Text.{bytes, among}
 use Rattle.text.specs.Number.{decimal}
 use Rattle.text.specs.Scan.{put_at, after}
@@ -120,7 +120,7 @@ unfolding skip_blanks
 length_skip_blanks [] = omega arith
 length_skip_blanks (x ∷ t) = by (among " \t" x) (length_skip_blanks t)
   where
-    by : (b : Bool) → length (skip_blanks t) ≤ length t → length (if b then skip_blanks t else x ∷ t) ≤ length (x ∷ t)
+    by : (b : Bool) → length (skip_blanks t) ≤ length t → length (when b then skip_blanks t else x ∷ t) ≤ length (x ∷ t)
     by true h = omega arith
     by false h = omega arith
 

@@ -12,7 +12,7 @@ use lib.Dec.{eqb, leb}
 use lib.ListN.{length, take, drop, get_or, set, length-append, length-map, length-set, get_or-map}
 use lib.Seq.{paste-suc}
 use types.Run.{OneOf}
-use Rattle.text.specs.Basics.{if◌then◌else◌, first, any}
+use Rattle.text.specs.Basics.{when◌then◌else◌, first, any}
 use Rattle.text.specs.Text.{bytes, in_range, among, is_digit, is_letter}
 use Rattle.text.proofs.BasicLaws.{and_true}
 use Rattle.text.proofs.Numeral.{length_numeral}
@@ -92,15 +92,15 @@ module _ (y k : ℕ) {G : Type 0} where
 
 -- %c and %s
 at_user : (u : User) (name host : List ℕ)
-    → (if user_state u false true || false then user_state u (bytes "unknown") name ++ (bytes "@" ++ host) else host)
+    → (when user_state u false true || false then user_state u (bytes "unknown") name ++ (bytes "@" ++ host) else host)
     ≡ elim u [ U.NotFetched ↦ [] | U.Unknown ↦ [] | U.Known ↦ name ++ bytes "@" ] ++ host
 at_user U.NotFetched name host = refl
 at_user U.Unknown name host = refl
 at_user U.Known name host = sym (append_assoc name (bytes "@") host)
 
 at_daemon : (known : Bool) (daemon host : List ℕ)
-    → (if known then daemon ++ (bytes "@" ++ (if known then host else daemon)) else (if known then host else daemon))
-    ≡ daemon ++ (if known then bytes "@" ++ host else [])
+    → (when known then daemon ++ (bytes "@" ++ (when known then host else daemon)) else (when known then host else daemon))
+    ≡ daemon ++ (when known then bytes "@" ++ host else [])
 at_daemon true daemon host = refl
 at_daemon false daemon host = sym (append-nil daemon)
 
@@ -129,7 +129,7 @@ inserted_by_request r process y =
 
 -- ## Sizes
 
-if_short : (b : Bool) (s t : List ℕ) (n : ℕ) → length s ≤ n → length t ≤ n → length (if b then s else t) ≤ n
+if_short : (b : Bool) (s t : List ℕ) (n : ℕ) → length s ≤ n → length t ≤ n → length (when b then s else t) ≤ n
 if_short true s t n h k = h
 if_short false s t n h k = k
 

@@ -8,7 +8,7 @@
 use Rattle.std.specs.Prelude.{ℕ, ◌-◌, ◌≤◌, Bool, true, false, not, ◌&&◌, ◌||◌, eqb, length}
 use mathlib.Core.List.{List, [], ◌∷◌, ◌++◌, map, flat_map}
 use Rattle.std.proofs.Math.Option.{some}
-use Rattle.text.specs.Basics.{if◌then◌else◌}
+use Rattle.text.specs.Basics.{when◌then◌else◌}
 use Rattle.text.specs.Text.{bytes}
 use Rattle.text.specs.Number.{decimal}
 use Rattle.section.specs.declared.Fault.TheVariants as F
@@ -65,7 +65,7 @@ abbrev pub name_with : List ℕ → List ℕ → Endpoint → List ℕ
 name_with unknown paranoid h = name_case h unknown paranoid h.name
 
 abbrev pub host_with : Endpoint → List ℕ → List ℕ
-host_with h address = if name_known h then h.name else address
+host_with h address = when name_known h then h.name else address
 
 -- the texts of a request, by the three words, and the texts of its addresses and of the process number
 abbrev pub texts_with : List ℕ → List ℕ → List ℕ → Request → List ℕ → List ℕ → List ℕ → Texts
@@ -94,29 +94,29 @@ abbrev pub has_at : Texts → ℕ → Bool
 has_at x y = (eqb y 99 && x.user_known) || (eqb y 115 && x.server_known)
 
 abbrev pub before_at : Texts → ℕ → List ℕ
-before_at x y = if eqb y 99 then x.user else x.daemon
+before_at x y = when eqb y 99 then x.user else x.daemon
 
 abbrev pub service_text : Texts → List ℕ
-service_text x = if x.server_known then x.server_host else x.daemon
+service_text x = when x.server_known then x.server_host else x.daemon
 
 -- the text after it, or alone
 unfoldable pub after_at : Texts → ℕ → List ℕ
 after_at x y =
-    if eqb y 97 then x.client_address
-    else if eqb y 65 then x.server_address
-    else if eqb y 110 then x.client_name
-    else if eqb y 78 then x.server_name
-    else if eqb y 104 || eqb y 99 then x.client_host
-    else if eqb y 72 then x.server_host
-    else if eqb y 117 then x.user
-    else if eqb y 100 then x.daemon
-    else if eqb y 115 then service_text x
-    else if eqb y 112 then x.process
-    else if eqb y 37 then x.percent
+    when eqb y 97 then x.client_address
+    else when eqb y 65 then x.server_address
+    else when eqb y 110 then x.client_name
+    else when eqb y 78 then x.server_name
+    else when eqb y 104 || eqb y 99 then x.client_host
+    else when eqb y 72 then x.server_host
+    else when eqb y 117 then x.user
+    else when eqb y 100 then x.daemon
+    else when eqb y 115 then service_text x
+    else when eqb y 112 then x.process
+    else when eqb y 37 then x.percent
     else []
 
 unfoldable pub inserted_by : Texts → ℕ → List ℕ
-inserted_by x y = if has_at x y then before_at x y ++ (bytes "@" ++ after_at x y) else after_at x y
+inserted_by x y = when has_at x y then before_at x y ++ (bytes "@" ++ after_at x y) else after_at x y
 
 unfoldable pub piece_by : Texts → Piece → List ℕ
 piece_by x (literal b) = b ∷ []

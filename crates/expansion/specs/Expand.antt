@@ -7,7 +7,7 @@ use Rattle.std.specs.Prelude.{ℕ, Bool, ◌||◌, eqb}
 use Prim.Native.Char.{Char, code}
 use mathlib.Core.List.{List, [], ◌∷◌, ◌++◌, map, flat_map}
 use Rattle.std.proofs.Math.Option.{Option, get_or}
-use Rattle.text.specs.Basics.{if◌then◌else◌, given, any, first}
+use Rattle.text.specs.Basics.{when◌then◌else◌, given, any, first}
 use Rattle.text.specs.Text.{bytes, among, is_digit, is_letter}
 use Rattle.text.specs.Number.{decimal}
 use Rattle.section.specs.declared.Fault.TheVariants as F
@@ -23,7 +23,7 @@ abbrev pub name_text : Endpoint → List ℕ
 name_text h = name_case h (bytes "unknown") (bytes "paranoid") h.name
 
 abbrev pub host_text : Endpoint → List ℕ
-host_text h = if name_known h then h.name else addr_text h.host.addr
+host_text h = when name_known h then h.name else addr_text h.host.addr
 
 -- what the byte y after a `%` stands for: the eleven letters and `%%`
 unfoldable pub inserted : Request → ℕ → ℕ → List ℕ
@@ -34,7 +34,7 @@ inserted r process y = get_or (first listed
     ∷ ("u", user_case r (bytes "unknown") (bytes "unknown") r.user_name)
     ∷ ("c", user_case r [] [] (r.user_name ++ bytes "@") ++ host_text r.client)
     ∷ ("d", r.daemon)
-    ∷ ("s", r.daemon ++ (if name_known r.server || addr_known r.server then bytes "@" ++ host_text r.server else []))
+    ∷ ("s", r.daemon ++ (when name_known r.server || addr_known r.server then bytes "@" ++ host_text r.server else []))
     ∷ ("p", decimal process)
     ∷ ("%", bytes "%") ∷ [])) []
   where
@@ -43,7 +43,7 @@ inserted r process y = get_or (first listed
 
 -- "Every inserted byte outside letters, digits and `@%-_=+:,./` becomes `_` (house set)."
 unfoldable pub safe_byte : ℕ → ℕ
-safe_byte b = if is_letter b || is_digit b || among "@%-_=+:,./" b then b else code "_"
+safe_byte b = when is_letter b || is_digit b || among "@%-_=+:,./" b then b else code "_"
 
 -- "Nothing inserted is expanded again."
 unfoldable pub piece_text : Request → ℕ → Piece → List ℕ

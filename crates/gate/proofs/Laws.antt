@@ -6,7 +6,7 @@ use mathlib.Core.List.{List, [], ◌∷◌}
 use mathlib.Core.Option.{Option, none, some, get_or}
 use mathlib.Core.Path.{◌≡◌, refl, sym, ap, ap₂, ◌∙◌}
 use lib.ListN.{length, replicate}
-use Rattle.text.specs.Basics.{if◌then◌else◌, ◌or_else◌, is_some}
+use Rattle.text.specs.Basics.{when◌then◌else◌, ◌or_else◌, is_some}
 use Rattle.section.specs.declared.Fault.TheVariants as F
 use Rattle.section.specs.declared.Refusal.{Refusal}
 use Rattle.section.specs.declared.Written.{Written}
@@ -308,7 +308,7 @@ module _ (port kind high low uid p : ℕ) (b : Addr) (is-p : p ≡ port_by port)
   sheet_byuid_by sheet e f = byuid_numbers_lem _ o a e f ∙ ap byuid_answer (sheet_bind_read sheet)
 
 module _ (uid protocol port : ℕ) (s : Settings) (groups groups' : List ℕ) (x : Target)
-    (is_x : x ≡ target_of protocol port) (is-groups : groups' ≡ (if x.fit then groups else replicate 17 0)) (o : PortaclRuling) (a : GateAnswer) where
+    (is_x : x ≡ target_of protocol port) (is-groups : groups' ≡ (when x.fit then groups else replicate 17 0)) (o : PortaclRuling) (a : GateAnswer) where
   entry_read : (text : List ℕ) → decide_portacl text s (some (Portacl.bind uid groups' x.protocol x.port))
       ≡ decide_portacl text s (portacl_bind uid groups protocol port)
   unfolding decide_portacl

@@ -9,7 +9,7 @@ use mathlib.Core.Option.{Option, none, some}
 use mathlib.Core.Path.{◌≡◌, refl, sym, ap, ap₂, ◌∙◌}
 use native.Mathlib.Omega.{arith}
 use lib.ListN.{length, take, drop, length-append}
-use Rattle.text.specs.Basics.{if◌then◌else◌, given}
+use Rattle.text.specs.Basics.{when◌then◌else◌, given}
 use Rattle.text.specs.Number.{to_digits}
 use Rattle.text.specs.Scan.{put_at, after}
 use Rattle.text.proofs.BasicLaws.{and_true}

@@ -13,7 +13,7 @@ use borrow.Author.Tests.{ltb-true, ltb-false, lt-ltb, le-ltb}
 use lib.Dec.{eqb, ltb}
 use lib.ListN.{length, take, drop, length-append}
 use lib.Seq.{take_at, drop_at, length-take-le}
-use Rattle.text.specs.Basics.{if◌then◌else◌, ◌or_else◌, is_some, all, first, sum_until}
+use Rattle.text.specs.Basics.{when◌then◌else◌, ◌or_else◌, is_some, all, first, sum_until}
 use Rattle.text.specs.Text.{among}
 use Rattle.text.specs.Number.{from_digits, to_digits}
 use Rattle.text.proofs.Digits.{from_digits_to_digits, length_to_digits}
@@ -210,8 +210,8 @@ module _ (v : View) (q : Request) (ds cs : List (List ℕ)) (k : List ℕ) where
         (rule_found_lists v q ds cs k ∙ ap (λ (f : Found). on_found f (included cf cs) Found.No) (sym daemons_found))
         (ap capped (rule_looked_lists v q ds cs k ∙ ap (λ (f : Found). dl + further_on f cl 0) (sym daemons_found)))
 
-    when : (f : Found) → x.found ≡ f → rule_looked_lem ≡ looked_for (on_found f (included cf cs) Found.No) (capped (dl + further_on f cl 0))
-    when f e = by_daemons ∙ ap (λ (f : Found). looked_for (on_found f (included cf cs) Found.No) (capped (dl + further_on f cl 0))) e
+    when_found : (f : Found) → x.found ≡ f → rule_looked_lem ≡ looked_for (on_found f (included cf cs) Found.No) (capped (dl + further_on f cl 0))
+    when_found f e = by_daemons ∙ ap (λ (f : Found). looked_for (on_found f (included cf cs) Found.No) (capped (dl + further_on f cl 0))) e
 
     itself : (f : Found) → x.found ≡ f → x ≡ looked_for f (capped (dl + 0))
     itself f e = let z : dl ≡ dl + 0 = omega arith in by x e (daemons_looked ∙ ap capped z)
@@ -220,17 +220,17 @@ module _ (v : View) (q : Request) (ds cs : List (List ℕ)) (k : List ℕ) where
         by x e h = ap₂ looked_for e h
 
     pub finds_no : x.found ≡ Found.No → x ≡ rule_looked_lem
-    finds_no e = itself Found.No e ∙ sym (when Found.No e)
+    finds_no e = itself Found.No e ∙ sym (when_found Found.No e)
 
     pub finds_ask : x.found ≡ Found.Ask → x ≡ rule_looked_lem
-    finds_ask e = itself Found.Ask e ∙ sym (when Found.Ask e)
+    finds_ask e = itself Found.Ask e ∙ sym (when_found Found.Ask e)
 
     pub finds_yes : x.found ≡ Found.Yes → (y : Looked) → y ≡ list_looked cf (client_counts v) cs → (r : Looked) → r ≡ looked_more x.looked y → r ≡ rule_looked_lem
     unfolding list_looked
     finds_yes e y is_y r is-r =
         is-r ∙ ap₂ looked_more daemons_looked is_y
         ∙ ap (looked_for (included cf cs)) (capped_left dl (capped cl) ∙ capped_add dl cl)
-        ∙ sym (when Found.Yes e)
+        ∙ sym (when_found Found.Yes e)
 
 -- the rule of an entry, by its parts of the sheet
 module _ (v : View) (q : Request) (sheet : List ℕ) (e : Entry) (d : List ℕ) (is_d : d ≡ between e.daemons sheet) (x : Looked)
@@ -275,15 +275,15 @@ module _ (sheet : List ℕ) (e : Entry) (p : ℕ) (is-p : p ≡ command_start e)
   text_is : u ≡ command_text sheet e
   text_is = is-u ∙ ap (λ (k : ℕ). between (range k e.rule.end) sheet) is-p
 
-  command_is : part p (if b then 0 else length u) ≡ entry_command sheet e
+  command_is : part p (when b then 0 else length u) ≡ entry_command sheet e
   unfolding entry_command
   command_is = rw (is_b, text_is, is-p)
 
   pub command_blank : b ≡ true → part p 0 ≡ entry_command sheet e
-  command_blank h = ap (λ (c : Bool). part p (if c then 0 else length u)) (sym h) ∙ command_is
+  command_blank h = ap (λ (c : Bool). part p (when c then 0 else length u)) (sym h) ∙ command_is
 
   pub command_full : b ≡ false → part p (length u) ≡ entry_command sheet e
-  command_full h = ap (λ (c : Bool). part p (if c then 0 else length u)) (sym h) ∙ command_is
+  command_full h = ap (λ (c : Bool). part p (when c then 0 else length u)) (sym h) ∙ command_is
 
 module _ (sheet : List ℕ) (base : ℕ) (v : Verdict) (f : File) (e : Entry) (x : Found) where
   pub answers_no : x ≡ Found.No → S.Nothing ≡ sought_of (rule_answer_at sheet base v f e x)
@@ -375,7 +375,7 @@ module _ (sheet : List ℕ) (base : ℕ) (v : Verdict) (f : File) (q : Query) wh
       unfolding first
       finds_on = w.finds ∙ ap (first ans) cut_left.1.1
 
-      counts_on : capped (upto whole) ≡ capped (k + (entry_looked sheet q head + (if is_some (ans head) then 0 else upto others)))
+      counts_on : capped (upto whole) ≡ capped (k + (entry_looked sheet q head + (when is_some (ans head) then 0 else upto others)))
       unfolding sum_until
       counts_on = w.counts ∙ ap (λ (es : List Entry). capped (k + upto es)) cut_left.1.1
 
@@ -406,7 +406,7 @@ module _ (sheet : List ℕ) (base : ℕ) (v : Verdict) (f : File) (q : Query) wh
             let z : k + (entry_looked sheet q head + 0) ≡ k + entry_looked sheet q head = omega arith in
             sym (ap₂ seeking
             (finds_on ∙ ap (λ (u : Option Answer). u or_else first ans others) s)
-            (counts_on ∙ ap (λ (u : Option Answer). capped (k + (entry_looked sheet q head + (if is_some u then 0 else upto others)))) s
+            (counts_on ∙ ap (λ (u : Option Answer). capped (k + (entry_looked sheet q head + (when is_some u then 0 else upto others)))) s
             ∙ ap capped z ∙ sym (capped_add k (entry_looked sheet q head)) ∙ sym looked_here))
 
         pub seeks_more : o ≡ S.Nothing → Seeks whole (take (length rest - 32) (drop 32 rest)) n
@@ -419,7 +419,7 @@ module _ (sheet : List ℕ) (base : ℕ) (v : Verdict) (f : File) (q : Query) wh
               finds = finds_on ∙ ap (λ (u : Option Answer). u or_else first ans others) s;
               fits = rw is-n (capped_lt (k + x.looked));
               counts =
-                  counts_on ∙ ap (λ (u : Option Answer). capped (k + (entry_looked sheet q head + (if is_some u then 0 else upto others)))) s
+                  counts_on ∙ ap (λ (u : Option Answer). capped (k + (entry_looked sheet q head + (when is_some u then 0 else upto others)))) s
                   ∙ sym (ap (λ (m : ℕ). capped (m + upto others)) looked_here ∙ capped_then k (entry_looked sheet q head) (upto others));
             }
 

@@ -13,7 +13,7 @@ use borrow.Author.Tests.{eqb-false, ne_eqb}
 use lib.Dec.{eqb}
 use lib.ListN.{length, drop, get_or, drop_of_length-le}
 use lib.Seq.{drop-cons}
-use Rattle.text.specs.Basics.{if◌then◌else◌, ◌>>=◌, ◌or_else◌, given, any, all}
+use Rattle.text.specs.Basics.{when◌then◌else◌, ◌>>=◌, ◌or_else◌, given, any, all}
 use Rattle.text.specs.Text.{bytes, among, first_among, equal, split_once, split, equal_fold, is_word}
 use Rattle.text.proofs.BasicLaws.{and_true, or_false}
 use Rattle.text.proofs.ScanLaws.{equal_fold_lengths}

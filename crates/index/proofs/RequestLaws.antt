@@ -14,7 +14,7 @@ use borrow.Author.Tests.{leb-true, leb-false, ltb-true, ltb-false, le-leb, lt-le
 use lib.Dec.{leb, ltb}
 use lib.ListN.{length, take, drop, get_or, length-drop, drop_of_length-le}
 use lib.Seq.{drop-cons, drop-drop, get_or-drop, take-take}
-use Rattle.text.specs.Basics.{if◌then◌else◌, ◌>>=◌, given}
+use Rattle.text.specs.Basics.{when◌then◌else◌, ◌>>=◌, given}
 use Rattle.text.specs.Number.{from_digits}
 use Rattle.text.proofs.ScanLaws.{take_rest}
 use Rattle.section.specs.declared.Part.{Part}
@@ -115,14 +115,14 @@ text_placed s at = by (leb (length s) at) refl
   where
     -- the count, and the text after it
     second : at < length s → (b : Bool) → leb (length s - at) (get_or s at 0) ≡ b
-        → cut (number_at 0 1 (take 1 (drop at s))) (drop 1 (drop at s)) ≡ text_by s (if b then none else some (part (at + 1) (get_or s at 0)))
+        → cut (number_at 0 1 (take 1 (drop at s))) (drop 1 (drop at s)) ≡ text_by s (when b then none else some (part (at + 1) (get_or s at 0)))
     second h b e =
         let n : number_at 0 1 (take 1 (drop at s)) ≡ get_or s at 0 = ap (from_digits 256 0) (take-take 1 1 (drop at s) (omega arith)) ∙ one_byte s at h in
         let l : length (drop (at + 1) s) ≡ length s - (at + 1) = length-drop (at + 1) s in
         ap₂ (λ (k : ℕ) (t : List ℕ). cut k t) n (drop-drop 1 at s) ∙ tell b e
       where
         tell : (b : Bool) → leb (length s - at) (get_or s at 0) ≡ b → cut (get_or s at 0) (drop (at + 1) s)
-            ≡ text_by s (if b then none else some (part (at + 1) (get_or s at 0)))
+            ≡ text_by s (when b then none else some (part (at + 1) (get_or s at 0)))
         tell true e =
             let k : length s - at ≤ get_or s at 0 = leb-true (length s - at) (get_or s at 0) e in
             rw (lt-leb (get_or s at 0) (length (drop (at + 1) s)) (omega (arith, length-drop (at + 1) s)))
@@ -133,7 +133,7 @@ text_placed s at = by (leb (length s) at) refl
 
     by : (b : Bool) → leb (length s) at ≡ b
         → (cut 1 (drop at s) >>= λ n. cut (number_at 0 1 n.0) n.1)
-        ≡ text_by s (if b then none else if leb (length s - at) (get_or s at 0) then none else some (part (at + 1) (get_or s at 0)))
+        ≡ text_by s (when b then none else when leb (length s - at) (get_or s at 0) then none else some (part (at + 1) (get_or s at 0)))
     by true e =
         let k : length s ≤ at = leb-true (length s) at e in
         rw (lt-leb 1 (length (drop at s)) (omega (arith, length-drop at s)))
@@ -146,7 +146,7 @@ unfolding text_at
 text_within s at p e = by (leb (length s) at) (leb (length s - at) (get_or s at 0)) refl refl e
   where
     by : (b c : Bool) → leb (length s) at ≡ b → leb (length s - at) (get_or s at 0) ≡ c
-        → (if b then none else if c then none else some (part (at + 1) (get_or s at 0))) ≡ some p → (at < part_end p) × (part_end p ≤ length s)
+        → (when b then none else when c then none else some (part (at + 1) (get_or s at 0))) ≡ some p → (at < part_end p) × (part_end p ≤ length s)
     by true c f g k = let z : ◌≡◌ {A = ℕ} 0 1 = cc k in absurd (omega arith)
     by false true f g k = let z : ◌≡◌ {A = ℕ} 0 1 = cc k in absurd (omega arith)
     by false false f g k =
@@ -228,7 +228,7 @@ host_placed_lem s at h = by (ltb (length s - at) 18) refl
     by : (b : Bool) → ltb (length s - at) 18 ≡ b
         → (cut 18 (drop at s) >>= λ h. read_text h.1 >>= λ name. some
         ((host_numbers (number_at 0 1 h.0) (number_at 1 1 h.0) (number_at 2 8 h.0) (number_at 10 8 h.0), name.0), name.1))
-        ≡ host_placed s (if b then none else (text_at (at + 18) s >>= λ name. some (host_fields (numbers_at at s) name)))
+        ≡ host_placed s (when b then none else (text_at (at + 18) s >>= λ name. some (host_fields (numbers_at at s) name)))
     by true e =
         let k : length s - at < 18 = ltb-true (length s - at) 18 e in
         rw (lt-leb 18 (length (drop at s)) (omega (arith, length-drop at s)))
@@ -242,7 +242,7 @@ unfolding host_at
 host_within s at h e = by (ltb (length s - at) 18) (text_at (at + 18) s) refl e
   where
     by : (b : Bool) (o : Option Part) → text_at (at + 18) s ≡ o
-        → (if b then none else (o >>= λ name. some (host_fields (numbers_at at s) name))) ≡ some h → part_end h.name ≤ length s
+        → (when b then none else (o >>= λ name. some (host_fields (numbers_at at s) name))) ≡ some h → part_end h.name ≤ length s
     by true o f k = let z : ◌≡◌ {A = ℕ} 0 1 = cc k in absurd (omega arith)
     by false none f k = let z : ◌≡◌ {A = ℕ} 0 1 = cc k in absurd (omega arith)
     by false (some p) f k =
@@ -350,7 +350,7 @@ module _ (t : List ℕ) where
       by : (b : Bool) → leb (length t) (part_end s.name) ≡ b
           → (cut 1 (drop (part_end s.name) t) >>= λ u. read_text u.1 >>= λ n.
           some (request_numbers (bytes_at t d) c.numbers (bytes_at t c.name) s.numbers (bytes_at t s.name) (number_at 0 1 u.0) n.0, n.1))
-          ≡ request_by t (if b then none else (text_at (part_end s.name + 1) t >>= λ name. some (fields_of d c s (get_or t (part_end s.name) 0) name)))
+          ≡ request_by t (when b then none else (text_at (part_end s.name + 1) t >>= λ name. some (fields_of d c s (get_or t (part_end s.name) 0) name)))
       by true e =
           let k : length t ≤ part_end s.name = leb-true (length t) (part_end s.name) e in
           rw (lt-leb 1 (length (drop (part_end s.name) t)) (omega (arith, length-drop (part_end s.name) t)))
@@ -394,7 +394,7 @@ module _ (t : List ℕ) where
   user_ends d c s f e = by (leb (length t) (part_end s.name)) (text_at (part_end s.name + 1) t) refl e
     where
       by : (b : Bool) (o : Option Part) → text_at (part_end s.name + 1) t ≡ o
-          → (if b then none else (o >>= λ name. some (fields_of d c s (get_or t (part_end s.name) 0) name))) ≡ some f → (0 < f.end) × (f.end ≤ length t)
+          → (when b then none else (o >>= λ name. some (fields_of d c s (get_or t (part_end s.name) 0) name))) ≡ some f → (0 < f.end) × (f.end ≤ length t)
       by true o g k = let z : ◌≡◌ {A = ℕ} 0 1 = cc k in absurd (omega arith)
       by false none g k = let z : ◌≡◌ {A = ℕ} 0 1 = cc k in absurd (omega arith)
       by false (some p) g k =

@@ -14,7 +14,7 @@ use borrow.Author.Tests.{ltb-false, lt-ltb, le-ltb}
 use lib.Dec.{ltb}
 use lib.ListN.{length, take, drop, length-append}
 use lib.Seq.{take_at, drop_at, drop-drop}
-use Rattle.text.specs.Basics.{if◌then◌else◌, ◌>>=◌, ◌or_else◌, given, is_some, first, sum_until}
+use Rattle.text.specs.Basics.{when◌then◌else◌, ◌>>=◌, ◌or_else◌, given, is_some, first, sum_until}
 use Rattle.text.specs.Text.{equal}
 use Rattle.text.specs.Number.{to_digits}
 use Rattle.text.specs.Scan.{after}
@@ -187,7 +187,7 @@ module _ (sheet : List ℕ) (p : Parts) (ok : unpack sheet ≡ answered p) where
       where
         by : (x y : Option Answer) → of_allow_lem ≡ x → of_deny_lem ≡ y → (n m : ℕ)
             → seek_then (sought_of (in_file p.allow.place x)) (capped n) (seeking (in_file p.deny.place y) (capped m))
-            ≡ searched (in_sheet p (get_or (x or_else y) end)) (capped (n + (if is_some x then 0 else m)))
+            ≡ searched (in_sheet p (get_or (x or_else y) end)) (capped (n + (when is_some x then 0 else m)))
         by (some a) y e f n m =
             let z : n ≡ n + 0 = omega arith in
             ap₂ (λ (b : Answer) (k : ℕ). searched b (capped k)) (place_of Allow p.allow.place refl a (text_within Ver.Granted Allow g al a e).file) z

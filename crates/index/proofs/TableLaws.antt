@@ -13,7 +13,7 @@ use borrow.Author.Tests.{eqb-true, ltb-true, ltb-false, eq-eqb, ne_eqb}
 use lib.Dec.{eqb, ltb}
 use lib.ListN.{length, take, drop, length-append, length-drop, drop_of_length-le}
 use lib.Seq.{paste-zero, length-take-le, take-length}
-use Rattle.text.specs.Basics.{if◌then◌else◌, ◌>>=◌, given, all}
+use Rattle.text.specs.Basics.{when◌then◌else◌, ◌>>=◌, given, all}
 use Rattle.text.specs.Text.{among, first_among, equal, split}
 use Rattle.text.specs.Number.{to_digits}
 use Rattle.text.specs.Scan.{put_at}
@@ -40,7 +40,7 @@ separator_index_le inside [] = omega arith
 separator_index_le inside (x ∷ t) = by (is_separator inside x) (separator_index_le (inside_after inside x) t)
   where
     by : (b : Bool) → separator_index (inside_after inside x) t ≤ length t
-        → (if b then 0 else suc (separator_index (inside_after inside x) t)) ≤ suc (length t)
+        → (when b then 0 else suc (separator_index (inside_after inside x) t)) ≤ suc (length t)
     by true h = omega arith
     by false h = omega arith
 
@@ -83,8 +83,8 @@ module _ (base n i : ℕ) (raw : List ℕ) (b : Bool) (j : ℕ) (dropped : lengt
   entry_of_line = by (first_among "#" (join raw)) (all (among " \t") (join raw)) (ltb sep (length raw)) refl
     where
       by : (c d s : Bool) → ltb sep (length raw) ≡ s
-          → (if c || d then none else (split_separator false raw >>= λ p. some (parted_entry p)))
-          ≡ given (if c then false else if d then false else s) (entry_by raw (base + i) n j)
+          → (when c || d then none else (split_separator false raw >>= λ p. some (parted_entry p)))
+          ≡ given (when c then false else when d then false else s) (entry_by raw (base + i) n j)
       by true d s e = refl
       by false true s e = refl
       by false false true e =
@@ -185,7 +185,7 @@ pub length_line_bytes : (x : LineEntry) → length (line_bytes x) ≡ 32 * rules
 unfolding line_bytes rules_in
 length_line_bytes x = by x.ruled
   where
-    by : (b : Bool) → length (if b then entry_bytes x.entry else []) ≡ 32 * (if b then 1 else 0)
+    by : (b : Bool) → length (when b then entry_bytes x.entry else []) ≡ 32 * (when b then 1 else 0)
     by true = length_entry x.entry
     by false = refl
 
@@ -214,7 +214,7 @@ module _ (base : ℕ) (t : List ℕ) (i n : ℕ) (h : i < length t) (x : LineEnt
   length_more = ap length table_more ∙ by x.ruled
     where
       by : (b : Bool) → length (with_entry (given b x.entry) (table_from base t x.next x.number))
-          ≡ (if b then 1 else 0) + length (table_from base t x.next x.number)
+          ≡ (when b then 1 else 0) + length (table_from base t x.next x.number)
       by true = omega arith
       by false = omega arith
 
@@ -223,7 +223,7 @@ module _ (base : ℕ) (t : List ℕ) (i n : ℕ) (h : i < length t) (x : LineEnt
   bytes_more = ap table_bytes table_more ∙ by x.ruled
     where
       by : (b : Bool) → table_bytes (with_entry (given b x.entry) (table_from base t x.next x.number))
-          ≡ (if b then entry_bytes x.entry else []) ++ table_bytes (table_from base t x.next x.number)
+          ≡ (when b then entry_bytes x.entry else []) ++ table_bytes (table_from base t x.next x.number)
       by true = refl
       by false = refl
 
@@ -252,7 +252,7 @@ rules_few : (x : LineEntry) → rules_in x ≤ 1
 unfolding rules_in
 rules_few x = by x.ruled
   where
-    by : (b : Bool) → (if b then 1 else 0) ≤ 1
+    by : (b : Bool) → (when b then 1 else 0) ≤ 1
     by true = omega arith
     by false = omega arith
 

@@ -14,7 +14,7 @@ use borrow.Author.Tests.{eqb-true, eqb-false, ltb-true, ltb-false, lt-ltb, le-lt
 use lib.Dec.{eqb, ltb}
 use lib.ListN.{length, take, drop, length-drop, drop_of_length-le}
 use lib.Seq.{length-take-le, take_all, drop-drop}
-use Rattle.text.specs.Basics.{if◌then◌else◌, ◌>>=◌, ◌or_else◌, given, is_some, is_empty, all, first, sum_until}
+use Rattle.text.specs.Basics.{when◌then◌else◌, ◌>>=◌, ◌or_else◌, given, is_some, is_empty, all, first, sum_until}
 use Rattle.text.specs.Text.{among, first_among, split}
 use Rattle.text.proofs.ScanLaws.{take_rest}
 use Rattle.section.specs.declared.Fault.{Fault}
@@ -171,7 +171,7 @@ short_line x e =
     (lowest_none (not x.ended) (not (is_comment x) && has_bad_byte (join x.raw)) (is_too_long (join x.raw))
     (none_both
     (lowest ((F.Unended, not x.ended) ∷ (F.BadByte, not (is_comment x) && has_bad_byte (join x.raw)) ∷ (F.LongLine, is_too_long (join x.raw)) ∷ []))
-    (if is_comment x || is_blank x then none else rule_fault (parse_rule x.raw)) e).0)
+    (when is_comment x || is_blank x then none else rule_fault (parse_rule x.raw)) e).0)
 
 -- ## The rule at the places of an entry
 
@@ -263,9 +263,9 @@ module _ (sheet : List ℕ) (p : Part) (inside : p.place + p.len ≤ length shee
       command_both = by (ltb (base + i + sep + 1 + second) (base + i + length raw)) refl
         where
           by : (b : Bool) → ltb (base + i + sep + 1 + second) (base + i + length raw) ≡ b
-              → (take (base + i + length raw - (if b then base + i + sep + 1 + second + 1 else base + i + length raw))
-              (drop (if b then base + i + sep + 1 + second + 1 else base + i + length raw) sheet) ≡ drop (second + 1) rest)
-              × ((if b then base + i + sep + 1 + second + 1 else base + i + length raw) ≡ base + (i + (length raw - length (drop (second + 1) rest))))
+              → (take (base + i + length raw - (when b then base + i + sep + 1 + second + 1 else base + i + length raw))
+              (drop (when b then base + i + sep + 1 + second + 1 else base + i + length raw) sheet) ≡ drop (second + 1) rest)
+              × ((when b then base + i + sep + 1 + second + 1 else base + i + length raw) ≡ base + (i + (length raw - length (drop (second + 1) rest))))
           by true k =
               let lt : base + i + sep + 1 + second < base + i + length raw = ltb-true (base + i + sep + 1 + second) (base + i + length raw) k in
               let d : drop (second + 1) rest ≡ drop (sep + 1 + (second + 1)) raw = drop-drop (second + 1) (sep + 1) raw in
@@ -292,7 +292,7 @@ module _ (sheet : List ℕ) (p : Part) (inside : p.place + p.len ≤ length shee
       list_is s plain short = elements_words s ∙ by (eqb n (n + l.joins)) refl
         where
           by : (b : Bool) → eqb n (n + l.joins) ≡ b
-              → words (join s) ≡ words (if not b then (if ltb 2048 (length (join s)) then [] else join s) else s)
+              → words (join s) ≡ words (when not b then (when ltb 2048 (length (join s)) then [] else join s) else s)
           by true k = ap words (plain (omega (arith, eqb-true n (n + l.joins) k)))
           by false k = rw (le-ltb 2048 (length (join s)) (omega arith))
 
@@ -315,7 +315,7 @@ module _ (sheet : List ℕ) (p : Part) (inside : p.place + p.len ≤ length shee
         answer_same Found.Ask = let z : base ≡ base + 0 = omega arith in ap (λ (k : ℕ). some (answer Ver.Ask f n (part k 0))) z
         answer_same Found.Yes =
             let c : List ℕ = command_text sheet e in
-            ap₂ (λ (k : ℕ) (w : Bool). some (answer v f n (part k (if w then 0 else length c))))
+            ap₂ (λ (k : ℕ) (w : Bool). some (answer v f n (part k (when w then 0 else length c))))
             (command_both.1 ∙ ap (λ (s : List ℕ). base + (i + (length raw - length s))) (sym command_both.0))
             (sym (is_empty_trimmed c))
 
@@ -332,7 +332,7 @@ module _ (sheet : List ℕ) (p : Part) (inside : p.place + p.len ≤ length shee
       unfolding has_rule
       ruled_line = by (first_among "#" (join raw)) (all (among " \t") (join raw)) (ltb sep (length raw)) refl
         where
-          by : (c d s : Bool) → ltb sep (length raw) ≡ s → (if c then false else if d then false else s) ≡ true → ((c || d) ≡ false) × (sep < length raw)
+          by : (c d s : Bool) → ltb sep (length raw) ≡ s → (when c then false else when d then false else s) ≡ true → ((c || d) ≡ false) × (sep < length raw)
           by true d s k e = absurd (true≢false (sym e))
           by false true s k e = absurd (true≢false (sym e))
           by false false s k e = (refl, ltb-true sep (length raw) (k ∙ e))
@@ -341,9 +341,9 @@ module _ (sheet : List ℕ) (p : Part) (inside : p.place + p.len ≤ length shee
       unfolding has_rule line_answer line_count
       unruled_line = by (first_among "#" (join raw)) (all (among " \t") (join raw)) (ltb sep (length raw)) refl
         where
-          by : (c d s : Bool) → ltb sep (length raw) ≡ s → (if c then false else if d then false else s) ≡ false
-              → ((if c || d then none else (parse_rule raw >>= λ u. rule_answer v f here u (query_found q u))) ≡ none)
-              × ((if c || d then 0 else of_rule (query_looked q) (parse_rule raw)) ≡ 0)
+          by : (c d s : Bool) → ltb sep (length raw) ≡ s → (when c then false else when d then false else s) ≡ false
+              → ((when c || d then none else (parse_rule raw >>= λ u. rule_answer v f here u (query_found q u))) ≡ none)
+              × ((when c || d then 0 else of_rule (query_looked q) (parse_rule raw)) ≡ 0)
           by true d s k e = (refl, refl)
           by false true s k e = (refl, refl)
           by false false s k e =
@@ -396,7 +396,7 @@ module _ (sheet : List ℕ) (p : Part) (inside : p.place + p.len ≤ length shee
       same_ruled e en an co = record {
         answers = rw en (ap₂ ◌or_else◌ an s.answers ∙ sym (in_file_or_else base (lin x) (first lin ls)));
         counts = rw (en, co)
-            (ap₂ (λ (b : Bool) (k : ℕ). line_count (query_looked q) x + (if b then 0 else k)) (ap (λ (o : Option Answer). is_some o) an ∙ in_file_some base (lin x))
+            (ap₂ (λ (b : Bool) (k : ℕ). line_count (query_looked q) x + (when b then 0 else k)) (ap (λ (o : Option Answer). is_some o) an ∙ in_file_some base (lin x))
             s.counts);
       }
 

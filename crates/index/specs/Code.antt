@@ -10,7 +10,7 @@
 -- Assumes nothing: these are definitions.
 use Rattle.std.specs.Prelude.{ℕ, ◌+◌, ◌-◌, ◌≤◌, ◌<◌, Bool, true, false, not, ◌&&◌, ◌||◌, List, [], ◌∷◌, ◌≡◌, length, take, drop, get_or, eqb, leb, ltb}
 use Rattle.std.proofs.Math.Option.{Option, none, some}
-use Rattle.text.specs.Basics.{if◌then◌else◌, ◌>>=◌, is_some, all, first, sum_until}
+use Rattle.text.specs.Basics.{when◌then◌else◌, ◌>>=◌, is_some, all, first, sum_until}
 use Rattle.text.specs.Text.{among, first_among, split, equal_fold}
 use Rattle.section.specs.declared.Part.{Part}
 use Rattle.section.specs.declared.Fault.TheVariants as F
@@ -70,8 +70,8 @@ use Rattle.index.specs.Index.{range, rule_table, rules_at, entry_bytes, table_by
 
 unfoldable pub has_rule : List ℕ → Bool
 has_rule raw =
-    if first_among "#" (join raw) then false
-    else if all (among " \t") (join raw) then false
+    when first_among "#" (join raw) then false
+    else when all (among " \t") (join raw) then false
     else ltb (separator_index false raw) (length raw)
 
 unfoldable pub entry_by : List ℕ → ℕ → ℕ → ℕ → Entry
@@ -96,10 +96,10 @@ unfoldable pub table_from : ℕ → List ℕ → ℕ → ℕ → List Entry
 table_from base t i n = rule_table base (logical_lines n i (split "\n" (drop i t)))
 
 unfoldable pub rules_in : LineEntry → ℕ
-rules_in x = if x.ruled then 1 else 0
+rules_in x = when x.ruled then 1 else 0
 
 unfoldable pub line_bytes : LineEntry → List ℕ
-line_bytes x = if x.ruled then entry_bytes x.entry else []
+line_bytes x = when x.ruled then entry_bytes x.entry else []
 
 -- ## The entries of an index
 
@@ -137,10 +137,10 @@ unfoldable pub between : Range → List ℕ → List ℕ
 between r t = take (r.end - r.start) (drop r.start t)
 
 unfoldable pub joined_list : List ℕ → List ℕ
-joined_list s = if ltb 2048 (length (join s)) then [] else join s
+joined_list s = when ltb 2048 (length (join s)) then [] else join s
 
 unfoldable pub list_at : Bool → List ℕ → List (List ℕ)
-list_at joins s = words (if joins then joined_list s else s)
+list_at joins s = words (when joins then joined_list s else s)
 
 -- a byte that parts neither elements nor the halves of one, and begins no table's name
 abbrev pub is_whole : ℕ → Bool
@@ -152,14 +152,14 @@ is_other s d = all is_whole s && (not ((eqb (length s) 0 || eqb (length s) 3) ||
 
 -- after the separator that ends the client list, or at the end
 unfoldable pub command_start : Entry → ℕ
-command_start e = if ltb e.clients.end e.rule.end then e.clients.end + 1 else e.rule.end
+command_start e = when ltb e.clients.end e.rule.end then e.clients.end + 1 else e.rule.end
 
 abbrev pub command_text : List ℕ → Entry → List ℕ
 command_text sheet e = between (range (command_start e) e.rule.end) sheet
 
 unfoldable pub entry_command : List ℕ → Entry → Part
 entry_command sheet e =
-    part (command_start e) (if all (among " \t") (join (command_text sheet e)) then 0 else length (command_text sheet e))
+    part (command_start e) (when all (among " \t") (join (command_text sheet e)) then 0 else length (command_text sheet e))
 
 -- pairs are dropped from the rule
 abbrev pub joins_in : Entry → Bool
@@ -230,8 +230,8 @@ pub record Ready (sheet : List ℕ) (p : Parts) (allow deny : List ℕ) : Type 0
 
 unfoldable pub text_at : ℕ → List ℕ → Option Part
 text_at at t =
-    if leb (length t) at then none
-    else if leb (length t - at) (get_or t at 0) then none
+    when leb (length t) at then none
+    else when leb (length t - at) (get_or t at 0) then none
     else some (part (at + 1) (get_or t at 0))
 
 abbrev pub text_read_of : Option Part → TextRead
@@ -245,7 +245,7 @@ abbrev pub host_fields : HostNumbers → Part → HostFields
 host_fields n p = record { numbers = n; name = p }
 
 unfoldable pub host_at : ℕ → List ℕ → Option HostFields
-host_at at t = if ltb (length t - at) 18 then none else (text_at (at + 18) t >>= λ name. some (host_fields (numbers_at at t) name))
+host_at at t = when ltb (length t - at) 18 then none else (text_at (at + 18) t >>= λ name. some (host_fields (numbers_at at t) name))
 
 abbrev pub host_read_of : Option HostFields → HostRead
 host_read_of none = H.Cut
@@ -256,7 +256,7 @@ fields_of d c s u n = record { daemon = d; client = c; server = s; user = u; use
 
 unfoldable pub user_from : Part → HostFields → HostFields → List ℕ → Option Fields
 user_from d c s t =
-    if leb (length t) (part_end s.name) then none
+    when leb (length t) (part_end s.name) then none
     else (text_at (part_end s.name + 1) t >>= λ name. some (fields_of d c s (get_or t (part_end s.name) 0) name))
 
 unfoldable pub hosts_from : Part → List ℕ → Option Fields

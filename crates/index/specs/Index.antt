@@ -8,7 +8,7 @@
 -- Assumes nothing: these are definitions.
 use Rattle.std.specs.Prelude.{ℕ, zero, suc, ◌+◌, ◌-◌, ◌/◌, Bool, false, not, ◌||◌, List, [], ◌∷◌, ◌++◌, length, take, drop, leb}
 use Rattle.std.proofs.Math.Option.{Option, none, some, get_or}
-use Rattle.text.specs.Basics.{if◌then◌else◌, ◌>>=◌, given}
+use Rattle.text.specs.Basics.{when◌then◌else◌, ◌>>=◌, given}
 use Rattle.text.specs.Text.{equal}
 use Rattle.text.specs.Number.{from_digits, to_digits}
 use Rattle.section.specs.declared.Fault.TheVariants as F
@@ -39,7 +39,7 @@ dropped_pairs raw = (length raw - length (join raw)) / 2
 -- "where each rule and its lists begin and end": its first and last physical line; then, as places in the sheet, where the rule, its
 -- daemon list and its client list begin, and the place after each. base: the place of the text in the sheet.
 unfoldable pub rule_entry : ℕ → Line → Option Entry
-rule_entry base l = if is_comment l || is_blank l then none else do
+rule_entry base l = when is_comment l || is_blank l then none else do
   p ← split_separator false l.raw
   let start = base + l.place
   let clients = start + length p.0 + 1

@@ -18,7 +18,7 @@ use lib.Dec.{eqb, ltb, leb}
 use lib.ListN.{length, take, drop, get_or, set, length-append, length-drop, length-set, take-append-drop}
 use lib.ListN.{get_or-eq_default, drop_of_length-le}
 use lib.Seq.{drop-cons, append_snoc, get_or-drop, length-take-le, take-suc-set, drop-set-lt, drop-drop}
-use Rattle.text.specs.Basics.{if◌then◌else◌, any, all, first, ◌or_else◌}
+use Rattle.text.specs.Basics.{when◌then◌else◌, any, all, first, ◌or_else◌}
 use Rattle.text.specs.Text.{among, first_among, last_among, split, cons_head}
 use Rattle.text.proofs.BasicLaws.{and_true, all_take, all_drop}
 use Rattle.lines.specs.Line.{join, Line, line, continued, logical_lines, lines, has_bad_byte}
@@ -282,7 +282,7 @@ logical_lines_nil n at = refl
 logical_lines_newline : (n at : ℕ) (s t : List ℕ)
     → logical_lines n at (s ∷ split "\n" t)
     ≡ (let rest : List Line = logical_lines (n + 1) (at + length s + 1) (split "\n" t) in
-    if last_among "\\" s then continued n at s rest else line n at s true ∷ rest)
+    when last_among "\\" s then continued n at s rest else line n at s true ∷ rest)
 unfolding logical_lines
 logical_lines_newline n at s t = let v = split_some t in rw v.1.1
 

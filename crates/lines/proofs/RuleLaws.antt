@@ -12,7 +12,7 @@ use lib.Dec.{ltb, eqb, leb-suc-suc}
 use lib.ListN.{length, take, drop, get_or, length-drop, drop_of_length-le}
 use lib.Seq.{drop-cons, drop-drop, drop-length, take_all}
 use borrow.Author.Tests.{eqb-true, eqb-false, not-true, ltb-true, ltb-false, ne_eqb, lt-ltb, le-ltb}
-use Rattle.text.specs.Basics.{if◌then◌else◌, given, any}
+use Rattle.text.specs.Basics.{when◌then◌else◌, given, any}
 use Rattle.text.specs.Text.{among, split, cons_first}
 use Rattle.text.specs.Scan.{span_len, index_of}
 use Rattle.text.proofs.BasicLaws.{and_true}
@@ -91,8 +91,8 @@ split_separator_index inside [] = refl
 split_separator_index inside (x ∷ t) = by (is_separator inside x) (split_separator_index (inside_after inside x) t)
   where
     by : (b : Bool) → split_separator (inside_after inside x) t ≡ parted t (separator_index (inside_after inside x) t)
-        → (if b then some ([], t) else cons_first x (split_separator (inside_after inside x) t))
-        ≡ parted (x ∷ t) (if b then 0 else suc (separator_index (inside_after inside x) t))
+        → (when b then some ([], t) else cons_first x (split_separator (inside_after inside x) t))
+        ≡ parted (x ∷ t) (when b then 0 else suc (separator_index (inside_after inside x) t))
     by true ih = rw (lt-ltb 0 (suc (length t)) (omega arith))
     by false ih = rw ih (parted_suc x t (separator_index (inside_after inside x) t))
 
@@ -190,7 +190,7 @@ unfolding span_len
 span_len_le p [] = omega arith
 span_len_le p (x ∷ t) = by (p x) (span_len_le p t)
   where
-    by : (b : Bool) → span_len p t ≤ length t → (if b then suc (span_len p t) else 0) ≤ suc (length t)
+    by : (b : Bool) → span_len p t ≤ length t → (when b then suc (span_len p t) else 0) ≤ suc (length t)
     by true ih = omega arith
     by false ih = omega arith
 

@@ -6,7 +6,7 @@
 --   trim_blanks t            == t without the spaces and tabs at either end
 -- Assumes nothing: these are definitions.
 use Rattle.std.specs.Prelude.{ℕ, suc, ◌+◌, Bool, not, ◌&&◌, List, [], ◌∷◌, reverse, length, take, drop}
-use Rattle.text.specs.Basics.{if◌then◌else◌, any}
+use Rattle.text.specs.Basics.{when◌then◌else◌, any}
 use Rattle.text.specs.Text.{among, split}
 use Rattle.text.specs.Scan.{span_len}
 use Rattle.lines.specs.Rule.{non_empty}
@@ -20,11 +20,11 @@ abbrev pub is_separator : Bool → ℕ → Bool
 is_separator inside x = not inside && among ":" x
 
 abbrev pub inside_after : Bool → ℕ → Bool
-inside_after inside x = if inside then not (among "]" x) else among "[" x
+inside_after inside x = when inside then not (among "]" x) else among "[" x
 
 unfoldable pub separator_index : Bool → List ℕ → ℕ
 separator_index inside [] = 0
-separator_index inside (x ∷ t) = if is_separator inside x then 0 else suc (separator_index (inside_after inside x) t)
+separator_index inside (x ∷ t) = when is_separator inside x then 0 else suc (separator_index (inside_after inside x) t)
 
 -- what follows the separator at i; nothing where that is the end
 unfoldable pub after_separator : ℕ → List ℕ → List ℕ

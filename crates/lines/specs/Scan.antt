@@ -7,7 +7,7 @@
 --   pair_at t i      == a backslash stands in t at i, and a newline after it
 -- Assumes nothing: these are definitions.
 use Rattle.std.specs.Prelude.{ℕ, suc, ◌+◌, ◌-◌, ◌*◌, ◌≤◌, ◌<◌, Bool, true, false, not, ◌&&◌, ◌||◌, List, [], ◌∷◌, ◌≡◌, eqb, ltb, get_or}
-use Rattle.text.specs.Basics.{if◌then◌else◌}
+use Rattle.text.specs.Basics.{when◌then◌else◌}
 use Rattle.text.specs.Text.{in_range}
 use Rattle.lines.specs.declared.line.LineSpan.{LineSpan}
 
@@ -21,12 +21,12 @@ is_line_byte b = eqb b 9 || in_range 32 126 b
 -- the byte x, which does not end the line, before the rest of it; a newline is that of a dropped pair
 abbrev pub cons_byte : ℕ → LineSpan → LineSpan
 cons_byte x l =
-    if eqb x 10 then span (suc l.end) l.ended (suc l.joins) l.clean
+    when eqb x 10 then span (suc l.end) l.ended (suc l.joins) l.clean
     else span (suc l.end) l.ended l.joins (is_line_byte x && l.clean)
 
 unfoldable pub scan : Bool → List ℕ → LineSpan
 scan slash [] = span 0 false 0 true
-scan slash (x ∷ t) = if eqb x 10 && not slash then span 0 true 0 true else cons_byte x (scan (eqb x 92) t)
+scan slash (x ∷ t) = when eqb x 10 && not slash then span 0 true 0 true else cons_byte x (scan (eqb x 92) t)
 
 unfoldable pub scan_line : List ℕ → LineSpan
 scan_line t = scan false t

@@ -6,7 +6,7 @@ use mathlib.Core.List.{List, [], ◌∷◌}
 use mathlib.Core.Option.{Option, none, some}
 use mathlib.Core.Path.{◌≡◌, refl, sym, ap, ap₂, fun_ext, ◌∙◌}
 use lib.ListN.{length, take}
-use Rattle.text.specs.Basics.{if◌then◌else◌, ◌or_else◌, given, holds, is_some, any, all}
+use Rattle.text.specs.Basics.{when◌then◌else◌, ◌or_else◌, given, holds, is_some, any, all}
 use Rattle.section.specs.declared.Fault.TheVariants as F
 use Rattle.section.specs.Code.{first_holding}
 use Rattle.section.proofs.RefusalLaws.{rising, lowest_first}
@@ -224,7 +224,7 @@ lowest_checked false false false false false false false false false m m' n n' p
     rw ((h refl).0, (h refl).1, (k refl).0, (k refl).1) (by (p || p') (q || q'))
   where
     by : (y z : Bool) → checked_of (given y F.TableName or_else given z F.TooDeep)
-        ≡ (if y then C.Faulty F.TableName else if z then C.Faulty F.TooDeep else C.Sound)
+        ≡ (when y then C.Faulty F.TableName else when z then C.Faulty F.TooDeep else C.Sound)
     by true z = refl
     by false true = refl
     by false false = refl

@@ -8,7 +8,7 @@ use mathlib.Core.List.{List, [], ◌∷◌, map}
 use mathlib.Core.Path.{◌≡◌, refl, sym, ap, subst}
 use lib.Dec.{eqb}
 use borrow.Author.Tests.{eqb-true}
-use Rattle.text.specs.Basics.{if◌then◌else◌, is_some, any, all, first, is_empty}
+use Rattle.text.specs.Basics.{when◌then◌else◌, is_some, any, all, first, is_empty}
 use Rattle.text.specs.Text.{bytes, split_once, char_range, lower, equal, equal_fold}
 use Rattle.text.proofs.BasicLaws.{and_true}
 use Rattle.lines.specs.Rule.{is_except}
@@ -28,7 +28,7 @@ same_or_small : (x y : ℕ) → char_range "A" "Z" x ≡ true → lower x ≡ lo
 unfolding lower
 same_or_small x y e h P a b = by (char_range "A" "Z" y) (sym (rw e at h))
   where
-    by : (c : Bool) → (if c then y + 32 else y) ≡ x + 32 → P y
+    by : (c : Bool) → (when c then y + 32 else y) ≡ x + 32 → P y
     by true k = let z : x ≡ y = omega (arith, k) in subst P z a
     by false k = subst P (sym k) b
 
@@ -98,7 +98,7 @@ unfolding without_except all
 no_element [] = refl
 no_element (w ∷ ws) = by (is_except w) (no_element ws)
   where
-    by : (b : Bool) → is_empty (without_except ws) ≡ all is_except ws → is_empty (if b then without_except ws else w ∷ without_except ws) ≡ (b && all is_except ws)
+    by : (b : Bool) → is_empty (without_except ws) ≡ all is_except ws → is_empty (when b then without_except ws else w ∷ without_except ws) ≡ (b && all is_except ws)
     by true i = i
     by false i = refl
 
@@ -107,6 +107,6 @@ unfolding without_except any
 any_element p h [] = refl
 any_element p h (w ∷ ws) = by (is_except w) refl (any_element p h ws)
   where
-    by : (b : Bool) → is_except w ≡ b → any p (without_except ws) ≡ any p ws → any p (if b then without_except ws else w ∷ without_except ws) ≡ (p w || any p ws)
+    by : (b : Bool) → is_except w ≡ b → any p (without_except ws) ≡ any p ws → any p (when b then without_except ws else w ∷ without_except ws) ≡ (p w || any p ws)
     by true e i = rw (h w e) i
     by false e i = rw i

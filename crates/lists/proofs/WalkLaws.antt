@@ -10,7 +10,7 @@ use lib.Dec.{leb}
 use lib.ListN.{length, take, drop, length-drop, drop_of_length-le}
 use lib.Seq.{drop-drop, drop-length}
 use borrow.Author.Tests.{leb-true, leb-false, ne_eqb}
-use Rattle.text.specs.Basics.{if◌then◌else◌}
+use Rattle.text.specs.Basics.{when◌then◌else◌}
 use Rattle.text.specs.Text.{split}
 use Rattle.text.proofs.ScanLaws.{take_rest}
 use Rattle.address.specs.declared.Addr.{Addr}
@@ -185,8 +185,8 @@ module _ (m : List ℕ → Found) (c : List ℕ → ℕ) where
   rest_past (w ∷ ws) = by (is_except w) (rest_past ws)
     where
       by : (b : Bool) → rest_looked m c ws ≡ negated_looked (list_looked m c (past_except ws))
-          → looked_for (if b then on_found (included m ws) No Yes else excluded m ws) (capped (if b then looked_included m c ws else looked_excluded m c ws))
-          ≡ negated_looked (list_looked m c (if b then ws else past_except ws))
+          → looked_for (when b then on_found (included m ws) No Yes else excluded m ws) (capped (when b then looked_included m c ws else looked_excluded m c ws))
+          ≡ negated_looked (list_looked m c (when b then ws else past_except ws))
       by true i = refl
       by false i = i
 

@@ -5,7 +5,7 @@
 -- Assumes nothing: these are definitions.
 use Rattle.std.specs.Prelude.{ℕ, Bool, false, not, ◌&&◌, ◌||◌, List, [], ◌∷◌}
 use Rattle.std.proofs.Math.Option.{Option, none, some}
-use Rattle.text.specs.Basics.{if◌then◌else◌, holds, is_some, any, is_empty}
+use Rattle.text.specs.Basics.{when◌then◌else◌, holds, is_some, any, is_empty}
 use Rattle.section.specs.declared.Fault.{Fault}
 use Rattle.section.specs.declared.Fault.TheVariants as F
 use Rattle.section.specs.Refusal.{lowest}
@@ -16,7 +16,7 @@ use Rattle.elements.specs.Element.{Element, daemon_reserved, client_reserved, na
 -- the elements among the words of a list: "EXCEPT is none"
 unfoldable pub without_except : List (List ℕ) → List (List ℕ)
 without_except [] = []
-without_except (w ∷ ws) = if is_except w then without_except ws else w ∷ without_except ws
+without_except (w ∷ ws) = when is_except w then without_except ws else w ∷ without_except ws
 
 -- 7: "a list with no element (EXCEPT is none)"
 abbrev pub has_no_element : List (List ℕ) → Bool

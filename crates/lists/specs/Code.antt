@@ -7,7 +7,7 @@
 -- Assumes nothing: these are definitions.
 use Rattle.std.specs.Prelude.{ℕ, Bool, not, true, false, List, ◌≡◌, eqb}
 use Rattle.std.proofs.Math.Option.{Option, none, some}
-use Rattle.text.specs.Basics.{if◌then◌else◌, ◌or_else◌, given, all}
+use Rattle.text.specs.Basics.{when◌then◌else◌, ◌or_else◌, given, all}
 use Rattle.section.specs.declared.Fault.{Fault}
 use Rattle.section.specs.declared.Fault.TheVariants as F
 use Rattle.lines.specs.Rule.{Rule, parse_rule}

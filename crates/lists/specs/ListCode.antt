@@ -13,7 +13,7 @@
 --   looked_more n l           == l, and n elements that were looked at before it
 -- Assumes nothing: these are definitions.
 use Rattle.std.specs.Prelude.{ℕ, ◌+◌, Bool, true, false, not, ◌&&◌, ◌||◌, List, [], take}
-use Rattle.text.specs.Basics.{if◌then◌else◌, is_some, any, all}
+use Rattle.text.specs.Basics.{when◌then◌else◌, is_some, any, all}
 use Rattle.section.specs.declared.Fault.TheVariants as F
 use Rattle.lines.specs.Rule.{is_except}
 use Rattle.lines.specs.Parts.{separator_index, after_separator, words, trim_blanks, any_bad_percent}
@@ -108,17 +108,17 @@ list_end c after = checks c.empty (c.misplaced || not after) c.reserved c.unsoun
 
 unfoldable pub naming_fault_of : ListCheck → ListCheck → Checked
 naming_fault_of d c =
-    if d.missing || c.missing then C.Faulty F.TableName
-    else if d.deep || c.deep then C.Faulty F.TooDeep
+    when d.missing || c.missing then C.Faulty F.TableName
+    else when d.deep || c.deep then C.Faulty F.TooDeep
     else C.Sound
 
 unfoldable pub lowest_of : ListCheck → ListCheck → Bool → Checked
 lowest_of d c bad =
-    if d.empty || c.empty then C.Faulty F.NoElement
-    else if d.misplaced || c.misplaced then C.Faulty F.MisplacedExcept
-    else if d.reserved || c.reserved then C.Faulty F.ReservedStart
-    else if d.unsound || c.unsound then C.Faulty F.UnknownElement
-    else if bad then C.Faulty F.BadPercent
+    when d.empty || c.empty then C.Faulty F.NoElement
+    else when d.misplaced || c.misplaced then C.Faulty F.MisplacedExcept
+    else when d.reserved || c.reserved then C.Faulty F.ReservedStart
+    else when d.unsound || c.unsound then C.Faulty F.UnknownElement
+    else when bad then C.Faulty F.BadPercent
     else naming_fault_of d c
 
 -- the client list and the command, where s follows the first separator

@@ -4,7 +4,7 @@
 --   rule_elements u    == the elements of both lists of u
 -- Assumes nothing: these are definitions.
 use Rattle.std.specs.Prelude.{ℕ, ◌+◌, List, [], ◌∷◌}
-use Rattle.text.specs.Basics.{if◌then◌else◌, sum}
+use Rattle.text.specs.Basics.{when◌then◌else◌, sum}
 use Rattle.lines.specs.Rule.{Rule, is_except}
 use Rattle.tables.specs.Table.{Table, Matcher, match_of}
 use Rattle.tables.specs.Tried.{tried_of}
@@ -24,11 +24,11 @@ further_on Found.Ask matched missed = 0
 unfoldable mutual
   pub looked_included : (List ℕ → Found) → (List ℕ → ℕ) → List (List ℕ) → ℕ
   looked_included m c [] = 0
-  looked_included m c (w ∷ ws) = if is_except w then 0 else c w + further_on (m w) (looked_excluded m c ws) (looked_included m c ws)
+  looked_included m c (w ∷ ws) = when is_except w then 0 else c w + further_on (m w) (looked_excluded m c ws) (looked_included m c ws)
 
   pub looked_excluded : (List ℕ → Found) → (List ℕ → ℕ) → List (List ℕ) → ℕ
   looked_excluded m c [] = 0
-  looked_excluded m c (w ∷ ws) = if is_except w then looked_included m c ws else looked_excluded m c ws
+  looked_excluded m c (w ∷ ws) = when is_except w then looked_included m c ws else looked_excluded m c ws
 
 -- of a rule, where s and c say what a named table matches, of the server and of the client, and x and y what is tried in it
 unfoldable pub rule_looked_by : Matcher → Matcher → (List ℕ → ℕ) → (List ℕ → ℕ) → Request → Rule → ℕ
@@ -42,7 +42,7 @@ rule_looked ts r = rule_looked_by (match_of ts) (match_of ts) (λ n. tried_of ts
 
 -- "the elements in both files", of one rule; "EXCEPT is none"
 abbrev pub list_elements : List (List ℕ) → ℕ
-list_elements ws = sum (λ w. if is_except w then 0 else 1) ws
+list_elements ws = sum (λ w. when is_except w then 0 else 1) ws
 
 unfoldable pub rule_elements : Rule → ℕ
 rule_elements u = list_elements u.daemons + list_elements u.clients

@@ -9,7 +9,7 @@
 --                              looks at
 -- Assumes nothing: these are definitions.
 use Rattle.std.specs.Prelude.{ℕ, ◌+◌, Bool, true, false, not, List}
-use Rattle.text.specs.Basics.{if◌then◌else◌}
+use Rattle.text.specs.Basics.{when◌then◌else◌}
 use Rattle.lines.specs.Rule.{is_except, parse_rule}
 use Rattle.elements.specs.declared.Found.{Found}
 use Rattle.elements.specs.declared.Found.TheVariants as N
@@ -38,7 +38,7 @@ side_finds m S.Yes ws = N.Yes
 side_finds m S.Ask ws = N.Ask
 
 abbrev pub side_start : Bool → Side
-side_start search = if search then S.Looking else S.No
+side_start search = when search then S.Looking else S.No
 
 abbrev pub is_looking : Side → Bool
 is_looking S.Looking = true
@@ -82,7 +82,7 @@ side_turned m S.Ask ws = S.Ask
 
 -- after a word, which ws follows; x: whether it is EXCEPT, f: what it finds if it is looked at
 abbrev pub side_step : (List ℕ → Found) → Side → Bool → Found → List (List ℕ) → Side
-side_step m side x f ws = if x then side_turned m side ws else side_more side f
+side_step m side x f ws = when x then side_turned m side ws else side_more side f
 
 -- what is looked at: of the words that are left, of those after EXCEPT, and for one word that counts n
 abbrev pub side_looks : (List ℕ → Found) → (List ℕ → ℕ) → Side → List (List ℕ) → ℕ
@@ -100,7 +100,7 @@ turned_looks m c S.Yes ws = 0
 turned_looks m c S.Ask ws = 0
 
 abbrev pub step_looks : (List ℕ → Found) → (List ℕ → ℕ) → Side → Bool → ℕ → List (List ℕ) → ℕ
-step_looks m c side x n ws = if x then turned_looks m c side ws else n
+step_looks m c side x n ws = when x then turned_looks m c side ws else n
 
 abbrev pub turn : Side → ℕ → Turn
 turn side n = record { side = side; looked = n }

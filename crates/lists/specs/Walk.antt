@@ -3,7 +3,7 @@
 --   rule_found m r u == what the rule u finds of the request r, where m says what a named table matches
 -- Assumes nothing: these are definitions.
 use Rattle.std.specs.Prelude.{ℕ, List, [], ◌∷◌}
-use Rattle.text.specs.Basics.{if◌then◌else◌}
+use Rattle.text.specs.Basics.{when◌then◌else◌}
 use Rattle.lines.specs.Rule.{Rule, is_except}
 use Rattle.tables.specs.Table.{Matcher}
 use Rattle.elements.specs.declared.Found.{Found}
@@ -23,11 +23,11 @@ on_found Found.Ask matched missed = Found.Ask
 unfoldable mutual
   pub included : (List ℕ → Found) → List (List ℕ) → Found
   included m [] = Found.No
-  included m (w ∷ ws) = if is_except w then Found.No else on_found (m w) (excluded m ws) (included m ws)
+  included m (w ∷ ws) = when is_except w then Found.No else on_found (m w) (excluded m ws) (included m ws)
 
   pub excluded : (List ℕ → Found) → List (List ℕ) → Found
   excluded m [] = Found.Yes
-  excluded m (w ∷ ws) = if is_except w then on_found (included m ws) Found.No Found.Yes else excluded m ws
+  excluded m (w ∷ ws) = when is_except w then on_found (included m ws) Found.No Found.Yes else excluded m ws
 
 -- "A rule's client list is looked at only if its daemon list matched." s and c say what a named table matches: of the server, and of the
 -- client

@@ -10,7 +10,7 @@
 --                                  EXCEPT begins; 0 where nothing is left to look at, and f then says what was found, negated round if b
 -- Assumes nothing: these are definitions.
 use Rattle.std.specs.Prelude.{ℕ, ◌+◌, ◌-◌, ◌≤◌, ◌<◌, Bool, true, false, List, [], ◌∷◌, ◌≡◌, eqb, length, drop}
-use Rattle.text.specs.Basics.{if◌then◌else◌}
+use Rattle.text.specs.Basics.{when◌then◌else◌}
 use Rattle.address.specs.declared.Addr.{Addr}
 use Rattle.address.specs.declared.Addr.TheVariants as A
 use Rattle.lines.specs.Rule.{is_except}
@@ -54,7 +54,7 @@ code_of N.Yes = 1
 code_of N.Ask = 2
 
 abbrev pub found_as : ℕ → Found
-found_as k = if eqb k 0 then N.No else if eqb k 1 then N.Yes else N.Ask
+found_as k = when eqb k 0 then N.No else when eqb k 1 then N.Yes else N.Ask
 
 abbrev pub turned_found : Bool → Found → Found
 turned_found true f = negated f
@@ -73,7 +73,7 @@ group_end f n = group f n 0
 
 unfoldable pub past_except : List (List ℕ) → List (List ℕ)
 past_except [] = []
-past_except (w ∷ ws) = if is_except w then ws else past_except ws
+past_except (w ∷ ws) = when is_except w then ws else past_except ws
 
 -- rest is the end of s
 pub record Ends (s rest : List ℕ) : Type 0 where

@@ -6,7 +6,7 @@ use mathlib.Core.List.{List, []}
 use mathlib.Core.Option.{Option, none, some}
 use mathlib.Core.Path.{◌≡◌, refl, sym, ap, subst, ◌∙◌}
 use lib.ListN.{length, take}
-use Rattle.text.specs.Basics.{if◌then◌else◌, ◌or_else◌}
+use Rattle.text.specs.Basics.{when◌then◌else◌, ◌or_else◌}
 use Rattle.text.specs.Text.{in_range}
 use Rattle.section.specs.declared.Fault.TheVariants as F
 use Rattle.section.specs.declared.Refusal.{Refusal}
@@ -113,9 +113,9 @@ module _ (o : Option Refusal) (ts : List Table) (allow deny : List ℕ) (r : Req
   unfit e n = by o (well_formed r) e
     where
       by : (o : Option Refusal) (b : Bool) → b ≡ false
-          → refused_by (reported (o before (if b then answered found else refused (placeless F.BadRequest))) n).ruling
-          ≡ matter_of ((o before (if b then answered found else refused (placeless F.BadRequest)))
-          >>= λ a. if b then answered settles else refused (placeless F.BadRequest))
+          → refused_by (reported (o before (when b then answered found else refused (placeless F.BadRequest))) n).ruling
+          ≡ matter_of ((o before (when b then answered found else refused (placeless F.BadRequest)))
+          >>= λ a. when b then answered settles else refused (placeless F.BadRequest))
       by (some f) b e = refl
       by none true e = absurd (true≢false e)
       by none false e = refl

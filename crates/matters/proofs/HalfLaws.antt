@@ -13,7 +13,7 @@ use lib.Dec.{eqb, ltb, leb}
 use lib.ListN.{length, take, drop, get_or, set, length-set, length-drop, drop_of_length-le}
 use lib.Pow.{high, low}
 use lib.Seq.{drop-drop, get_or-set_same, get_or-set_other}
-use Rattle.text.specs.Basics.{if◌then◌else◌, all}
+use Rattle.text.specs.Basics.{when◌then◌else◌, all}
 use Rattle.text.specs.Text.{in_range, equal_fold}
 use Rattle.text.proofs.BasicLaws.{and_true}
 use Rattle.section.specs.Section.{part, bytes_at}
@@ -42,7 +42,7 @@ module _ (F : Finder) (e : List ℕ) (x : Bool) (is_x : x ≡ F.asks e) where
   unfolding asked_half
   asked_quiet q = rw (← is_x) (by x q)
     where
-      by : (x : Bool) → not x ≡ true → [] ≡ (if x then half_of (halves e) else [])
+      by : (x : Bool) → not x ≡ true → [] ≡ (when x then half_of (halves e) else [])
       by true q = absurd (true≢false (sym q))
       by false q = refl
 
@@ -51,7 +51,7 @@ module _ (F : Finder) (e : List ℕ) (x : Bool) (is_x : x ≡ F.asks e) where
     unfolding asked_half
     asked_halves = rw (← is_x) (by x q)
       where
-        by : (x : Bool) → not x ≡ false → (if x then half_of (halves e) else []) ≡ half_of (halves e)
+        by : (x : Bool) → not x ≡ false → (when x then half_of (halves e) else []) ≡ half_of (halves e)
         by true q = refl
         by false q = absurd (true≢false q)
 
@@ -80,7 +80,7 @@ half_asked F ws f e = by (F.asks e) (halves e)
   where
     by : (b : Bool) (o : Option (List ℕ × List ℕ))
         → (not b || half_holds (λ t. not (in_range 1 64 (length t)) || same_found f (F.clients U.Known t ws)) o)
-        ≡ (not (in_range 1 64 (length (if b then half_of o else []))) || same_found f (F.clients U.Known (if b then half_of o else []) ws))
+        ≡ (not (in_range 1 64 (length (when b then half_of o else []))) || same_found f (F.clients U.Known (when b then half_of o else []) ws))
     by true none = refl
     by true (some p) = refl
     by false o = refl
@@ -376,15 +376,15 @@ module _ (v : View) (r : Request) (f : Found) where
                     let d = and_true (ltb n (length ps)) (ltb from 65536) c.0 in
                     let room : n < length ps = ltb-true n (length ps) d.0 in
                     let p : ps' ≡ set ps n (place_number from (length h)) =
-                    is-ps ∙ ap (λ (b : Bool). if b then set ps n (place_number from (length h)) else ps) e in
-                    let q : n' ≡ n + 1 = is-n ∙ ap (λ (b : Bool). if b then n + 1 else n) e in
+                    is-ps ∙ ap (λ (b : Bool). when b then set ps n (place_number from (length h)) else ps) e in
+                    let q : n' ≡ n + 1 = is-n ∙ ap (λ (b : Bool). when b then n + 1 else n) e in
                     let l : length ps' ≡ length ps = ap length p ∙ length-set ps n (place_number from (length h)) in
                     made l (omega (arith, room, q, l))
                     (noted_more s ps n (name_agrees F (words s) f) x.tried room (place_number from (length h))
                     (here (ltb-true (length h) 65536 c.1)) ps' p n' q)
                 by false e =
-                    let p : ps' ≡ ps = is-ps ∙ ap (λ (b : Bool). if b then set ps n (place_number from (length h)) else ps) e in
-                    let q : n' ≡ n = is-n ∙ ap (λ (b : Bool). if b then n + 1 else n) e in
+                    let p : ps' ≡ ps = is-ps ∙ ap (λ (b : Bool). when b then set ps n (place_number from (length h)) else ps) e in
+                    let q : n' ≡ n = is-n ∙ ap (λ (b : Bool). when b then n + 1 else n) e in
                     made (ap length p) (omega (arith, x.within, q, ap length p))
                     (λ j l. ap (λ (y : List ℕ). name_agrees F (words s) f (noted s (get_or y j 0))) p ∙ x.tried j (omega arith))
 
@@ -394,7 +394,7 @@ module _ (v : View) (r : Request) (f : Found) where
           start = length s - length rest + a.span.start
 
           answered : (b : Bool) → was_tried s ps n h ≡ b → (z : Bool) → name_agrees F (words s) f h ≡ z
-              → t ≡ (if b then Tried.Agrees n else if z then Tried.Agrees (noted_count ps n start (length h)) else Tried.Differs)
+              → t ≡ (when b then Tried.Agrees n else when z then Tried.Agrees (noted_count ps n start (length h)) else Tried.Differs)
           unfolding tried_by
           answered b e z g = is-t ∙ rw (e, g)
 
@@ -421,7 +421,7 @@ module _ (v : View) (r : Request) (f : Found) where
               differs x = elim x [ Tried.Differs ↦ true | Tried.Agrees k ↦ false ]
 
               placed : (b : Bool) → was_tried s ps n h ≡ b → (z : Bool) → name_agrees F (words s) f h ≡ z
-                  → ps' ≡ (if not b && z then noted_places ps n start (length h) else ps)
+                  → ps' ≡ (when not b && z then noted_places ps n start (length h) else ps)
               placed b e z g = is-ps ∙ rw (e, g)
 
               by : (b : Bool) → was_tried s ps n h ≡ b → (z : Bool) → name_agrees F (words s) f h ≡ z → Trying s next ps' n'

@@ -12,7 +12,7 @@ use native.Mathlib.Omega.{arith}
 use borrow.Author.Tests.{eqb-true, le-leb, leb-true}
 use lib.ListN.{length, length-map}
 use lib.Dec.{leb, eqb}
-use Rattle.text.specs.Basics.{if◌then◌else◌, ◌>>=◌, ◌or_else◌, given, holds, is_some, all, any}
+use Rattle.text.specs.Basics.{when◌then◌else◌, ◌>>=◌, ◌or_else◌, given, holds, is_some, all, any}
 use Rattle.text.specs.Text.{bytes, in_range, char_range, equal, equal_fold, lower, is_word}
 use Rattle.text.proofs.BasicLaws.{and_true}
 use Rattle.text.proofs.ScanLaws.{eq_of_equal}
@@ -112,12 +112,12 @@ module _ (m : Matcher) (r : Request) (u : User) (t t' : List ℕ) where
       fetched U.Known x y k = ap found_if k
 
       half : (o : Option (Request → Bool)) (o' : Option (Endpoint → Bool)) → HalfSame r u t t' o
-          → look_at (with_user r u t') (o >>= λ f. o' >>= λ g. some λ q. if g q.client then user_case q Ask (found_if (f q)) (found_if (f q)) else No)
-          ≡ look_at (with_user r u t) (o >>= λ f. o' >>= λ g. some λ q. if g q.client then user_case q Ask (found_if (f q)) (found_if (f q)) else No)
+          → look_at (with_user r u t') (o >>= λ f. o' >>= λ g. some λ q. when g q.client then user_case q Ask (found_if (f q)) (found_if (f q)) else No)
+          ≡ look_at (with_user r u t) (o >>= λ f. o' >>= λ g. some λ q. when g q.client then user_case q Ask (found_if (f q)) (found_if (f q)) else No)
       half none o' k = refl
       half (some f) none k = refl
       half (some f) (some g) k =
-          ap (λ (x : Found). if g r.client then x else No) (fetched u (f (with_user r u t')) (f (with_user r u t)) k)
+          ap (λ (x : Found). when g r.client then x else No) (fetched u (f (with_user r u t')) (f (with_user r u t)) k)
 
       by : (o : Option (List ℕ × List ℕ)) → halves e ≡ o
           → look_at (with_user r u t') (client_parts m e o) ≡ look_at (with_user r u t) (client_parts m e o)

@@ -10,7 +10,7 @@ use mathlib.Core.Option.{Option, none, some, get_or}
 use mathlib.Core.Path.{◌≡◌, refl, sym, ap, ◌∙◌, subst}
 use native.Mathlib.Omega.{arith}
 use lib.ListN.{length}
-use Rattle.text.specs.Basics.{if◌then◌else◌, ◌>>=◌, ◌or_else◌, is_empty, first}
+use Rattle.text.specs.Basics.{when◌then◌else◌, ◌>>=◌, ◌or_else◌, is_empty, first}
 use Rattle.text.specs.Text.{last_among, split, in_range}
 use Rattle.section.specs.Section.{part}
 use Rattle.lines.specs.Line.{Line, line, continued, logical_lines, lines, is_comment, is_blank}
@@ -56,14 +56,14 @@ unfolding logical_lines AllFrom Ascends
 logical_ascends n at [] = (tt, tt)
 logical_ascends n at (s ∷ []) = by (is_empty s)
   where
-    by : (b : Bool) → AllFrom n (if b then [] else line n at s false ∷ []) × Ascends (if b then [] else line n at s false ∷ [])
+    by : (b : Bool) → AllFrom n (when b then [] else line n at s false ∷ []) × Ascends (when b then [] else line n at s false ∷ [])
     by true = (tt, tt)
     by false = ((omega arith, tt), (tt, tt))
 logical_ascends n at (s ∷ u ∷ ss) =
     by (last_among "\\" s) (logical_lines (n + 1) (at + length s + 1) (u ∷ ss)) (logical_ascends (n + 1) (at + length s + 1) (u ∷ ss))
   where
     by : (b : Bool) (rest : List Line) → AllFrom (n + 1) rest × Ascends rest
-        → AllFrom n (if b then continued n at s rest else line n at s true ∷ rest) × Ascends (if b then continued n at s rest else line n at s true ∷ rest)
+        → AllFrom n (when b then continued n at s rest else line n at s true ∷ rest) × Ascends (when b then continued n at s rest else line n at s true ∷ rest)
     by true [] h = ((omega arith, tt), (tt, tt))
     by true (l ∷ ls) h = ((omega arith, from_less n ls h.0.1), (h.0.1, h.1.1))
     by false rest h = ((omega arith, from_less n rest h.0), (h.0, h.1))
@@ -97,7 +97,7 @@ module _ (v : Verdict) (f : File) where
       found x No h e = absurd (none_some e)
       found x Ask h e = absurd h
 
-      by : (b : Bool) (o : Option Rule) → (if b then none else (o >>= λ x. rule_answer v f l x (g x))) ≡ some a → place_of a ≡ place v f l.number
+      by : (b : Bool) (o : Option Rule) → (when b then none else (o >>= λ x. rule_answer v f l x (g x))) ≡ some a → place_of a ≡ place v f l.number
       by true o e = absurd (none_some e)
       by false none e = absurd (none_some e)
       by false (some x) e = found x (g x) (q x) e
@@ -132,8 +132,8 @@ module _ (v : Verdict) (f : File) where
     unfolding line_told line_answer
     passes l e u t s = by (is_comment l || is_blank l) (parse_rule l.raw) e
       where
-        by : (b : Bool) (o : Option Rule) → (if b then Told.Passes else parsed_told m r o) ≡ Told.Passes
-            → (if b then none else (o >>= λ x. rule_answer v f l x (rule_found m (with_user r u t) x))) ≡ none
+        by : (b : Bool) (o : Option Rule) → (when b then Told.Passes else parsed_told m r o) ≡ Told.Passes
+            → (when b then none else (o >>= λ x. rule_answer v f l x (rule_found m (with_user r u t) x))) ≡ none
         by true o e = refl
         by false none e = refl
         by false (some x) e = rw (told_same m r x No tt e u t s)
@@ -145,8 +145,8 @@ module _ (v : Verdict) (f : File) where
         other : Told.Passes ≡ Told.Decides → ⊥
         other e = true≢false (ap (λ (k : Told). elim k [ Told.Passes ↦ true | Told.Decides ↦ false | Told.Differs ↦ false ]) e)
 
-        by : (b : Bool) (o : Option Rule) → (if b then Told.Passes else parsed_told m r o) ≡ Told.Decides
-            → At l.number (if b then none else (o >>= λ x. rule_answer v f l x (rule_found m (with_user r u t) x)))
+        by : (b : Bool) (o : Option Rule) → (when b then Told.Passes else parsed_told m r o) ≡ Told.Decides
+            → At l.number (when b then none else (o >>= λ x. rule_answer v f l x (rule_found m (with_user r u t) x)))
         by true o e = absurd (other e)
         by false none e = absurd (other e)
         by false (some x) e = record {
@@ -183,7 +183,7 @@ module _ (v : Verdict) (f : File) where
         split x t b p No Ask q k a c e = absurd k
         split x t b p Ask z q k a c e = absurd q
 
-        by : (b : Bool) (o : Option Rule) → is_comment l || is_blank l ≡ b → parse_rule l.raw ≡ o → (if b then Told.Passes else parsed_told m r o) ≡ Told.Differs
+        by : (b : Bool) (o : Option Rule) → is_comment l || is_blank l ≡ b → parse_rule l.raw ≡ o → (when b then Told.Passes else parsed_told m r o) ≡ Told.Differs
             → (t : List ℕ) × (in_range 1 64 (length t) ≡ true) × Split l t
         by true o b p e = absurd (other e)
         by false none b p e = absurd (other e)

@@ -11,7 +11,7 @@ use mathlib.Core.Path.{◌≡◌, refl, sym, ap, ap₂, fun_ext, subst, ◌∙�
 use borrow.Author.Tests.{ltb-false}
 use lib.Dec.{ltb}
 use lib.ListN.{length}
-use Rattle.text.specs.Basics.{if◌then◌else◌, ◌>>=◌, ◌or_else◌, given, all, first}
+use Rattle.text.specs.Basics.{when◌then◌else◌, ◌>>=◌, ◌or_else◌, given, all, first}
 use Rattle.text.specs.Text.{in_range}
 use Rattle.section.specs.declared.Fault.{Fault}
 use Rattle.section.specs.declared.Fault.TheVariants as F
@@ -134,15 +134,15 @@ module _ (v : View) (m : Matcher) (r : Request) (server : (n : List ℕ) → v.s
     line_same : (l : Line) → at_place s.order l.number (line_fault l) ≡ none → kind_told finds l ≡ line_told m r l
     unfolding kind_told line_told line_kind line_fault_by
     line_same l e = by (layout_fault l) (is_comment l || is_blank l)
-        (ap (λ (o : Option Fault). o or_else (if is_comment l || is_blank l then none else rule_fault (parse_rule l.raw))) (sym (kind_lowest l))
+        (ap (λ (o : Option Fault). o or_else (when is_comment l || is_blank l then none else rule_fault (parse_rule l.raw))) (sym (kind_lowest l))
         ∙ sound (line_fault l) e)
       where
         sound : (o : Option Fault) → at_place s.order l.number o ≡ none → o ≡ none
         sound none e = refl
         sound (some g) e = absurd (true≢false (ap (λ (o : Option Refusal). elim o [ none ↦ false | some x ↦ true ]) e))
 
-        by : (g : Option Fault) (b : Bool) → (g or_else (if b then none else rule_fault (parse_rule l.raw))) ≡ none
-            → kind_told_as (kind_as g b) (parsed_by finds (parse_rule l.raw)) ≡ (if b then Told.Passes else parsed_told m r (parse_rule l.raw))
+        by : (g : Option Fault) (b : Bool) → (g or_else (when b then none else rule_fault (parse_rule l.raw))) ≡ none
+            → kind_told_as (kind_as g b) (parsed_by finds (parse_rule l.raw)) ≡ (when b then Told.Passes else parsed_told m r (parse_rule l.raw))
         by none true h = refl
         by none false h = sym (parsed_same (parse_rule l.raw))
         by (some g) b h = absurd (true≢false (sym (ap (λ (o : Option Fault). elim o [ none ↦ true | some x ↦ false ]) h)))

@@ -14,7 +14,7 @@
 use Rattle.std.specs.Prelude.{ℕ, zero, suc, ◌+◌, ◌*◌, ◌/◌, ◌%◌, Bool, true, false, not, ◌&&◌, ◌||◌, List, [], ◌≡◌, eqb, ltb, length, get_or, set}
 use Rattle.std.proofs.Math.Option
 use Rattle.std.proofs.Math.Option.{Option, none, some}
-use Rattle.text.specs.Basics.{if◌then◌else◌, ◌or_else◌, all, first}
+use Rattle.text.specs.Basics.{when◌then◌else◌, ◌or_else◌, all, first}
 use Rattle.text.specs.Text.{in_range, equal_fold}
 use Rattle.section.specs.declared.Fault.TheVariants as F
 use Rattle.section.specs.Refusal.{placeless}
@@ -98,7 +98,7 @@ half_of none = []
 half_of (some p) = p.0
 
 unfoldable pub asked_half : Finder → List ℕ → List ℕ
-asked_half F e = if F.asks e then half_of (halves e) else []
+asked_half F e = when F.asks e then half_of (halves e) else []
 
 -- the place of n bytes from i on as one number, where both are below 65,536; the bytes at such a place
 abbrev pub place_number : ℕ → ℕ → ℕ
@@ -120,19 +120,19 @@ abbrev pub noted_room : List ℕ → ℕ → ℕ → ℕ → Bool
 noted_room ps n i m = ltb n (length ps) && ltb i 65536 && ltb m 65536
 
 abbrev pub noted_places : List ℕ → ℕ → ℕ → ℕ → List ℕ
-noted_places ps n i m = if noted_room ps n i m then set ps n (place_number i m) else ps
+noted_places ps n i m = when noted_room ps n i m then set ps n (place_number i m) else ps
 
 abbrev pub noted_count : List ℕ → ℕ → ℕ → ℕ → ℕ
-noted_count ps n i m = if noted_room ps n i m then n + 1 else n
+noted_count ps n i m = when noted_room ps n i m then n + 1 else n
 
 -- what the half h of s finds, which stands from i on, and the places noted then
 unfoldable pub tried_by : Finder → Found → List ℕ → List ℕ → ℕ → ℕ → List ℕ → Tried
 tried_by F f s ps n i h =
-    if was_tried s ps n h then Tried.Agrees n
-    else if name_agrees F (words s) f h then Tried.Agrees (noted_count ps n i (length h)) else Tried.Differs
+    when was_tried s ps n h then Tried.Agrees n
+    else when name_agrees F (words s) f h then Tried.Agrees (noted_count ps n i (length h)) else Tried.Differs
 
 unfoldable pub places_by : Finder → Found → List ℕ → List ℕ → ℕ → ℕ → List ℕ → List ℕ
-places_by F f s ps n i h = if not (was_tried s ps n h) && name_agrees F (words s) f h then noted_places ps n i (length h) else ps
+places_by F f s ps n i h = when not (was_tried s ps n h) && name_agrees F (words s) f h then noted_places ps n i (length h) else ps
 
 -- ## A rule, a line, both files
 

@@ -11,7 +11,7 @@
 -- Assumes nothing: these are definitions.
 use Rattle.std.specs.Prelude.{ℕ, Bool, true, false, not, ◌&&◌, ◌||◌, List, [], length}
 use Rattle.std.proofs.Math.Option.{Option, none, some, get_or}
-use Rattle.text.specs.Basics.{if◌then◌else◌, ◌or_else◌, all, first}
+use Rattle.text.specs.Basics.{when◌then◌else◌, ◌or_else◌, all, first}
 use Rattle.text.specs.Text.{bytes, in_range}
 use Rattle.section.specs.Refusal.{Outcome, refused, answered, ◌>>=◌, fitting}
 use Rattle.section.specs.Section.{bytes_at}
@@ -80,7 +80,7 @@ told_of Found.Yes = Told.Decides
 told_of Found.Ask = Told.Differs
 
 abbrev pub told_by : Bool → Found → Told
-told_by b f = if b then told_of f else Told.Differs
+told_by b f = when b then told_of f else Told.Differs
 
 -- what an asking rule tells: f is what an unknown user finds
 unfoldable pub asked_told : Matcher → Request → Rule → Found → Told
@@ -101,7 +101,7 @@ parsed_told m r none = Told.Passes
 parsed_told m r (some x) = rule_told m r x
 
 unfoldable pub line_told : Matcher → Request → Line → Told
-line_told m r l = if is_comment l || is_blank l then Told.Passes else parsed_told m r (parse_rule l.raw)
+line_told m r l = when is_comment l || is_blank l then Told.Passes else parsed_told m r (parse_rule l.raw)
 
 -- the place that settles, none where two users get different ones; nothing where the line passes all users on
 abbrev pub told_at : Verdict → File → ℕ → Told → Option (Option Place)

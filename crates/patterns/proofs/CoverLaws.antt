@@ -13,7 +13,7 @@ use lib.Dec.{eqb, leb, ltb}
 use lib.Pow.{pow_pos, shl-shr}
 use lib.ListN.{length, take, drop}
 use lib.Seq.{take_all, take-append-le}
-use Rattle.text.specs.Basics.{if◌then◌else◌, ◌>>=◌, ◌or_else◌, given, holds, is_some, all, each}
+use Rattle.text.specs.Basics.{when◌then◌else◌, ◌>>=◌, ◌or_else◌, given, holds, is_some, all, each}
 use Rattle.text.specs.Text.{bytes, among, last_among, starts_with, split_once, split, equal}
 use Rattle.text.specs.Number.{from_digits, to_digits, read_decimal}
 use Rattle.text.proofs.Digits.{length_to_digits, from_digits_to_digits, to_digits_from_digits}
@@ -223,7 +223,7 @@ module _ (e : List ℕ) where
       parts : (a b : List ℕ) → split_once (bytes "]") (drop 1 e) ≡ some (a, b)
           → bracket_pattern e ≡ (bracket_prefix e >>= λ q. some (prefix_test q.0 q.1))
       parts a [] q = rw q (assoc (read_v6 a) (some 128))
-      parts a (x ∷ t) q = rw q (assoc (read_v6 a) (if among "/" x then read_decimal 128 t else none))
+      parts a (x ∷ t) q = rw q (assoc (read_v6 a) (when among "/" x then read_decimal 128 t else none))
 
       by : (o : Option (List ℕ × List ℕ)) → split_once (bytes "]") (drop 1 e) ≡ o
           → bracket_pattern e ≡ (bracket_prefix e >>= λ q. some (prefix_test q.0 q.1))
@@ -261,7 +261,7 @@ unfolding prefix_length
 prefix_length_le [] m q = let z : 128 ≡ m = cc in omega arith
 prefix_length_le (x ∷ t) m q = by (among "/" x) q
   where
-    by : (b : Bool) → (if b then read_decimal 128 t else none) ≡ some m → m ≤ 128
+    by : (b : Bool) → (when b then read_decimal 128 t else none) ≡ some m → m ≤ 128
     by true q = read_decimal_le 128 m t q
     by false q = let z : ◌≡◌ {A = ℕ} 0 1 = cc in absurd (omega arith)
 

@@ -12,7 +12,7 @@ use borrow.Author.Tests.{eqb-true, eqb-false, eq-eqb, ne_eqb, le-leb, lt-leb, lt
 use lib.Dec.{leb, ltb, eqb}
 use lib.ListN.{length, take, drop, get_or, drop_of_length-le}
 use lib.Seq.{drop-cons}
-use Rattle.text.specs.Basics.{if◌then◌else◌, ◌>>=◌, ◌or_else◌, given, any, each}
+use Rattle.text.specs.Basics.{when◌then◌else◌, ◌>>=◌, ◌or_else◌, given, any, each}
 use Rattle.text.specs.Text.{bytes, among, equal, last_among, split, split_once, cons_first, is_digit}
 use Rattle.text.specs.Number.{from_digits, read_decimal}
 use Rattle.text.specs.Scan.{as_number}
@@ -37,17 +37,17 @@ use Rattle.patterns.proofs.NetLaws.{pair_net_read}
 
 -- ## Fields that are each followed by a dot
 
-none_after : (x : Bool) (o : Option (List ℕ)) → o ≡ none → (if x then o else none) ≡ none
+none_after : (x : Bool) (o : Option (List ℕ)) → o ≡ none → (when x then o else none) ≡ none
 none_after true o e = e
 none_after false o e = refl
 
-none_dot : (v : ℕ) (x : Bool) (o : Option (List ℕ)) → o ≡ none → (if x then (o >>= λ fs. some (v ∷ fs)) else none) ≡ none
+none_dot : (v : ℕ) (x : Bool) (o : Option (List ℕ)) → o ≡ none → (when x then (o >>= λ fs. some (v ∷ fs)) else none) ≡ none
 none_dot v true o e = rw e
 none_dot v false o e = refl
 
 -- one byte more before r, whose fields are those of s where l says that a dot ends it
-dotted_more : (v : ℕ) (d : Bool) (b : ℕ) (r s : List ℕ) (l : Bool) → ((u : ℕ) (x : Bool) → run_dotted u x r ≡ (if l then each_from u x (split "." s) else none))
-    → run_dotted v d (b ∷ r) ≡ (if l then each_from v d (split "." (b ∷ s)) else none)
+dotted_more : (v : ℕ) (d : Bool) (b : ℕ) (r s : List ℕ) (l : Bool) → ((u : ℕ) (x : Bool) → run_dotted u x r ≡ (when l then each_from u x (split "." s) else none))
+    → run_dotted v d (b ∷ r) ≡ (when l then each_from v d (split "." (b ∷ s)) else none)
 unfolding run_dotted digits_from split each any
 dotted_more v d b r s true ih = by (eqb b 46) refl (split_cons s)
   where
@@ -64,21 +64,21 @@ dotted_more v d b r s false ih = by (eqb b 46) refl
     by false e = simp e (none_after (field_fits v d b) (run_dotted (field_more v b) true r) (ih (field_more v b) true))
 
 run_dotted_lem : (v : ℕ) (d : Bool) (b : ℕ) (t : List ℕ)
-    → run_dotted v d (b ∷ t) ≡ (if last_among "." (b ∷ t) then each_from v d (split "." (take (length t) (b ∷ t))) else none)
+    → run_dotted v d (b ∷ t) ≡ (when last_among "." (b ∷ t) then each_from v d (split "." (take (length t) (b ∷ t))) else none)
 unfolding run_dotted digits_from split each any
 run_dotted_lem v d b [] = by (eqb b 46) refl d
   where
-    by : (p : Bool) → eqb b 46 ≡ p → (x : Bool) → run_dotted v x (b ∷ []) ≡ (if last_among "." (b ∷ []) then each_from v x (split "." []) else none)
+    by : (p : Bool) → eqb b 46 ≡ p → (x : Bool) → run_dotted v x (b ∷ []) ≡ (when last_among "." (b ∷ []) then each_from v x (split "." []) else none)
     by true e true = simp e
     by true e false = simp e
     by false e x = simp e (stop (field_fits v x b))
       where
-        stop : (y : Bool) → (if y then run_dotted (field_more v b) true [] else none) ≡ none
+        stop : (y : Bool) → (when y then run_dotted (field_more v b) true [] else none) ≡ none
         stop true = refl
         stop false = refl
 run_dotted_lem v d b (c ∷ t) =
     dotted_more v d b (c ∷ t) (take (length t) (c ∷ t)) (last_among "." (c ∷ t)) (λ u x. run_dotted_lem u x c t)
-    ∙ ap (λ (l : Bool). if l then each_from v d (split "." (b ∷ take (length t) (c ∷ t))) else none) (last_among_drop (b ∷ c ∷ t) 1 (omega arith))
+    ∙ ap (λ (l : Bool). when l then each_from v d (split "." (b ∷ take (length t) (c ∷ t))) else none) (last_among_drop (b ∷ c ∷ t) 1 (omega arith))
 
 -- leading fields, as one pass reads them
 dotted_run : (t : List ℕ) → (length t ≡ 0 → ⊥) → dotted_fields t ≡ run_dotted 0 false t
@@ -86,13 +86,13 @@ unfolding dotted_fields
 dotted_run [] n = absurd (n refl)
 dotted_run (b ∷ t) n =
     let e : length (b ∷ t) - 1 ≡ length t = omega arith in
-    rw e (sym (run_dotted_lem 0 false b t ∙ ap (λ (o : Option (List ℕ)). if last_among "." (b ∷ t) then o else none) (each_split (take (length t) (b ∷ t)))))
+    rw e (sym (run_dotted_lem 0 false b t ∙ ap (λ (o : Option (List ℕ)). when last_among "." (b ∷ t) then o else none) (each_split (take (length t) (b ∷ t)))))
 
 pub dotted_fields_pos : (t fs : List ℕ) → dotted_fields t ≡ some fs → 0 < length fs
 unfolding dotted_fields
 dotted_fields_pos t fs e = by (last_among "." t) e
   where
-    by : (b : Bool) → (if b then each (read_decimal 255) (split "." (take (length t - 1) t)) else none) ≡ some fs → 0 < length fs
+    by : (b : Bool) → (when b then each (read_decimal 255) (split "." (take (length t - 1) t)) else none) ≡ some fs → 0 < length fs
     by true e = each_pos 0 false (split "." (take (length t - 1) t)) fs (each_split (take (length t - 1) t) ∙ e)
     by false e = let z : ◌≡◌ {A = ℕ} 0 1 = cc in absurd (omega arith)
 
@@ -120,7 +120,7 @@ module _ (n k v : ℕ) (d : Bool) (b : ℕ) (t : List ℕ) where
   LeadingSteps S.Stop = leading_from n k v d (b ∷ t) ≡ none
   LeadingSteps (S.Go m j u x) = leading_from n k v d (b ∷ t) ≡ leading_from m j u x t
 
-  dead : (g : Bool) → eqb b 46 ≡ false → field_fits v d b ≡ false → LeadingSteps (if g then S.Nothing else S.Stop)
+  dead : (g : Bool) → eqb b 46 ≡ false → field_fits v d b ≡ false → LeadingSteps (when g then S.Nothing else S.Stop)
   unfolding run_dotted
   dead true e f = simp (e, f)
   dead false e f = simp (e, f)

@@ -10,7 +10,7 @@ use native.Mathlib.Omega.{arith}
 use borrow.Author.Tests.{eq-eqb, ne_eqb, le-leb, lt-leb, not-true}
 use lib.Dec.{eqb, leb, ltb}
 use lib.ListN.{length, drop, get_or}
-use Rattle.text.specs.Basics.{if◌then◌else◌, ◌or_else◌, given, is_some, first, all, any}
+use Rattle.text.specs.Basics.{when◌then◌else◌, ◌or_else◌, given, is_some, first, all, any}
 use Rattle.text.proofs.BasicLaws.{or_false}
 use Rattle.text.specs.Text.{bytes, is_word, among, first_among, last_among, in_range, equal_fold}
 use Rattle.text.proofs.ScanLaws.{equal_fold_lengths}
@@ -225,8 +225,8 @@ unfolding host_pattern form_of
 host_pattern_is e = rw (wildcard_of_lem e) (by (first_among "." e) (first_among "[" e) (all is_dotted_byte e))
   where
     by : (a b c : Bool)
-        → (wildcard_pattern (wildcard_of e) or_else (if a then domain_pattern e else if b then bracket_pattern e else if c then dotted_pattern e else name_pattern e))
-        ≡ (wildcard_pattern (wildcard_of e) or_else form_pattern (if a then F.Domain else if b then F.Bracket else if c then F.Dotted else F.Plain) e)
+        → (wildcard_pattern (wildcard_of e) or_else (when a then domain_pattern e else when b then bracket_pattern e else when c then dotted_pattern e else name_pattern e))
+        ≡ (wildcard_pattern (wildcard_of e) or_else form_pattern (when a then F.Domain else when b then F.Bracket else when c then F.Dotted else F.Plain) e)
     by true b c = refl
     by false true c = refl
     by false false true = refl

@@ -8,7 +8,7 @@
 use Rattle.std.specs.Prelude.{ℕ, ◌-◌, ◌*◌, ◌/◌, ◌%◌, ◌^◌, Bool, true, false, not, ◌&&◌, ◌||◌, List, [], ◌∷◌, ◌≡◌, leb, ltb, eqb, length, take, drop}
 use Rattle.std.proofs.Math.Option.{Option, none, some}
 use Rattle.std.specs.Int.Bits.{bit_and}
-use Rattle.text.specs.Basics.{if◌then◌else◌, ◌>>=◌, ◌or_else◌, given, holds, is_some, any, all, each}
+use Rattle.text.specs.Basics.{when◌then◌else◌, ◌>>=◌, ◌or_else◌, given, holds, is_some, any, all, each}
 use Rattle.text.specs.Text.{bytes, among, first_among, last_among, split_once, split, is_digit, equal_fold, is_word}
 use Rattle.text.specs.Number.{from_digits, read_decimal}
 use Rattle.text.specs.declared.NumberRead.{NumberRead}
@@ -33,11 +33,11 @@ use Rattle.patterns.specs.Pattern.{Pattern, is_name_byte, domain_pattern, leadin
 
 unfoldable pub wildcard_of : List ℕ → Wildcard
 wildcard_of e =
-    if is_word "ALL" e then W.All
-    else if is_word "LOCAL" e then W.Local
-    else if is_word "KNOWN" e then W.Known
-    else if is_word "UNKNOWN" e then W.Unknown
-    else if is_word "PARANOID" e then W.Paranoid
+    when is_word "ALL" e then W.All
+    else when is_word "LOCAL" e then W.Local
+    else when is_word "KNOWN" e then W.Known
+    else when is_word "UNKNOWN" e then W.Unknown
+    else when is_word "PARANOID" e then W.Paranoid
     else W.Nothing
 
 -- the lengths of the wildcards
@@ -49,9 +49,9 @@ is_dotted_byte b = is_digit b || among "./" b
 
 unfoldable pub form_of : List ℕ → Form
 form_of e =
-    if first_among "." e then F.Domain
-    else if first_among "[" e then F.Bracket
-    else if all is_dotted_byte e then F.Dotted
+    when first_among "." e then F.Domain
+    else when first_among "[" e then F.Bracket
+    else when all is_dotted_byte e then F.Dotted
     else F.Plain
 
 -- a text that its bytes and its length tell to be a domain or a name
@@ -110,7 +110,7 @@ leading_net k n = (n * 2 ^ (32 - 8 * k), 2 ^ 32 - 2 ^ (32 - 8 * k))
 
 -- the fields of t, each followed by a dot
 unfoldable pub dotted_fields : List ℕ → Option (List ℕ)
-dotted_fields t = if last_among "." t then each (read_decimal 255) (split "." (take (length t - 1) t)) else none
+dotted_fields t = when last_among "." t then each (read_decimal 255) (split "." (take (length t - 1) t)) else none
 
 -- the net of one to three such fields
 unfoldable pub fields_net : List ℕ → Option (ℕ × ℕ)
@@ -145,7 +145,7 @@ prefix_with (V6.Value h l) (T.Value m) = P.Prefix h l m
 
 unfoldable pub prefix_length : List ℕ → Option ℕ
 prefix_length [] = some 128
-prefix_length (x ∷ t) = if among "/" x then read_decimal 128 t else none
+prefix_length (x ∷ t) = when among "/" x then read_decimal 128 t else none
 
 unfoldable pub bracket_prefix : List ℕ → Option (ℕ × ℕ)
 bracket_prefix e = do

@@ -7,7 +7,7 @@
 -- Assumes nothing: these are definitions.
 use Rattle.std.specs.Prelude.{ℕ, ◌+◌, Bool, true, false, not, ◌&&◌, List, [], ◌∷◌, leb, eqb, length}
 use Rattle.std.proofs.Math.Option.{Option, none, some}
-use Rattle.text.specs.Basics.{if◌then◌else◌, ◌>>=◌, given}
+use Rattle.text.specs.Basics.{when◌then◌else◌, ◌>>=◌, given}
 use Rattle.text.specs.Text.{bytes, split_once}
 use Rattle.text.specs.Number.{from_digits}
 use Rattle.address.specs.Fields.{field_more, field_fits, address_from, ended_address}
@@ -17,8 +17,8 @@ use Rattle.patterns.specs.Code.{leading_net}
 unfoldable pub run_dotted : ℕ → Bool → List ℕ → Option (List ℕ)
 run_dotted v d [] = given (not d) []
 run_dotted v d (b ∷ t) =
-    if eqb b 46 then (if d then (run_dotted 0 false t >>= λ fs. some (v ∷ fs)) else none)
-    else if field_fits v d b then run_dotted (field_more v b) true t
+    when eqb b 46 then (when d then (run_dotted 0 false t >>= λ fs. some (v ∷ fs)) else none)
+    else when field_fits v d b then run_dotted (field_more v b) true t
     else none
 
 abbrev pub leading_from : ℕ → ℕ → ℕ → Bool → List ℕ → Option (ℕ × ℕ)

@@ -5,7 +5,7 @@ use Rattle.std.specs.Prelude.{ℕ, ◌-◌, ◌^◌, Bool, true, false, not, ◌
 use Prim.Native.String.{String}
 use Rattle.std.proofs.Math.Option.{Option, none, some}
 use Rattle.std.specs.Int.Bits.{bit_and}
-use Rattle.text.specs.Basics.{if◌then◌else◌, ◌>>=◌, ◌or_else◌, given, any, all, first, each}
+use Rattle.text.specs.Basics.{when◌then◌else◌, ◌>>=◌, ◌or_else◌, given, any, all, first, each}
 use Rattle.text.specs.Text.{bytes, among, starts_with, first_among, last_among, split_once, split, in_range, is_digit, is_letter, equal_fold, is_word}
 use Rattle.text.specs.Number.{to_digits, read_decimal}
 use Rattle.address.specs.Address.{same_prefix, addr_case, read_v4, read_v6}
@@ -47,7 +47,7 @@ bracket_pattern e = do
   where
     prefix_length : List ℕ → Option ℕ
     prefix_length [] = some 128
-    prefix_length (x ∷ t) = if among "/" x then read_decimal 128 t else none
+    prefix_length (x ∷ t) = when among "/" x then read_decimal 128 t else none
 
 -- "one to three fields, each followed by a dot (first fields of the address)"
 unfoldable pub leading_fields : List ℕ → Option (ℕ → Bool)
@@ -85,7 +85,7 @@ name_pattern e = given (all is_name_byte e && in_range 1 255 (length e) && not (
 unfoldable pub host_pattern : List ℕ → Pattern
 host_pattern e =
     wildcard e or_else
-    (if first_among "." e then domain_pattern e
-    else if first_among "[" e then bracket_pattern e
-    else if all (λ b. is_digit b || among "./" b) e then dotted_pattern e
+    (when first_among "." e then domain_pattern e
+    else when first_among "[" e then bracket_pattern e
+    else when all (λ b. is_digit b || among "./" b) e then dotted_pattern e
     else name_pattern e)

@@ -11,7 +11,7 @@ use borrow.Author.Tests.{le-leb, lt-leb, eqb-true, eqb-false, ltb-false, lt-ltb,
 use lib.Dec.{ltb, eqb}
 use lib.ListN.{length, take, drop, get_or, set, length-drop, length-set}
 use lib.Seq.{get_or-set_same, get_or-set_other}
-use Rattle.text.specs.Basics.{if◌then◌else◌, holds, any}
+use Rattle.text.specs.Basics.{when◌then◌else◌, holds, any}
 use Rattle.text.specs.Text.{equal}
 use Rattle.text.specs.Scan.{index_of}
 use Rattle.text.proofs.ScanLaws.{take_rest}
@@ -82,7 +82,7 @@ length_noted : (uid : ℕ) (p : Protocol) (x : Entry) (m : List ℕ) → length 
 unfolding noted
 length_noted uid p x m = by (is_for uid p x && ltb x.port (length m))
   where
-    by : (b : Bool) → length (if b then set m x.port 1 else m) ≡ length m
+    by : (b : Bool) → length (when b then set m x.port 1 else m) ≡ length m
     by true = length-set m x.port 1
     by false = refl
 
@@ -163,7 +163,7 @@ pub granted_alone : (uid : ℕ) (p : Protocol) (port : ℕ) (x : Entry) → gran
 unfolding grants_to any
 granted_alone uid p port x = by (equal (protocol_word x.protocol) (protocol_word p)) (eqb x.port port) x.group (eqb x.id uid) refl
   where
-    by : (a b g q : Bool) → eqb x.id uid ≡ q → (a && b && any (eqb x.id) (if g then [] else uid ∷ [])) ≡ (a && not g && eqb x.id uid && b)
+    by : (a b g q : Bool) → eqb x.id uid ≡ q → (a && b && any (eqb x.id) (when g then [] else uid ∷ [])) ≡ (a && not g && eqb x.id uid && b)
     by false b g q e = refl
     by true false true q e = refl
     by true false false true e = rw e
@@ -173,12 +173,12 @@ granted_alone uid p port x = by (equal (protocol_word x.protocol) (protocol_word
     by true true false false e = rw e
 
 noted_here : (uid : ℕ) (p : Protocol) (x : Entry) (m : List ℕ) (port : ℕ) → port < length m
-    → get_or (noted uid p x m) port 0 ≡ (if grants_to x (bind uid [] p port) then 1 else get_or m port 0)
+    → get_or (noted uid p x m) port 0 ≡ (when grants_to x (bind uid [] p port) then 1 else get_or m port 0)
 unfolding noted
 noted_here uid p x m port h = rw (granted_alone uid p port x) (by (is_for uid p x) (eqb x.port port) refl (ltb x.port (length m)) refl)
   where
     by : (f q : Bool) → eqb x.port port ≡ q → (l : Bool) → ltb x.port (length m) ≡ l
-        → get_or (if f && ltb x.port (length m) then set m x.port 1 else m) port 0 ≡ (if f && eqb x.port port then 1 else get_or m port 0)
+        → get_or (when f && ltb x.port (length m) then set m x.port 1 else m) port 0 ≡ (when f && eqb x.port port then 1 else get_or m port 0)
     by false q e l k = refl
     by true true e true k =
         let same : x.port ≡ port = eqb-true x.port port e in
@@ -195,7 +195,7 @@ abbrev pub granting : ℕ → Protocol → ℕ → List (Option Entry) → Bool
 granting uid p port es = any (holds λ x. grants_to x (bind uid [] p port)) es
 
 notes_from : (uid : ℕ) (p : Protocol) (n : ℕ) (es : List (Option Entry)) (m : List ℕ) (port : ℕ) → port < length m → fault_in n es ≡ none
-    → get_or (notes uid p es m) port 0 ≡ (if granting uid p port es then 1 else get_or m port 0)
+    → get_or (notes uid p es m) port 0 ≡ (when granting uid p port es then 1 else get_or m port 0)
 unfolding notes fault_in any
 notes_from uid p n [] m port h e = refl
 notes_from uid p n (none ∷ es) m port h e = let z : ◌≡◌ {A = ℕ} 0 1 = cc in absurd (omega arith)
@@ -203,7 +203,7 @@ notes_from uid p n (some x ∷ es) m port h e =
     notes_from uid p (n + 1) es (noted uid p x m) port (rw (length_noted uid p x m) h) e
     ∙ rw (noted_here uid p x m port h) (by (grants_to x (bind uid [] p port)) (granting uid p port es))
   where
-    by : (a b : Bool) → (if b then 1 else if a then 1 else get_or m port 0) ≡ (if a || b then 1 else get_or m port 0)
+    by : (a b : Bool) → (when b then 1 else when a then 1 else get_or m port 0) ≡ (when a || b then 1 else get_or m port 0)
     by true true = refl
     by true false = refl
     by false b = refl
@@ -215,7 +215,7 @@ any_granted b (none ∷ es) = any_granted b es
 any_granted b (some x ∷ es) = ap (λ (z : Bool). grants_to x b || z) (any_granted b es)
 
 pub notes_here : (uid : ℕ) (p : Protocol) (t m : List ℕ) (port : ℕ) → port < length m → portacl_fault t ≡ none
-    → get_or (notes uid p (entries_data t) m) port 0 ≡ (if any (holds λ grants. grants (bind uid [] p port)) (entries t) then 1 else get_or m port 0)
+    → get_or (notes uid p (entries_data t) m) port 0 ≡ (when any (holds λ grants. grants (bind uid [] p port)) (entries t) then 1 else get_or m port 0)
 notes_here uid p t m port h e =
     rw (entries_entries_data t, any_granted (bind uid [] p port) (entries_data t))
     (notes_from uid p 1 (entries_data t) m port h (sym (portacl_fault_fault_in t) ∙ e))

@@ -11,7 +11,7 @@ use native.Mathlib.Omega.{arith}
 use borrow.Author.Tests.{ne_eqb, eqb-true}
 use lib.Dec.{leb, eqb}
 use lib.ListN.{length, length-append}
-use Rattle.text.specs.Basics.{if◌then◌else◌, ◌>>=◌, given, holds, any}
+use Rattle.text.specs.Basics.{when◌then◌else◌, ◌>>=◌, given, holds, any}
 use Rattle.text.specs.Text.{bytes, equal, among, cons_head, split, split_once}
 use Rattle.text.specs.Number.{from_digits, digit_value, decimal, read_decimal}
 use Rattle.text.proofs.Intercalate.{split_once_some}
@@ -32,12 +32,12 @@ weight p = 9 + length (decimal p)
 -- the weights of those of k ports from p on of which g holds
 unfoldable pub sum_if : (ℕ → Bool) → ℕ → ℕ → ℕ
 sum_if g zero p = 0
-sum_if g (suc k) p = (if g p then weight p else 0) + sum_if g k (suc p)
+sum_if g (suc k) p = (when g p then weight p else 0) + sum_if g k (suc p)
 
 sum_same : (f g : ℕ → Bool) → ((q : ℕ) → f q ≡ g q) → (k p : ℕ) → sum_if f k p ≡ sum_if g k p
 unfolding sum_if
 sum_same f g h zero p = refl
-sum_same f g h (suc k) p = ap₂ (λ (a b : ℕ). a + b) (ap (λ (b : Bool). if b then weight p else 0) (h p)) (sum_same f g h k (suc p))
+sum_same f g h (suc k) p = ap₂ (λ (a b : ℕ). a + b) (ap (λ (b : Bool). when b then weight p else 0) (h p)) (sum_same f g h k (suc p))
 
 pub sum_split : (g : ℕ → Bool) (k m p : ℕ) → sum_if g k p + sum_if g m (p + k) ≡ sum_if g (k + m) p
 unfolding sum_if
@@ -52,7 +52,7 @@ sum_split g (suc k) m p =
     let e : p + suc k ≡ suc p + k = omega arith in
     let f : suc k + m ≡ suc (k + m) = omega arith in
     let there = ap (λ (q : ℕ). sum_if g m q) e in
-    let whole : sum_if g (suc k + m) p ≡ (if g p then weight p else 0) + sum_if g (k + m) (suc p) = ap (λ (j : ℕ). sum_if g j p) f in
+    let whole : sum_if g (suc k + m) p ≡ (when g p then weight p else 0) + sum_if g (k + m) (suc p) = ap (λ (j : ℕ). sum_if g j p) f in
     omega arith
 
 sum_none : (k p : ℕ) → sum_if (λ q. false) k p ≡ 0
@@ -67,7 +67,7 @@ module _ (q : ℕ) (g : ℕ → Bool) where
   unfolding sum_if
   sum_past zero p h = refl
   sum_past (suc k) p h =
-      ap₂ (λ (a b : ℕ). a + b) (ap (λ (b : Bool). if b || g p then weight p else 0) (ne_eqb q p (λ e. omega arith))) (sum_past k (suc p) (omega arith))
+      ap₂ (λ (a b : ℕ). a + b) (ap (λ (b : Bool). when b || g p then weight p else 0) (ne_eqb q p (λ e. omega arith))) (sum_past k (suc p) (omega arith))
 
   sum_more : (k p : ℕ) → sum_if (λ r. eqb q r || g r) k p ≤ weight q + sum_if g k p
   unfolding sum_if
@@ -75,7 +75,7 @@ module _ (q : ℕ) (g : ℕ → Bool) where
   sum_more (suc k) p = by (eqb q p) refl (sum_more k (suc p))
     where
       by : (b : Bool) → eqb q p ≡ b → sum_if (λ r. eqb q r || g r) k (suc p) ≤ weight q + sum_if g k (suc p)
-          → (if eqb q p || g p then weight p else 0) + sum_if (λ r. eqb q r || g r) k (suc p) ≤ weight q + ((if g p then weight p else 0) + sum_if g k (suc p))
+          → (when eqb q p || g p then weight p else 0) + sum_if (λ r. eqb q r || g r) k (suc p) ≤ weight q + ((when g p then weight p else 0) + sum_if g k (suc p))
       by true e ih =
           let same : q ≡ p = eqb-true q p e in
           let rest = sum_past k (suc p) (omega arith) in
@@ -94,7 +94,7 @@ weights (some x ∷ es) = weight x.port + weights es
 weights_for : ℕ → Protocol → List (Option Entry) → ℕ
 weights_for uid p [] = 0
 weights_for uid p (none ∷ es) = weights_for uid p es
-weights_for uid p (some x ∷ es) = (if is_for uid p x then weight x.port else 0) + weights_for uid p es
+weights_for uid p (some x ∷ es) = (when is_for uid p x then weight x.port else 0) + weights_for uid p es
 
 sum_granting : (uid : ℕ) (p : Protocol) (es : List (Option Entry)) (k from : ℕ) → sum_if (λ q. granting uid p q es) k from ≤ weights_for uid p es
 unfolding weights_for any
@@ -107,7 +107,7 @@ sum_granting uid p (some x ∷ es) k from = by (is_for uid p x) refl (sum_granti
     step b e = sum_same _ _ (λ q. ap (λ (z : Bool). z || granting uid p q es) (granted_alone uid p q x ∙ ap (λ (z : Bool). z && eqb x.port q) e)) k from
 
     by : (b : Bool) → is_for uid p x ≡ b → sum_if (λ q. granting uid p q es) k from ≤ weights_for uid p es
-        → sum_if (λ q. grants_to x (bind uid [] p q) || granting uid p q es) k from ≤ (if is_for uid p x then weight x.port else 0) + weights_for uid p es
+        → sum_if (λ q. grants_to x (bind uid [] p q) || granting uid p q es) k from ≤ (when is_for uid p x then weight x.port else 0) + weights_for uid p es
     by true e ih = let h = sum_more x.port (λ q. granting uid p q es) k from in let s = step true e in rw e (omega arith)
     by false e ih = let s = step false e in rw e (omega arith)
 
@@ -119,8 +119,8 @@ weights_both uid (none ∷ es) = weights_both uid es
 weights_both uid (some x ∷ es) = by x.protocol (not x.group) (eqb x.id uid) (weights_both uid es)
   where
     by : (p : Protocol) (g i : Bool) → weights_for uid Tcp es + weights_for uid Udp es ≤ weights es
-        → ((if equal (protocol_word p) (bytes "tcp") && g && i then weight x.port else 0) + weights_for uid Tcp es)
-        + ((if equal (protocol_word p) (bytes "udp") && g && i then weight x.port else 0) + weights_for uid Udp es)
+        → ((when equal (protocol_word p) (bytes "tcp") && g && i then weight x.port else 0) + weights_for uid Tcp es)
+        + ((when equal (protocol_word p) (bytes "udp") && g && i then weight x.port else 0) + weights_for uid Udp es)
         ≤ weight x.port + weights es
     by Tcp true true ih = omega arith
     by Tcp true false ih = omega arith
@@ -204,7 +204,7 @@ lengths_split (x ∷ t) = by (among "," x) (lengths_split t)
     more [] = refl
     more (w ∷ ws) = omega arith
 
-    by : (b : Bool) → lengths (split "," t) ≤ length t → lengths (if b then [] ∷ split "," t else cons_head x (split "," t)) ≤ suc (length t)
+    by : (b : Bool) → lengths (split "," t) ≤ length t → lengths (when b then [] ∷ split "," t else cons_head x (split "," t)) ≤ suc (length t)
     by true ih = omega arith
     by false ih = let m = more (split "," t) in omega arith
 

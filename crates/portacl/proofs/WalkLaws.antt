@@ -10,7 +10,7 @@ use borrow.Author.Tests.{le-leb, lt-leb, leb-true, leb-false}
 use lib.Dec.{leb}
 use lib.ListN.{length, take, drop, length-drop}
 use lib.Seq.{take_all, drop-drop}
-use Rattle.text.specs.Basics.{if◌then◌else◌}
+use Rattle.text.specs.Basics.{when◌then◌else◌}
 use Rattle.text.specs.Text.{split}
 use Rattle.text.specs.Scan.{index_of}
 use Rattle.text.proofs.ScanLaws.{take_rest, split_mark, split_no_mark}
@@ -32,7 +32,7 @@ as_entry_some x (some y) e = cc
 
 -- the entries from a place on: past the end there is none
 unfoldable pub entries_from : ℕ → List ℕ → List (Option Entry)
-entries_from at t = if leb at (length t) then map entry_data (split "," (drop at t)) else []
+entries_from at t = when leb at (length t) then map entry_data (split "," (drop at t)) else []
 
 -- the next entry, up to the comma at i of the rest
 pub next : (t : List ℕ) (at i : ℕ) → at ≤ length t → i ≡ index_of 44 (drop at t) → entries_from at t ≡ entry_data (take i (drop at t)) ∷ entries_from (at + i + 1) t

@@ -11,7 +11,7 @@
 -- Assumes nothing: these are definitions.
 use Rattle.std.specs.Prelude.{ℕ, ◌+◌, Bool, true, false, not, ◌&&◌, ◌||◌, List, [], ◌∷◌, map, length, set, ltb, eqb}
 use Rattle.std.proofs.Math.Option.{Option, none, some}
-use Rattle.text.specs.Basics.{if◌then◌else◌, ◌>>=◌, is_empty, any}
+use Rattle.text.specs.Basics.{when◌then◌else◌, ◌>>=◌, is_empty, any}
 use Rattle.text.specs.Text.{bytes, equal, split_once, split}
 use Rattle.text.specs.Number.{read_decimal}
 use Rattle.section.specs.declared.Fault.TheVariants as F
@@ -78,12 +78,12 @@ entry_data e = do
 
 unfoldable pub grants_to : Entry → Bind → Bool
 grants_to x b = equal (protocol_word x.protocol) (protocol_word b.protocol) && eqb x.port b.port && any (eqb x.id)
-    (if x.group then b.groups else b.uid ∷ [])
+    (when x.group then b.groups else b.uid ∷ [])
 
 -- ## The entries
 
 unfoldable pub entries_data : List ℕ → List (Option Entry)
-entries_data t = if is_empty t then [] else map entry_data (split "," t)
+entries_data t = when is_empty t then [] else map entry_data (split "," t)
 
 unfoldable pub walk : Bind → ℕ → Bool → List (Option Entry) → Walked
 walk b n g [] = Sound g
@@ -92,11 +92,11 @@ walk b n g (some x ∷ es) = walk b (n + 1) (g || grants_to x b) es
 
 unfoldable pub decision_of : Settings → ℕ → ℕ → Bool → Decision
 decision_of s uid port granted =
-    if eqb s.enabled 0 then NotRuled
-    else if not (eqb s.autoport_exempt 0) && eqb port 0 then Exempt
-    else if ltb s.port_high port then NotRuled
-    else if not (eqb s.suser_exempt 0) && eqb uid 0 then Exempt
-    else if granted then Granted
+    when eqb s.enabled 0 then NotRuled
+    else when not (eqb s.autoport_exempt 0) && eqb port 0 then Exempt
+    else when ltb s.port_high port then NotRuled
+    else when not (eqb s.suser_exempt 0) && eqb uid 0 then Exempt
+    else when granted then Granted
     else Denied
 
 -- ## Ports noted
@@ -111,7 +111,7 @@ abbrev pub is_for : ℕ → Protocol → Entry → Bool
 is_for uid protocol x = equal (protocol_word x.protocol) (protocol_word protocol) && not x.group && eqb x.id uid
 
 unfoldable pub noted : ℕ → Protocol → Entry → List ℕ → List ℕ
-noted uid protocol x m = if is_for uid protocol x && ltb x.port (length m) then set m x.port 1 else m
+noted uid protocol x m = when is_for uid protocol x && ltb x.port (length m) then set m x.port 1 else m
 
 unfoldable pub notes : ℕ → Protocol → List (Option Entry) → List ℕ → List ℕ
 notes uid protocol [] m = m

@@ -7,7 +7,7 @@
 
 ghost use Rattle.std.specs.Prelude.{false, [], ◌∷◌, ◌≡◌, eqb};
 ghost use Rattle.std.proofs.Math.Option.{some};
-ghost use Rattle.text.specs.Basics.{if◌then◌else◌, is_some, any};
+ghost use Rattle.text.specs.Basics.{when◌then◌else◌, is_some, any};
 ghost use Rattle.text.specs.Text.{equal};
 ghost use Rattle.portacl.specs.Portacl.{bind, protocol_word, read_entry, portacl_ruling, portacl_fault, decide_portacl};
 ghost use Rattle.portacl.specs.declared.Protocol.TheVariants.{Tcp, Udp};
@@ -186,7 +186,7 @@ fn is_among(id: u32, ids: &[u32]) -> bool
 
 // Whether the id is the uid, or for a group one of the groups.
 fn is_own(group: bool, id: u32, uid: u32, groups: &[u32]) -> bool
-    ensures { result ≡ any (eqb id) (if group then groups.now else uid ∷ []) }
+    ensures { result ≡ any (eqb id) (when group then groups.now else uid ∷ []) }
 {
     if group {
         is_among(id, groups)

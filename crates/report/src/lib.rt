@@ -1,7 +1,10 @@
-// How the programs write what the gate answers.
+// How the programs read a file and write what the gate answers.
 #![tactic(auto)]
 
-use libc::STDOUT_FILENO;
+pub mod file;
+
+use std::io;
+use std::io::Print;
 
 // The places of the words that are written; a decision's word is at its own number.
 pub const NO_FILE: usize = 9;
@@ -42,16 +45,16 @@ pub const MALFORMED: usize = 28;
 
 pub const LOOKED: usize = 29;
 
-pub fn text(s: &[u8]) {
-    io::write_all(STDOUT_FILENO, s);
+pub fn text(to: &impl Print, s: &[u8]) -> io::Result<()> {
+    to.write_all(s)
 }
 
-pub fn number(n: u64) {
-    io::print_decimal(STDOUT_FILENO, n);
+pub fn number(to: &impl Print, n: u64) -> io::Result<()> {
+    to.print(n)
 }
 
-pub fn end_line() {
-    text(b"\n");
+pub fn end_line(to: &impl Print) -> io::Result<()> {
+    text(to, b"\n")
 }
 
 // Where the text after the one at a place starts.
@@ -76,34 +79,31 @@ fn before_bar(s: &[u8], at: usize) -> &[u8] {
 // The text at a place among those that are parted by bars.
 fn nth(texts: &[u8], place: usize) -> &[u8] {
     let mut at = 0;
-    let mut k = 0;
-    while k < place {
+    for _ in 0..place {
         at = after_bar(texts, at);
-        k += 1;
     }
     before_bar(texts, at)
 }
 
 // Writes the word at a place. Each costs no more than its number where it is written, as they stand in one text.
-pub fn word(place: usize) {
-    text(nth(
+pub fn word(to: &impl Print, place: usize) -> io::Result<()> {
+    let texts =
         b"|granted|denied|ask|no line|not ruled|exempt|test|read|, no file|, allow line |, deny line |refused | section | line |sheet ok|\
-          , command:| bytes|, the same|, others|allow at |deny at |byuid at |portacl at |tables at |, | -> |touched: |malformed: |, looked at ",
-        place,
-    ));
+          , command:| bytes|, the same|, others|allow at |deny at |byuid at |portacl at |tables at |, | -> |touched: |malformed: |, looked at ";
+    text(to, nth(texts, place))
 }
 
 // Writes a refusal as a line, where there is one, and answers whether there is.
-pub fn refused(n: u32, section: u32, line: u64) -> bool {
+pub fn refused(to: &impl Print, n: u32, section: u32, line: u64) -> io::Result<bool> {
     if n == 0 {
-        return false;
+        return Ok(false);
     }
-    word(REFUSED);
-    number(n as u64);
-    word(SECTION);
-    number(section as u64);
-    word(LINE);
-    number(line);
-    end_line();
-    true
+    word(to, REFUSED)?;
+    number(to, n as u64)?;
+    word(to, SECTION)?;
+    number(to, section as u64)?;
+    word(to, LINE)?;
+    number(to, line)?;
+    end_line(to)?;
+    Ok(true)
 }

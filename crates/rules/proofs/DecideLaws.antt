@@ -9,7 +9,7 @@ use mathlib.Core.Path.{◌≡◌, refl, sym, ap, ap₂, ◌∙◌}
 use lib.Dec.{ltb}
 use lib.ListN.{length, take, drop, drop_of_length-le}
 use lib.Seq.{take-nil, take_all, length-take-le}
-use Rattle.text.specs.Basics.{if◌then◌else◌, ◌or_else◌, given, is_some, first}
+use Rattle.text.specs.Basics.{when◌then◌else◌, ◌or_else◌, given, is_some, first}
 use Rattle.text.proofs.ScanLaws.{take_rest}
 use Rattle.section.specs.declared.Fault.TheVariants as F
 use Rattle.section.specs.declared.Refusal.{Refusal}
@@ -76,10 +76,10 @@ sum_both a b = capped_left a (capped b) ∙ capped_add a b
 
 -- an answer in the second text is looked for, and its rules are counted, only if the first one has none
 combined_tally : (o o' : Option Refusal) (x x' : Option Answer) (a : ℕ) (d : Bool → ℕ) → d false ≡ 0
-    → tallied (combined (pass_of o x) (pass_of o' (if is_unmatched (pass_of o x) then x' else none)))
-    (capped ((tallied (pass_of o x) (capped a)).looked + (tallied (pass_of o' (if is_unmatched (pass_of o x) then x' else none))
+    → tallied (combined (pass_of o x) (pass_of o' (when is_unmatched (pass_of o x) then x' else none)))
+    (capped ((tallied (pass_of o x) (capped a)).looked + (tallied (pass_of o' (when is_unmatched (pass_of o x) then x' else none))
     (capped (d (is_unmatched (pass_of o x))))).looked))
-    ≡ tallied (pass_of (o or_else o') (x or_else x')) (capped (a + (if is_some x then 0 else d true)))
+    ≡ tallied (pass_of (o or_else o') (x or_else x')) (capped (a + (when is_some x then 0 else d true)))
 combined_tally (some g) o' x x' a d z = refl
 combined_tally none (some g) none x' a d z = refl
 combined_tally none none none none a d z = ap (tallied P.Unmatched) (sum_both a (d true))
@@ -141,16 +141,16 @@ module _ (o : Option Refusal) (ts : List Table) (allow deny names : List ℕ) (q
   abbrev ruled : Reported
   ruled = reported (o before decide_over ts allow deny (some given_request)) (looked_over ts allow deny (some given_request))
 
-  ruled_held : reported (o before (if well_formed (request_at names h) then answered answer_held else refused (placeless F.BadRequest))) found_held.looked
+  ruled_held : reported (o before (when well_formed (request_at names h) then answered answer_held else refused (placeless F.BadRequest))) found_held.looked
       ≡ ruled
   unfolding looked_over
   ruled_held = rw (held_at_lem names q h is-h, held_fits given_request)
       (by o (well_formed given_request) (search (match_of ts) allow deny (held given_request)) (capped (looked ts allow deny (held given_request))))
     where
       by : (o : Option Refusal) (b : Bool) (a : Answer) (n : ℕ)
-          → reported (o before (if b then answered a else refused (placeless F.BadRequest))) n
-          ≡ reported (o before (if b then answered a else refused (placeless F.BadRequest)))
-          (number_of (if b then answered n else refused (placeless F.BadRequest)))
+          → reported (o before (when b then answered a else refused (placeless F.BadRequest))) n
+          ≡ reported (o before (when b then answered a else refused (placeless F.BadRequest)))
+          (number_of (when b then answered n else refused (placeless F.BadRequest)))
       by (some g) b a n = refl
       by none true a n = refl
       by none false a n = refl
@@ -160,12 +160,12 @@ module _ (o : Option Refusal) (ts : List Table) (allow deny names : List ℕ) (q
   rule_answer_lem f is_f y e b is_b r is-r = by o (sym is_f ∙ e) ∙ ruled_held
     where
       fits : (b : Bool) → refusing_request b answer_held found_held.looked
-          ≡ reported (if b then answered answer_held else refused (placeless F.BadRequest)) found_held.looked
+          ≡ reported (when b then answered answer_held else refused (placeless F.BadRequest)) found_held.looked
       fits true = refl
       fits false = refl
 
       by : (o : Option Refusal) → finding_of o found_held ≡ Finding.Answer y
-          → r ≡ reported (o before (if well_formed (request_at names h) then answered answer_held else refused (placeless F.BadRequest))) found_held.looked
+          → r ≡ reported (o before (when well_formed (request_at names h) then answered answer_held else refused (placeless F.BadRequest))) found_held.looked
       by none k =
           let same : found_held ≡ y = cc in
           is-r ∙ rw (← same, is_b) (fits (well_formed (request_at names h)))

@@ -12,7 +12,7 @@ use borrow.Author.Tests.{eqb-true, ltb-true, ltb-false, lt-ltb, le-ltb, not-fals
 use lib.Dec.{eqb, ltb}
 use lib.ListN.{length, take, drop, length-drop, drop_of_length-le}
 use lib.Seq.{take_at, drop-nil}
-use Rattle.text.specs.Basics.{if◌then◌else◌, ◌>>=◌, ◌or_else◌, is_some, all, first, sum_until}
+use Rattle.text.specs.Basics.{when◌then◌else◌, ◌>>=◌, ◌or_else◌, is_some, all, first, sum_until}
 use Rattle.text.specs.Text.{among, first_among, split}
 use Rattle.text.proofs.BasicLaws.{and_true, or_false}
 use Rattle.section.specs.declared.Fault.{Fault}
@@ -135,7 +135,7 @@ examined_by Kind.Skipped t = T.Finds (looked_for No 0)
 examined_by Kind.HasRule t = t
 
 examined_by_kind : (o q : Option Fault) (p : Bool) (x : Looked)
-    → examined_by (kind_as o p) (examined_as q x) ≡ examined_as (o or_else (if p then none else q)) (if p then looked_for No 0 else x)
+    → examined_by (kind_as o p) (examined_as q x) ≡ examined_as (o or_else (when p then none else q)) (when p then looked_for No 0 else x)
 examined_by_kind (some f) q p x = refl
 examined_by_kind none q true x = refl
 examined_by_kind none q false x = refl
@@ -162,7 +162,7 @@ judged_by (Kind.Faulty f) t = true
 judged_by Kind.Skipped t = false
 judged_by Kind.HasRule t = t
 
-judged_by_kind : (o q : Option Fault) (p : Bool) → judged_by (kind_as o p) (is_some q) ≡ is_some (o or_else (if p then none else q))
+judged_by_kind : (o q : Option Fault) (p : Bool) → judged_by (kind_as o p) (is_some q) ≡ is_some (o or_else (when p then none else q))
 judged_by_kind (some f) q p = refl
 judged_by_kind none q true = refl
 judged_by_kind none q false = refl
@@ -265,7 +265,7 @@ module _ (at : ℕ) (s : List ℕ) (a : ℕ) (is-a : a ≡ separator_index false
     command_within = rw (is_c, length-drop, is-t, length-drop) (omega arith)
 
     module _ (x : Bool) (is_x : x ≡ all (among " \t") (join c)) where
-      command_is : (b : Bool) → ltb a (length s) ≡ b → part (at + (length s - length c)) (if x then 0 else length c) ≡ command_part at s (parse_rule s)
+      command_is : (b : Bool) → ltb a (length s) ≡ b → part (at + (length s - length c)) (when x then 0 else length c) ≡ command_part at s (parse_rule s)
       unfolding command_part after_separator join all
       command_is true e =
           rw (is_x, parse_rule_parts s a is-a (ltb-true a (length s) e) t is-t d is_d c is_c, is_empty_trimmed c)
@@ -276,10 +276,10 @@ module _ (at : ℕ) (s : List ℕ) (a : ℕ) (is-a : a ≡ separator_index false
           rw (parse_rule_none s a is-a k, is_x, n, sub-zero)
 
       pub command_blank : x ≡ true → part (at + (length s - length c)) 0 ≡ command_part at s (parse_rule s)
-      command_blank e = ap (λ (b : Bool). part (at + (length s - length c)) (if b then 0 else length c)) (sym e) ∙ command_is (ltb a (length s)) refl
+      command_blank e = ap (λ (b : Bool). part (at + (length s - length c)) (when b then 0 else length c)) (sym e) ∙ command_is (ltb a (length s)) refl
 
       pub command_full : x ≡ false → part (at + (length s - length c)) (length c) ≡ command_part at s (parse_rule s)
-      command_full e = ap (λ (b : Bool). part (at + (length s - length c)) (if b then 0 else length c)) (sym e) ∙ command_is (ltb a (length s)) refl
+      command_full e = ap (λ (b : Bool). part (at + (length s - length c)) (when b then 0 else length c)) (sym e) ∙ command_is (ltb a (length s)) refl
 
 -- ## What a line gives
 
@@ -306,12 +306,12 @@ module _ (o : ℕ) (v : Verdict) (f : File) (b : Bool) (r : Query) (n at : ℕ) 
 
   -- what the rule q finds and looks at, if it is searched
   abbrev seek : Bool → Option Rule → Looked
-  seek c q = looked_for (if c then found_by r.view r.request q else No) (counted c (capped (looked_of r.view r.request q)))
+  seek c q = looked_for (when c then found_by r.view r.request q else No) (counted c (capped (looked_of r.view r.request q)))
 
   pass_by_examined : (g : Option Fault) (p c : Bool) (q : Option Rule)
-      → pass_by o v f n (command_part at s q) (examined_as g (if p then looked_for No 0 else seek c q))
-      ≡ tallied (pass_of (at_place o n g) (if c then (if p then none else (q >>= λ u. rule_answer v f (line n at s e) u (query_found r u))) else none))
-      (capped (counted c (if p then 0 else of_rule (query_looked r) q)))
+      → pass_by o v f n (command_part at s q) (examined_as g (when p then looked_for No 0 else seek c q))
+      ≡ tallied (pass_of (at_place o n g) (when c then (when p then none else (q >>= λ u. rule_answer v f (line n at s e) u (query_found r u))) else none))
+      (capped (counted c (when p then 0 else of_rule (query_looked r) q)))
   unfolding capped
   pass_by_examined (some g) p c q = refl
   pass_by_examined none true true q = refl
@@ -401,22 +401,22 @@ tallied_looked (P.Matched a) k h = refl
 
 -- the pass over a first line, with the fault x and the answer y, and over the lines after it, with x' and y'
 both_faulty : (x x' : Option Refusal) (y y' : Option Answer) (b : Bool) (g : Refusal)
-    → pass_of x (if b then y else none) ≡ P.Faulty g → pass_of (x or_else x') (if b then (y or_else y') else none) ≡ P.Faulty g
+    → pass_of x (when b then y else none) ≡ P.Faulty g → pass_of (x or_else x') (when b then (y or_else y') else none) ≡ P.Faulty g
 both_faulty (some h) x' y y' b g e = e
 both_faulty none x' (some a) y' true g e = let z : ◌≡◌ {A = ℕ} 0 1 = cc in absurd (omega arith)
 both_faulty none x' none y' true g e = let z : ◌≡◌ {A = ℕ} 0 1 = cc in absurd (omega arith)
 both_faulty none x' y y' false g e = let z : ◌≡◌ {A = ℕ} 0 1 = cc in absurd (omega arith)
 
 both_unmatched : (x x' : Option Refusal) (y y' : Option Answer) (b : Bool)
-    → pass_of x (if b then y else none) ≡ P.Unmatched → pass_of (x or_else x') (if b then (y or_else y') else none) ≡ pass_of x' (if b then y' else none)
+    → pass_of x (when b then y else none) ≡ P.Unmatched → pass_of (x or_else x') (when b then (y or_else y') else none) ≡ pass_of x' (when b then y' else none)
 both_unmatched (some h) x' y y' b e = let z : ◌≡◌ {A = ℕ} 0 1 = cc in absurd (omega arith)
 both_unmatched none x' (some a) y' true e = let z : ◌≡◌ {A = ℕ} 0 1 = cc in absurd (omega arith)
 both_unmatched none x' none y' true e = refl
 both_unmatched none x' y y' false e = refl
 
 both_matched : (x x' : Option Refusal) (y y' : Option Answer) (b : Bool) (a : Answer)
-    → pass_of x (if b then y else none) ≡ P.Matched a
-    → (b ≡ true) × (pass_of (x or_else x') (if b then (y or_else y') else none) ≡ combined (P.Matched a) (pass_of x' none))
+    → pass_of x (when b then y else none) ≡ P.Matched a
+    → (b ≡ true) × (pass_of (x or_else x') (when b then (y or_else y') else none) ≡ combined (P.Matched a) (pass_of x' none))
 both_matched (some h) x' y y' b a e = let z : ◌≡◌ {A = ℕ} 0 1 = cc in absurd (omega arith)
 both_matched none (some h) (some c) y' true a e = (refl, refl)
 both_matched none none (some c) y' true a e = (refl, e)
@@ -425,7 +425,7 @@ both_matched none x' y y' false a e = let z : ◌≡◌ {A = ℕ} 0 1 = cc in ab
 
 module _ (o : ℕ) (v : Verdict) (f : File) (r : Query) where
   unfoldable pub pass_lines : Bool → List Line → Pass
-  pass_lines b ls = pass_of (first (fault_at o r.view) ls) (if b then first (line_answer v f (query_found r)) ls else none)
+  pass_lines b ls = pass_of (first (fault_at o r.view) ls) (when b then first (line_answer v f (query_found r)) ls else none)
 
   -- the loop over the text t, of which the pass is whole and the number total, at the line of number n at i; b: whether an answer is looked
   -- for, k: how many elements were looked at
@@ -463,7 +463,7 @@ module _ (o : ℕ) (v : Verdict) (f : File) (r : Query) where
   looked_unmatched true l ls e = by (fault_at o r.view l) (line_answer v f (query_found r) l) e
     where
       by : (x : Option Refusal) (y : Option Answer) → pass_of x y ≡ P.Unmatched
-          → line_count (query_looked r) l + (if is_some y then 0 else sum_until (λ l. is_some (line_answer v f (query_found r) l)) (line_count (query_looked r)) ls)
+          → line_count (query_looked r) l + (when is_some y then 0 else sum_until (λ l. is_some (line_answer v f (query_found r) l)) (line_count (query_looked r)) ls)
           ≡ line_count (query_looked r) l + sum_until (λ l. is_some (line_answer v f (query_found r) l)) (line_count (query_looked r)) ls
       by (some g) y k = let z : ◌≡◌ {A = ℕ} 0 1 = cc in absurd (omega arith)
       by none (some a) k = let z : ◌≡◌ {A = ℕ} 0 1 = cc in absurd (omega arith)
@@ -476,7 +476,7 @@ module _ (o : ℕ) (v : Verdict) (f : File) (r : Query) where
   looked_matched true l ls a e = by (fault_at o r.view l) (line_answer v f (query_found r) l) e
     where
       by : (x : Option Refusal) (y : Option Answer) → pass_of x y ≡ P.Matched a
-          → line_count (query_looked r) l + (if is_some y then 0 else sum_until (λ l. is_some (line_answer v f (query_found r) l)) (line_count (query_looked r)) ls)
+          → line_count (query_looked r) l + (when is_some y then 0 else sum_until (λ l. is_some (line_answer v f (query_found r) l)) (line_count (query_looked r)) ls)
           ≡ line_count (query_looked r) l + 0
       by (some g) y k = let z : ◌≡◌ {A = ℕ} 0 1 = cc in absurd (omega arith)
       by none (some c) k = refl

@@ -8,7 +8,7 @@ use mathlib.Core.List.{List, [], ◌∷◌, ◌++◌, reverse, reverse_aux, reve
 use mathlib.Core.Option.{Option, none, some, get_or}
 use mathlib.Core.Path.{◌≡◌, refl, sym, ap, ◌∙◌}
 use borrow.Author.Tests.{eqb-true}
-use Rattle.text.specs.Basics.{if◌then◌else◌, is_empty, any, all}
+use Rattle.text.specs.Basics.{when◌then◌else◌, is_empty, any, all}
 use Rattle.text.specs.Text.{among, cons_first}
 use Rattle.text.proofs.BasicLaws.{and_true}
 use Rattle.lines.specs.Line.{join}
@@ -62,7 +62,7 @@ unfolding split_separator
 join_parts_byte x y t b e = by (is_separator b y) (split_separator (inside_after b y) t)
   where
     by : (c : Bool) (o : Option (List ℕ × List ℕ))
-        → cons_first x (join_parts (if c then some ([], t) else cons_first y o)) ≡ join_parts (cons_first x (if c then some ([], t) else cons_first y o))
+        → cons_first x (join_parts (when c then some ([], t) else cons_first y o)) ≡ join_parts (cons_first x (when c then some ([], t) else cons_first y o))
     by true o = rw (join_plain x [] refl)
     by false none = refl
     by false (some p) = rw (join_kept x y p.0 e)
@@ -78,8 +78,8 @@ unfolding split_separator
 parts_cons b x t h = by (is_separator b x)
   where
     by : (c : Bool)
-        → (if c then some ([], join t) else cons_first x (split_separator (inside_after b x) (join t)))
-        ≡ join_parts (if c then some ([], t) else cons_first x (split_separator (inside_after b x) t))
+        → (when c then some ([], join t) else cons_first x (split_separator (inside_after b x) (join t)))
+        ≡ join_parts (when c then some ([], t) else cons_first x (split_separator (inside_after b x) t))
     by true = ap (λ (s : List ℕ). some (s, join t)) join_nil
     by false = h
 
@@ -117,7 +117,7 @@ split_separator_all q b (x ∷ t) e =
     let f = and_true (q x) (all q t) e in
     by (is_separator b x) (split_separator (inside_after b x) t) f.0 f.1 (split_separator_all q (inside_after b x) t f.1)
   where
-    by : (c : Bool) (o : Option (List ℕ × List ℕ)) → q x ≡ true → all q t ≡ true → AllParts q o → AllParts q (if c then some ([], t) else cons_first x o)
+    by : (c : Bool) (o : Option (List ℕ × List ℕ)) → q x ≡ true → all q t ≡ true → AllParts q o → AllParts q (when c then some ([], t) else cons_first x o)
     by true o f g h = (refl, g)
     by false none f g h = tt
     by false (some p) f g h = (rw f h.0, h.1)
@@ -142,7 +142,7 @@ rule_by p o = let q : List ℕ × List ℕ = get_or o (p.1, []) in rule (element
 module _ (b : Bool) (r : Query) where
   tells : Rule → Examined
   unfolding rule_found_by rule_looked_by
-  tells u = examined_as (judged_fault r.view (some u)) (looked_for (if b then query_found r u else No) (counted b (capped (query_looked r u))))
+  tells u = examined_as (judged_fault r.view (some u)) (looked_for (when b then query_found r u else No) (counted b (capped (query_looked r u))))
 
   tells_command : (ds cs : List (List ℕ)) (c : List ℕ) → NoNewline (join c) → tells (rule ds cs (join c)) ≡ tells (rule ds cs c)
   unfolding tells judged_fault rule_fault rule_names rule_found_by rule_looked_by

@@ -7,7 +7,7 @@ use mathlib.Core.List.{List, [], ◌∷◌}
 use mathlib.Core.Option.{Option, none, some}
 use mathlib.Core.Path.{◌≡◌, refl}
 use native.Mathlib.Omega.{arith}
-use Rattle.text.specs.Basics.{if◌then◌else◌, holds, is_some, any, first, sum, sum_until}
+use Rattle.text.specs.Basics.{when◌then◌else◌, holds, is_some, any, first, sum, sum_until}
 use Rattle.text.proofs.BasicLaws.{or_false}
 use Rattle.lines.specs.Line.{Line, lines, is_comment, is_blank}
 use Rattle.lines.specs.Rule.{Rule, parse_rule, is_except}
@@ -32,7 +32,7 @@ use Rattle.rules.specs.Looked.{of_rule, line_count, file_looked, looked, file_el
 
 -- what every element of a list counts
 abbrev list_sum : (List ℕ → ℕ) → List (List ℕ) → ℕ
-list_sum c ws = sum (λ w. if is_except w then 0 else c w) ws
+list_sum c ws = sum (λ w. when is_except w then 0 else c w) ws
 
 further_le : (f : Found) (a b k : ℕ) → a ≤ k → b ≤ k → further_on f a b ≤ k
 further_le Yes a b k h g = h
@@ -49,7 +49,7 @@ module _ (m : List ℕ → Found) (c : List ℕ → ℕ) where
         (further_le (m w) (looked_excluded m c ws) (looked_included m c ws) (list_sum c ws) (excluded_le ws) (included_le ws))
       where
         by : (b : Bool) → further_on (m w) (looked_excluded m c ws) (looked_included m c ws) ≤ list_sum c ws
-            → (if b then 0 else c w + further_on (m w) (looked_excluded m c ws) (looked_included m c ws)) ≤ (if b then 0 else c w) + list_sum c ws
+            → (when b then 0 else c w + further_on (m w) (looked_excluded m c ws) (looked_included m c ws)) ≤ (when b then 0 else c w) + list_sum c ws
         by true h = omega arith
         by false h = omega arith
 
@@ -58,7 +58,7 @@ module _ (m : List ℕ → Found) (c : List ℕ → ℕ) where
     excluded_le (w ∷ ws) = by (is_except w) (included_le ws) (excluded_le ws)
       where
         by : (b : Bool) → looked_included m c ws ≤ list_sum c ws → looked_excluded m c ws ≤ list_sum c ws
-            → (if b then looked_included m c ws else looked_excluded m c ws) ≤ (if b then 0 else c w) + list_sum c ws
+            → (when b then looked_included m c ws else looked_excluded m c ws) ≤ (when b then 0 else c w) + list_sum c ws
         by true h g = omega arith
         by false h g = omega arith
 
@@ -102,8 +102,8 @@ module _ (ts : List Table) where
   unfolding line_names line_count
   line_le r l = by (is_comment l || is_blank l) (parse_rule l.raw)
     where
-      by : (b : Bool) (o : Option Rule) → (if b then false else holds (rule_names (λ n. true)) o) ≡ false
-          → (if b then 0 else of_rule (rule_looked ts r) o) ≤ (if b then 0 else of_rule rule_elements o)
+      by : (b : Bool) (o : Option Rule) → (when b then false else holds (rule_names (λ n. true)) o) ≡ false
+          → (when b then 0 else of_rule (rule_looked ts r) o) ≤ (when b then 0 else of_rule rule_elements o)
       by true o e = omega arith
       by false none e = omega arith
       by false (some u) e = rule_le r u e
@@ -118,7 +118,7 @@ module _ (ts : List Table) where
       by (p l) (line_le r l f.0) (until_le p r ls f.1)
     where
       by : (b : Bool) → line_count (rule_looked ts r) l ≤ line_count rule_elements l → sum_until p (line_count (rule_looked ts r)) ls ≤ sum (line_count rule_elements) ls
-          → line_count (rule_looked ts r) l + (if b then 0 else sum_until p (line_count (rule_looked ts r)) ls) ≤ line_count rule_elements l + sum
+          → line_count (rule_looked ts r) l + (when b then 0 else sum_until p (line_count (rule_looked ts r)) ls) ≤ line_count rule_elements l + sum
           (line_count rule_elements) ls
       by true h g = omega arith
       by false h g = omega arith
@@ -135,6 +135,6 @@ module _ (ts : List Table) where
       (file_le Denied Deny r deny d)
     where
       by : (b : Bool) → file_looked ts Granted Allow r allow ≤ file_elements allow → file_looked ts Denied Deny r deny ≤ file_elements deny
-          → file_looked ts Granted Allow r allow + (if b then 0 else file_looked ts Denied Deny r deny) ≤ file_elements allow + file_elements deny
+          → file_looked ts Granted Allow r allow + (when b then 0 else file_looked ts Denied Deny r deny) ≤ file_elements allow + file_elements deny
       by true h g = omega arith
       by false h g = omega arith

@@ -6,7 +6,7 @@ use mathlib.Core.Bool.{Bool, true, false, ◌||◌}
 use mathlib.Core.List.{List, [], ◌∷◌}
 use mathlib.Core.Option.{Option, none, some, get_or}
 use mathlib.Core.Path.{◌≡◌, refl, sym, ap, ◌∙◌}
-use Rattle.text.specs.Basics.{if◌then◌else◌, ◌>>=◌, ◌or_else◌, is_some, first, sum_until}
+use Rattle.text.specs.Basics.{when◌then◌else◌, ◌>>=◌, ◌or_else◌, is_some, first, sum_until}
 use Rattle.section.specs.declared.Fault.TheVariants as F
 use Rattle.section.specs.declared.Refusal.{Refusal}
 use Rattle.section.specs.Refusal.{Outcome, refused, answered, placeless, ◌before◌}
@@ -52,11 +52,11 @@ module _ (m m' : List ℕ → Found) (c : List ℕ → ℕ) (agree : (w : List �
     looked_included_same [] h = refl
     looked_included_same (w ∷ ws) h = by (is_except w) h (λ q. looked_excluded_same ws q) (λ q. looked_included_same ws q)
       where
-        by : (b : Bool) → Quiet (if b then No else on_found (m w) (excluded m ws) (included m ws))
+        by : (b : Bool) → Quiet (when b then No else on_found (m w) (excluded m ws) (included m ws))
             → (Quiet (excluded m ws) → looked_excluded m' c ws ≡ looked_excluded m c ws)
             → (Quiet (included m ws) → looked_included m' c ws ≡ looked_included m c ws)
-            → (if b then 0 else c w + further_on (m' w) (looked_excluded m' c ws) (looked_included m' c ws))
-            ≡ (if b then 0 else c w + further_on (m w) (looked_excluded m c ws) (looked_included m c ws))
+            → (when b then 0 else c w + further_on (m' w) (looked_excluded m' c ws) (looked_included m' c ws))
+            ≡ (when b then 0 else c w + further_on (m w) (looked_excluded m c ws) (looked_included m c ws))
         by true h e i = refl
         by false h e i = ap (λ (n : ℕ). c w + n)
             (further_same (m w) (m' w) (excluded m ws) (included m ws) (looked_excluded m c ws) (looked_excluded m' c ws) (looked_included m c ws)
@@ -66,10 +66,10 @@ module _ (m m' : List ℕ → Found) (c : List ℕ → ℕ) (agree : (w : List �
     looked_excluded_same [] h = refl
     looked_excluded_same (w ∷ ws) h = by (is_except w) h (λ q. looked_included_same ws q) (λ q. looked_excluded_same ws q)
       where
-        by : (b : Bool) → Quiet (if b then on_found (included m ws) No Yes else excluded m ws)
+        by : (b : Bool) → Quiet (when b then on_found (included m ws) No Yes else excluded m ws)
             → (Quiet (included m ws) → looked_included m' c ws ≡ looked_included m c ws)
             → (Quiet (excluded m ws) → looked_excluded m' c ws ≡ looked_excluded m c ws)
-            → (if b then looked_included m' c ws else looked_excluded m' c ws) ≡ (if b then looked_included m c ws else looked_excluded m c ws)
+            → (when b then looked_included m' c ws else looked_excluded m' c ws) ≡ (when b then looked_included m c ws else looked_excluded m c ws)
         by true h i e = i (turn_quiet (included m ws) h)
         by false h i e = e h
 
@@ -124,8 +124,8 @@ module _ (ts : List Table) (r : Request) (t₀ : List ℕ) (u : User) (t : List 
         quiet x Yes h = tt
         quiet x Ask h = h
 
-        by : (b : Bool) (o : Option Rule) → QuietAnswer (if b then none else (o >>= λ x. rule_answer v f l x (rule_found (match_of ts) unasked x)))
-            → (if b then 0 else of_rule (rule_looked ts asked) o) ≡ (if b then 0 else of_rule (rule_looked ts unasked) o)
+        by : (b : Bool) (o : Option Rule) → QuietAnswer (when b then none else (o >>= λ x. rule_answer v f l x (rule_found (match_of ts) unasked x)))
+            → (when b then 0 else of_rule (rule_looked ts asked) o) ≡ (when b then 0 else of_rule (rule_looked ts unasked) o)
         by true o h = refl
         by false none h = refl
         by false (some x) h = rule_looked_same x (quiet x (rule_found (match_of ts) unasked x) h)
@@ -210,11 +210,11 @@ module _ (r : Request) (t₀ : List ℕ) (u : User) (t : List ℕ) (e : well_for
       k = capped (looked ts a d (held (with_user r U.NotFetched t₀)))
 
       by : (o : Option Refusal) (b b' : Bool) → b' ≡ b
-          → QuietOutcome (o before (if b then answered (search (match_of ts) a d x) else refused (placeless F.BadRequest)))
-          → unless_refused (o before (if b then answered (search (match_of ts) a d x) else refused (placeless F.BadRequest)))
-          (number_of (if b' then answered n else refused (placeless F.BadRequest)))
-          ≡ unless_refused (o before (if b then answered (search (match_of ts) a d x) else refused (placeless F.BadRequest)))
-          (number_of (if b then answered k else refused (placeless F.BadRequest)))
+          → QuietOutcome (o before (when b then answered (search (match_of ts) a d x) else refused (placeless F.BadRequest)))
+          → unless_refused (o before (when b then answered (search (match_of ts) a d x) else refused (placeless F.BadRequest)))
+          (number_of (when b' then answered n else refused (placeless F.BadRequest)))
+          ≡ unless_refused (o before (when b then answered (search (match_of ts) a d x) else refused (placeless F.BadRequest)))
+          (number_of (when b then answered k else refused (placeless F.BadRequest)))
       by (some f) b b' e h = refl
       by none false b' e h = refl
       by none true b' e h = rw e (ap capped (looked_same ts (held r) t₀ u t a d h))

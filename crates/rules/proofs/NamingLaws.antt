@@ -9,7 +9,7 @@ use mathlib.Core.Bool.{Bool, true, false, not, ◌&&◌, ◌||◌}
 use mathlib.Core.List.{List, [], ◌∷◌}
 use mathlib.Core.Option.{Option, none, some}
 use mathlib.Core.Path.{◌≡◌, refl, sym, ap, ap₂, fun_ext, ◌∙◌}
-use Rattle.text.specs.Basics.{if◌then◌else◌, ◌or_else◌, given, holds, is_some, any, first}
+use Rattle.text.specs.Basics.{when◌then◌else◌, ◌or_else◌, given, holds, is_some, any, first}
 use Rattle.section.specs.declared.Fault.{Fault}
 use Rattle.section.specs.declared.Fault.TheVariants as F
 use Rattle.section.specs.declared.Refusal.{Refusal}
@@ -85,10 +85,10 @@ module _ (v : View) (l : Line) where
       (is_comment l || is_blank l) (parse_rule l.raw)
     where
       by : (lay : Option Fault) (c : Bool) (o : Option Rule)
-          → (lay or_else (if c then none else (rule_fault o or_else rules_naming v o)))
-          ≡ (lay or_else (if c then none else rule_fault o)
-          or_else (given (if c then false else holds (rule_names (missing_by v)) o) F.TableName
-          or_else given (if c then false else holds (rule_names (deep_by v)) o) F.TooDeep))
+          → (lay or_else (when c then none else (rule_fault o or_else rules_naming v o)))
+          ≡ (lay or_else (when c then none else rule_fault o)
+          or_else (given (when c then false else holds (rule_names (missing_by v)) o) F.TableName
+          or_else given (when c then false else holds (rule_names (deep_by v)) o) F.TooDeep))
       by (some f) c o = refl
       by none true o = refl
       by none false none = refl
@@ -130,7 +130,7 @@ line_never : (l : Line) → line_names (λ n. false) l ≡ false
 unfolding line_names rule_names
 line_never l = by (is_comment l || is_blank l) (parse_rule l.raw)
   where
-    by : (c : Bool) (o : Option Rule) → (if c then false else holds (rule_names (λ n. false)) o) ≡ false
+    by : (c : Bool) (o : Option Rule) → (when c then false else holds (rule_names (λ n. false)) o) ≡ false
     by true o = refl
     by false none = refl
     by false (some u) = ap₂ ◌||◌ (any_never u.daemons) (any_never u.clients)

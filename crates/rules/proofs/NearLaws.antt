@@ -7,7 +7,7 @@ use mathlib.Core.Bool.{Bool, true, false, ◌||◌}
 use mathlib.Core.List.{List, [], ◌∷◌}
 use mathlib.Core.Option.{Option, none, some}
 use mathlib.Core.Path.{◌≡◌, refl, ◌∙◌}
-use Rattle.text.specs.Basics.{if◌then◌else◌, is_some, first, sum_until}
+use Rattle.text.specs.Basics.{when◌then◌else◌, is_some, first, sum_until}
 use Rattle.lines.specs.Line.{Line, lines, is_comment, is_blank}
 use Rattle.lines.specs.Rule.{Rule, parse_rule, is_except}
 use Rattle.tables.specs.Table.{Matcher}
@@ -46,8 +46,8 @@ module _ (m : List ℕ → Found) (c k : List ℕ → ℕ) (near : Near c k) whe
     included_near (w ∷ ws) = by (is_except w) (included_near ws) (excluded_near ws)
       where
         by : (b : Bool) → capped (looked_included m c ws) ≡ capped (looked_included m k ws) → capped (looked_excluded m c ws) ≡ capped (looked_excluded m k ws)
-            → capped (if b then 0 else c w + further_on (m w) (looked_excluded m c ws) (looked_included m c ws))
-            ≡ capped (if b then 0 else k w + further_on (m w) (looked_excluded m k ws) (looked_included m k ws))
+            → capped (when b then 0 else c w + further_on (m w) (looked_excluded m c ws) (looked_included m c ws))
+            ≡ capped (when b then 0 else k w + further_on (m w) (looked_excluded m k ws) (looked_included m k ws))
         by true i e = refl
         by false i e = capped_both (c w) (further_on (m w) (looked_excluded m c ws) (looked_included m c ws)) (k w)
             (further_on (m w) (looked_excluded m k ws) (looked_included m k ws)) (near w)
@@ -58,7 +58,7 @@ module _ (m : List ℕ → Found) (c k : List ℕ → ℕ) (near : Near c k) whe
     excluded_near (w ∷ ws) = by (is_except w) (included_near ws) (excluded_near ws)
       where
         by : (b : Bool) → capped (looked_included m c ws) ≡ capped (looked_included m k ws) → capped (looked_excluded m c ws) ≡ capped (looked_excluded m k ws)
-            → capped (if b then looked_included m c ws else looked_excluded m c ws) ≡ capped (if b then looked_included m k ws else looked_excluded m k ws)
+            → capped (when b then looked_included m c ws else looked_excluded m c ws) ≡ capped (when b then looked_included m k ws else looked_excluded m k ws)
         by true i e = i
         by false i e = e
 
@@ -89,7 +89,7 @@ line_near : (c k : Rule → ℕ) → Near c k → Near (line_count c) (line_coun
 unfolding line_count
 line_near c k near l = by (is_comment l || is_blank l) (parse_rule l.raw)
   where
-    by : (b : Bool) (o : Option Rule) → capped (if b then 0 else of_rule c o) ≡ capped (if b then 0 else of_rule k o)
+    by : (b : Bool) (o : Option Rule) → capped (when b then 0 else of_rule c o) ≡ capped (when b then 0 else of_rule k o)
     by true o = refl
     by false none = refl
     by false (some u) = near u
@@ -100,7 +100,7 @@ until_near p c k near [] = refl
 until_near p c k near (l ∷ ls) = by (p l) (until_near p c k near ls)
   where
     by : (b : Bool) → capped (sum_until p c ls) ≡ capped (sum_until p k ls)
-        → capped (c l + (if b then 0 else sum_until p c ls)) ≡ capped (k l + (if b then 0 else sum_until p k ls))
+        → capped (c l + (when b then 0 else sum_until p c ls)) ≡ capped (k l + (when b then 0 else sum_until p k ls))
     by true h = capped_both (c l) 0 (k l) 0 (near l) refl
     by false h = capped_both (c l) (sum_until p c ls) (k l) (sum_until p k ls) (near l) h
 
@@ -110,7 +110,7 @@ until v f g c t = sum_until (λ l. is_some (line_answer v f g l)) (line_count c)
 
 abbrev pub total : (Rule → Found) → (Rule → ℕ) → List ℕ → List ℕ → ℕ
 total g c allow deny =
-    until Granted Allow g c allow + (if is_some (first (line_answer Granted Allow g) (lines allow)) then 0 else until Denied Deny g c deny)
+    until Granted Allow g c allow + (when is_some (first (line_answer Granted Allow g) (lines allow)) then 0 else until Denied Deny g c deny)
 
 pub total_near : (g : Rule → Found) (c k : Rule → ℕ) → Near c k → (allow deny : List ℕ) → capped (total g c allow deny) ≡ capped (total g k allow deny)
 total_near g c k near allow deny =
@@ -119,8 +119,8 @@ total_near g c k near allow deny =
     (by (is_some (first (line_answer Granted Allow g) (lines allow))))
   where
     rest : (Rule → ℕ) → ℕ
-    rest c = if is_some (first (line_answer Granted Allow g) (lines allow)) then 0 else until Denied Deny g c deny
+    rest c = when is_some (first (line_answer Granted Allow g) (lines allow)) then 0 else until Denied Deny g c deny
 
-    by : (b : Bool) → capped (if b then 0 else until Denied Deny g c deny) ≡ capped (if b then 0 else until Denied Deny g k deny)
+    by : (b : Bool) → capped (when b then 0 else until Denied Deny g c deny) ≡ capped (when b then 0 else until Denied Deny g k deny)
     by true = refl
     by false = until_near (λ l. is_some (line_answer Denied Deny g l)) (line_count c) (line_count k) (line_near c k near) (lines deny)

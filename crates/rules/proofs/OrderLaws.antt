@@ -9,7 +9,7 @@ use mathlib.Core.Path.{◌≡◌, refl, sym, ap, ap₂, ◌∙◌}
 use lib.Dec.{eqb, ltb}
 use lib.ListN.{length}
 use borrow.Author.Tests.{eq-eqb, ne_eqb}
-use Rattle.text.specs.Basics.{if◌then◌else◌, ◌>>=◌, ◌or_else◌, given}
+use Rattle.text.specs.Basics.{when◌then◌else◌, ◌>>=◌, ◌or_else◌, given}
 use Rattle.section.specs.declared.Fault.TheVariants as F
 use Rattle.section.specs.declared.Refusal.{Refusal}
 use Rattle.section.specs.Refusal.{refusal}
@@ -96,7 +96,7 @@ module _ (allow deny t : List ℕ) (sound : lines_fault allow deny ≡ none) whe
     shallow : (n : List ℕ) → deep_by names n ≡ false
     shallow n = ap is_deep_name (names_only t n) ∙ by (is_missing (tables_in t) n)
       where
-        by : (b : Bool) → is_deep_name (if b then Naming.Missing else Naming.Sound) ≡ false
+        by : (b : Bool) → is_deep_name (when b then Naming.Missing else Naming.Sound) ≡ false
         by true = refl
         by false = refl
 

@@ -11,7 +11,7 @@ use mathlib.Core.List.{List, [], ◌∷◌, ◌++◌}
 use mathlib.Core.Option.{Option, none, some, get_or}
 use mathlib.Core.Path.{◌≡◌, refl, subst, ◌∙◌}
 use lib.ListN.{length, length-append}
-use Rattle.text.specs.Basics.{if◌then◌else◌, ◌>>=◌, ◌or_else◌, is_empty, first}
+use Rattle.text.specs.Basics.{when◌then◌else◌, ◌>>=◌, ◌or_else◌, is_empty, first}
 use Rattle.text.specs.Text.{bytes, among, last_among, cons_first, cons_head, split}
 use Rattle.section.specs.Section.{part}
 use Rattle.lines.specs.Line.{Line, line, continued, logical_lines, lines, is_comment, is_blank}
@@ -48,14 +48,14 @@ cons_first_within (some q) x m p h e =
 split_separator_within : (b : Bool) (t : List ℕ) (p : List ℕ × List ℕ) → split_separator b t ≡ some p → length p.1 ≤ length t
 unfolding split_separator
 split_separator_within b [] p e = let z : ◌≡◌ {A = ℕ} 0 1 = cc in absurd (omega arith)
-split_separator_within b (x ∷ t) p e = by (not b && among ":" x) (split_separator_within (if b then not (among "]" x) else among "[" x) t) e
+split_separator_within b (x ∷ t) p e = by (not b && among ":" x) (split_separator_within (when b then not (among "]" x) else among "[" x) t) e
   where
-    by : (c : Bool) → ((q : List ℕ × List ℕ) → split_separator (if b then not (among "]" x) else among "[" x) t ≡ some q → length q.1 ≤ length t)
-        → (if c then some ([], t) else cons_first x (split_separator (if b then not (among "]" x) else among "[" x) t)) ≡ some p
+    by : (c : Bool) → ((q : List ℕ × List ℕ) → split_separator (when b then not (among "]" x) else among "[" x) t ≡ some q → length q.1 ≤ length t)
+        → (when c then some ([], t) else cons_first x (split_separator (when b then not (among "]" x) else among "[" x) t)) ≡ some p
         → length p.1 ≤ length (x ∷ t)
     by true ih e = let same : ([], t) ≡ p = cc e in subst (λ (p : List ℕ × List ℕ). length p.1 ≤ length (x ∷ t)) same (omega arith)
     by false ih e =
-        let h : length p.1 ≤ length t = cons_first_within (split_separator (if b then not (among "]" x) else among "[" x) t) x (length t) p ih e in
+        let h : length p.1 ≤ length t = cons_first_within (split_separator (when b then not (among "]" x) else among "[" x) t) x (length t) p ih e in
         omega arith
 
 rest_within : (t : List ℕ) → length (get_or (split_separator false t) (t, [])).1 ≤ length t
@@ -79,7 +79,7 @@ parse_rule_within t u e = by (split_separator false t) refl e
 
 -- ## A line's answer
 
-command_end : (b : Bool) (at m n : ℕ) → n ≤ m → at + (m - n) + (if b then 0 else n) ≤ at + m
+command_end : (b : Bool) (at m n : ℕ) → n ≤ m → at + (m - n) + (when b then 0 else n) ≤ at + m
 command_end true at m n h = omega arith
 command_end false at m n h = omega arith
 
@@ -100,7 +100,7 @@ module _ (v : Verdict) (f : File) (r : Rule → Found) where
   line_within l a e = by (is_comment l || is_blank l) (parse_rule l.raw) refl e
     where
       by : (b : Bool) (o : Option Rule) → parse_rule l.raw ≡ o
-          → (if b then none else (o >>= λ u. rule_answer v f l u (r u))) ≡ some a → Within f (l.place + length l.raw) a
+          → (when b then none else (o >>= λ u. rule_answer v f l u (r u))) ≡ some a → Within f (l.place + length l.raw) a
       by true o k e = let z : ◌≡◌ {A = ℕ} 0 1 = cc in absurd (omega arith)
       by false none k e = let z : ◌≡◌ {A = ℕ} 0 1 = cc in absurd (omega arith)
       by false (some u) k e = rule_within l u (r u) a (parse_rule_within l.raw u k) e
@@ -125,7 +125,7 @@ unfolding total split
 split_total [] = refl
 split_total (x ∷ t) = by (among "\n" x) (split "\n" t) (split_total t)
   where
-    by : (b : Bool) (ss : List (List ℕ)) → total ss ≡ length t + 1 → total (if b then [] ∷ ss else cons_head x ss) ≡ length (x ∷ t) + 1
+    by : (b : Bool) (ss : List (List ℕ)) → total ss ≡ length t + 1 → total (when b then [] ∷ ss else cons_head x ss) ≡ length (x ∷ t) + 1
     by true ss ih = omega arith
     by false [] ih = absurd (omega arith)
     by false (s ∷ ss) ih = omega arith
@@ -140,14 +140,14 @@ unfolding total logical_lines
 lines_within m n at [] h = (tt, tt)
 lines_within m n at (s ∷ []) h = by (is_empty s)
   where
-    by : (b : Bool) → AllWithin m (if b then [] else line n at s false ∷ []) × StartsAt at (if b then [] else line n at s false ∷ [])
+    by : (b : Bool) → AllWithin m (when b then [] else line n at s false ∷ []) × StartsAt at (when b then [] else line n at s false ∷ [])
     by true = (tt, tt)
     by false = ((omega arith, tt), refl)
 lines_within m n at (s ∷ u ∷ ss) h =
     by (last_among "\\" s) (logical_lines (n + 1) (at + length s + 1) (u ∷ ss)) (lines_within m (n + 1) (at + length s + 1) (u ∷ ss) (omega arith))
   where
     by : (b : Bool) (ls : List Line) → AllWithin m ls × StartsAt (at + length s + 1) ls
-        → AllWithin m (if b then continued n at s ls else line n at s true ∷ ls) × StartsAt at (if b then continued n at s ls else line n at s true ∷ ls)
+        → AllWithin m (when b then continued n at s ls else line n at s true ∷ ls) × StartsAt at (when b then continued n at s ls else line n at s true ∷ ls)
     by true ls ih = continued_within m n at s ls (omega arith) ih.0 ih.1
     by false ls ih = ((omega arith, ih.0), refl)
 

@@ -12,7 +12,7 @@ use mathlib.Core.Path.{◌≡◌, refl, sym, ap, ap₂, fun_ext, subst, ◌∙�
 use lib.Dec.{eqb, ltb}
 use lib.ListN.{length, drop, drop_of_length-le}
 use borrow.Author.Tests.{eqb-true, lt-ltb, le-ltb, ltb-false}
-use Rattle.text.specs.Basics.{if◌then◌else◌, ◌>>=◌, ◌or_else◌, given, holds, is_some, any, first, sum_until}
+use Rattle.text.specs.Basics.{when◌then◌else◌, ◌>>=◌, ◌or_else◌, given, holds, is_some, any, first, sum_until}
 use Rattle.text.specs.Text.{first_among}
 use Rattle.text.specs.Number.{from_digits}
 use Rattle.section.specs.declared.Fault.TheVariants as F
@@ -73,8 +73,8 @@ pattern_at : (s m : Matcher) (h : Endpoint) → ((n : List ℕ) → s n h ≡ m 
 unfolding pattern_with
 pattern_at s m h same e = by (first_among "/" e) (table_name e)
   where
-    by : (b : Bool) (o : Option (List ℕ)) → matches_pattern (if b then (o >>= λ n. some (s n)) else host_pattern e) h
-        ≡ matches_pattern (if b then (o >>= λ n. some (m n)) else host_pattern e) h
+    by : (b : Bool) (o : Option (List ℕ)) → matches_pattern (when b then (o >>= λ n. some (s n)) else host_pattern e) h
+        ≡ matches_pattern (when b then (o >>= λ n. some (m n)) else host_pattern e) h
     by true none = refl
     by true (some n) = same n
     by false o = refl
@@ -116,13 +116,13 @@ module _ (s m : Matcher) (r : Request) where
           told (some g) = refl
 
       both : (o : Option (Request → Bool)) (p q : Pattern) → matches_pattern p r.client ≡ matches_pattern q r.client
-          → look_at r (o >>= λ f. p >>= λ g. some (λ x. if g x.client then user_case x Ask (found_if (f x)) (found_if (f x)) else No))
-          ≡ look_at r (o >>= λ f. q >>= λ g. some (λ x. if g x.client then user_case x Ask (found_if (f x)) (found_if (f x)) else No))
+          → look_at r (o >>= λ f. p >>= λ g. some (λ x. when g x.client then user_case x Ask (found_if (f x)) (found_if (f x)) else No))
+          ≡ look_at r (o >>= λ f. q >>= λ g. some (λ x. when g x.client then user_case x Ask (found_if (f x)) (found_if (f x)) else No))
       both none p q k = refl
-      both (some f) p q k = told p ∙ ap (λ (b : Bool). if b then user_case r Ask (found_if (f r)) (found_if (f r)) else No) k ∙ sym (told q)
+      both (some f) p q k = told p ∙ ap (λ (b : Bool). when b then user_case r Ask (found_if (f r)) (found_if (f r)) else No) k ∙ sym (told q)
         where
-          told : (p : Pattern) → look_at r (p >>= λ g. some (λ x. if g x.client then user_case x Ask (found_if (f x)) (found_if (f x)) else No))
-              ≡ (if matches_pattern p r.client then user_case r Ask (found_if (f r)) (found_if (f r)) else No)
+          told : (p : Pattern) → look_at r (p >>= λ g. some (λ x. when g x.client then user_case x Ask (found_if (f x)) (found_if (f x)) else No))
+              ≡ (when matches_pattern p r.client then user_case r Ask (found_if (f r)) (found_if (f r)) else No)
           told none = refl
           told (some g) = refl
 
@@ -160,7 +160,7 @@ missing_of t (x ∷ notes) n e full =
     by none = refl
     by (some i) = sound (is_deep (x ∷ notes) i)
       where
-        sound : (b : Bool) → is_missing_name (if b then Naming.Deep else Naming.Sound) ≡ false
+        sound : (b : Bool) → is_missing_name (when b then Naming.Deep else Naming.Sound) ≡ false
         sound true = refl
         sound false = refl
 
@@ -174,14 +174,14 @@ past_missing ts n e = by (table_named ts n) refl e
     by (some t) q k = absurd (true≢false (sym k))
 
 pub noted_deep_of : (ts : List Table) (n : List ℕ)
-    → is_deep_name (if is_missing ts n then Naming.Missing else if leads_past ts 4 n then Naming.Deep else Naming.Sound) ≡ leads_past ts 4 n
+    → is_deep_name (when is_missing ts n then Naming.Missing else when leads_past ts 4 n then Naming.Deep else Naming.Sound) ≡ leads_past ts 4 n
 noted_deep_of ts n = by (is_missing ts n) refl
   where
-    by : (b : Bool) → is_missing ts n ≡ b → is_deep_name (if b then Naming.Missing else if leads_past ts 4 n then Naming.Deep else Naming.Sound) ≡ leads_past ts 4 n
+    by : (b : Bool) → is_missing ts n ≡ b → is_deep_name (when b then Naming.Missing else when leads_past ts 4 n then Naming.Deep else Naming.Sound) ≡ leads_past ts 4 n
     by true e = sym (past_missing ts n e)
     by false e = sound (leads_past ts 4 n)
       where
-        sound : (b : Bool) → is_deep_name (if b then Naming.Deep else Naming.Sound) ≡ b
+        sound : (b : Bool) → is_deep_name (when b then Naming.Deep else Naming.Sound) ≡ b
         sound true = refl
         sound false = refl
 
@@ -324,14 +324,14 @@ module _ (allow deny t : List ℕ) (whole : tables_in t ≡ tables_of t) (r : Re
   named_some : is_some (table_name_fault (tables_of t)) ≡ misnamed
   named_some = rw (names_told (tables_of t), ← whole) (by (eqb (tables_checked (tables_in t)).misnamed 0))
     where
-      by : (b : Bool) → is_some (refused_by F.TableName (if b then none else some (tables_checked (tables_in t)).misnamed)) ≡ not b
+      by : (b : Bool) → is_some (refused_by F.TableName (when b then none else some (tables_checked (tables_in t)).misnamed)) ≡ not b
       by true = refl
       by false = refl
 
   bad_some : is_some (bad_table_fault t) ≡ (limits || unsound)
   bad_some = rw (bad_told t, ← whole) (by limits (eqb (tables_checked (tables_in t)).unsound 0))
     where
-      by : (a b : Bool) → is_some (refused_by F.BadTable (given a 0 or_else (if b then none else some (tables_checked (tables_in t)).unsound))) ≡ (a || not b)
+      by : (a b : Bool) → is_some (refused_by F.BadTable (given a 0 or_else (when b then none else some (tables_checked (tables_in t)).unsound))) ≡ (a || not b)
       by true b = refl
       by false true = refl
       by false false = refl

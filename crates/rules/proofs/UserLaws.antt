@@ -6,7 +6,7 @@ use mathlib.Core.Bool.{Bool, true, false, not, ◌&&◌, ◌||◌}
 use mathlib.Core.List.{List, [], ◌∷◌}
 use mathlib.Core.Option.{Option, none, some, get_or}
 use mathlib.Core.Path.{◌≡◌, refl, ap}
-use Rattle.text.specs.Basics.{if◌then◌else◌, ◌>>=◌, ◌or_else◌, given, first}
+use Rattle.text.specs.Basics.{when◌then◌else◌, ◌>>=◌, ◌or_else◌, given, first}
 use Rattle.section.specs.declared.Fault.TheVariants as F
 use Rattle.section.specs.declared.Refusal.{Refusal}
 use Rattle.section.specs.Refusal.{Outcome, refused, answered, placeless, ◌before◌}
@@ -59,7 +59,7 @@ on_found_same Yes x' y y' n n' h f g k = rw (f tt) (g h)
 on_found_same No x' y y' n n' h f g k = rw (f tt) (k h)
 on_found_same Ask x' y y' n n' h f g k = absurd h
 
-if_same : (b : Bool) (x x' y y' : Found) → Quiet (if b then x else y) → (Quiet x → x' ≡ x) → (Quiet y → y' ≡ y) → (if b then x' else y') ≡ (if b then x else y)
+if_same : (b : Bool) (x x' y y' : Found) → Quiet (when b then x else y) → (Quiet x → x' ≡ x) → (Quiet y → y' ≡ y) → (when b then x' else y') ≡ (when b then x else y)
 if_same true x x' y y' h f g = f h
 if_same false x x' y y' h f g = g h
 
@@ -128,15 +128,15 @@ module _ (m : Matcher) (r : Request) (t₀ : List ℕ) (u : User) (t : List ℕ)
   unfolding client_element client_parts
   client_same e = by (halves e)
     where
-      asks : (b : Bool) (f : Request → Bool) → Quiet (if b then Ask else No)
-          → (if b then user_case asked Ask (found_if (f asked)) (found_if (f asked)) else No) ≡ (if b then Ask else No)
+      asks : (b : Bool) (f : Request → Bool) → Quiet (when b then Ask else No)
+          → (when b then user_case asked Ask (found_if (f asked)) (found_if (f asked)) else No) ≡ (when b then Ask else No)
       asks true f h = absurd h
       asks false f h = refl
 
       half : (o : Option (Request → Bool)) (o' : Option (Endpoint → Bool))
-          → Quiet (look_at unasked (o >>= λ f. o' >>= λ g. some λ q. if g q.client then user_case q Ask (found_if (f q)) (found_if (f q)) else No))
-          → look_at asked (o >>= λ f. o' >>= λ g. some λ q. if g q.client then user_case q Ask (found_if (f q)) (found_if (f q)) else No)
-          ≡ look_at unasked (o >>= λ f. o' >>= λ g. some λ q. if g q.client then user_case q Ask (found_if (f q)) (found_if (f q)) else No)
+          → Quiet (look_at unasked (o >>= λ f. o' >>= λ g. some λ q. when g q.client then user_case q Ask (found_if (f q)) (found_if (f q)) else No))
+          → look_at asked (o >>= λ f. o' >>= λ g. some λ q. when g q.client then user_case q Ask (found_if (f q)) (found_if (f q)) else No)
+          ≡ look_at unasked (o >>= λ f. o' >>= λ g. some λ q. when g q.client then user_case q Ask (found_if (f q)) (found_if (f q)) else No)
       half none o' h = refl
       half (some f) none h = refl
       half (some f) (some g) h = asks (g r.client) f h
@@ -169,9 +169,9 @@ module _ (m : Matcher) (r : Request) (t₀ : List ℕ) (u : User) (t : List ℕ)
       quiet x Yes h = tt
       quiet x Ask h = h
 
-      by : (b : Bool) (o : Option Rule) → QuietAnswer (if b then none else (o >>= λ x. rule_answer v f l x (rule_found m unasked x)))
-          → (if b then none else (o >>= λ x. rule_answer v f l x (rule_found m asked x)))
-          ≡ (if b then none else (o >>= λ x. rule_answer v f l x (rule_found m unasked x)))
+      by : (b : Bool) (o : Option Rule) → QuietAnswer (when b then none else (o >>= λ x. rule_answer v f l x (rule_found m unasked x)))
+          → (when b then none else (o >>= λ x. rule_answer v f l x (rule_found m asked x)))
+          ≡ (when b then none else (o >>= λ x. rule_answer v f l x (rule_found m unasked x)))
       by true o h = refl
       by false none h = refl
       by false (some x) h = ap (rule_answer v f l x) (rule_same x (quiet x (rule_found m unasked x) h))
@@ -212,9 +212,9 @@ module _ (r : Request) (t₀ : List ℕ) (u : User) (t : List ℕ) (e : well_for
       y = held (with_user r u t)
 
       by : (o : Option Refusal) (b b' : Bool) → b' ≡ b
-          → QuietOutcome (o before (if b then answered (search (match_of ts) a d x) else refused (placeless F.BadRequest)))
-          → (o before (if b' then answered (search (match_of ts) a d y) else refused (placeless F.BadRequest)))
-          ≡ (o before (if b then answered (search (match_of ts) a d x) else refused (placeless F.BadRequest)))
+          → QuietOutcome (o before (when b then answered (search (match_of ts) a d x) else refused (placeless F.BadRequest)))
+          → (o before (when b' then answered (search (match_of ts) a d y) else refused (placeless F.BadRequest)))
+          ≡ (o before (when b then answered (search (match_of ts) a d x) else refused (placeless F.BadRequest)))
       by (some f) b b' e h = refl
       by none false b' e h = rw e
       by none true b' e h = rw e (ap answered (search_same (match_of ts) (held r) t₀ u t a d h))
@@ -245,7 +245,7 @@ on_found_quiet Yes y n h g k = g
 on_found_quiet No y n h g k = k
 on_found_quiet Ask y n h g k = h
 
-if_quiet : (b : Bool) (x y : Found) → Quiet x → Quiet y → Quiet (if b then x else y)
+if_quiet : (b : Bool) (x y : Found) → Quiet x → Quiet y → Quiet (when b then x else y)
 if_quiet true x y h g = h
 if_quiet false x y h g = g
 
@@ -298,7 +298,7 @@ module _ (m : Matcher) (r : Request) (fetched : Fetched r.user) where
       user U.Known h b = found_if_quiet b
 
       half : (o : Option (Request → Bool)) (q : Option (Endpoint → Bool))
-          → Quiet (look_at r (o >>= λ f. q >>= λ g. some λ x. if g x.client then user_case x Ask (found_if (f x)) (found_if (f x)) else No))
+          → Quiet (look_at r (o >>= λ f. q >>= λ g. some λ x. when g x.client then user_case x Ask (found_if (f x)) (found_if (f x)) else No))
       half none q = tt
       half (some f) none = tt
       half (some f) (some g) = if_quiet (g r.client) (user_case r Ask (found_if (f r)) (found_if (f r))) No (user r.user fetched (f r)) tt
@@ -326,7 +326,7 @@ module _ (m : Matcher) (r : Request) (fetched : Fetched r.user) where
       answer_quiet x Yes k = h
       answer_quiet x Ask k = k
 
-      by : (b : Bool) (o : Option Rule) → QuietAnswer (if b then none else (o >>= λ x. rule_answer v f l x (rule_found m r x)))
+      by : (b : Bool) (o : Option Rule) → QuietAnswer (when b then none else (o >>= λ x. rule_answer v f l x (rule_found m r x)))
       by true o = tt
       by false none = tt
       by false (some x) = answer_quiet x (rule_found m r x) (rule_quiet x)
@@ -358,7 +358,7 @@ module _ (o : Option Refusal) (ts : List Table) (a d : List ℕ) where
   over_quiet r fetched = by o (well_formed r)
     where
       by : (o : Option Refusal) (b : Bool)
-          → QuietOutcome (o before (if b then answered (search (match_of ts) a d (held r)) else refused (placeless F.BadRequest)))
+          → QuietOutcome (o before (when b then answered (search (match_of ts) a d (held r)) else refused (placeless F.BadRequest)))
       by (some f) b = tt
       by none false = tt
       by none true = search_quiet (match_of ts) (held r) fetched a d

@@ -7,7 +7,7 @@
 -- Assumes nothing: these are definitions.
 use Rattle.std.specs.Prelude.{ℕ, Bool, false, not, ◌&&◌, ◌||◌, List, [], ◌∷◌}
 use Rattle.std.proofs.Math.Option.{Option, none, some}
-use Rattle.text.specs.Basics.{if◌then◌else◌, ◌or_else◌, given, holds, first}
+use Rattle.text.specs.Basics.{when◌then◌else◌, ◌or_else◌, given, holds, first}
 use Rattle.section.specs.declared.Fault.{Fault}
 use Rattle.section.specs.declared.Fault.TheVariants as F
 use Rattle.section.specs.declared.Refusal.{Refusal}
@@ -28,7 +28,7 @@ line_fault_by j l =
     ((F.Unended, not l.ended)
     ∷ (F.BadByte, not (is_comment l) && has_bad_byte (join l.raw))
     ∷ (F.LongLine, is_too_long (join l.raw)) ∷ [])
-    or_else (if is_comment l || is_blank l then none else j (parse_rule l.raw))
+    or_else (when is_comment l || is_blank l then none else j (parse_rule l.raw))
 
 abbrev pub line_fault : Line → Option Fault
 line_fault l = line_fault_by rule_fault l
@@ -39,7 +39,7 @@ hosts_fault s t = first (λ l. at_place s.order l.number (line_fault l)) (lines 
 
 -- Document 02, request 1: a line names a table of whose name p holds
 unfoldable pub line_names : (List ℕ → Bool) → Line → Bool
-line_names p l = if is_comment l || is_blank l then false else holds (rule_names p) (parse_rule l.raw)
+line_names p l = when is_comment l || is_blank l then false else holds (rule_names p) (parse_rule l.raw)
 
 unfoldable pub naming_fault : Fault → (List ℕ → Bool) → Section → List ℕ → Option Refusal
 naming_fault f p s t = first (λ l. at_place s.order l.number (given (line_names p l) f)) (lines t)

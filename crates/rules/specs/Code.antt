@@ -8,7 +8,7 @@
 -- Assumes nothing: these are definitions.
 use Rattle.std.specs.Prelude.{ℕ, Bool, not, ◌||◌, List, ◌≡◌, eqb, ltb, length}
 use Rattle.std.proofs.Math.Option.{Option, none, some}
-use Rattle.text.specs.Basics.{if◌then◌else◌, ◌>>=◌, ◌or_else◌, given}
+use Rattle.text.specs.Basics.{when◌then◌else◌, ◌>>=◌, ◌or_else◌, given}
 use Rattle.section.specs.declared.Fault.TheVariants as F
 use Rattle.section.specs.declared.Refusal.{Refusal}
 use Rattle.section.specs.Refusal.{refusal, placeless}
@@ -55,7 +55,7 @@ depth_both ts allow deny = depth_fault ts S.allow allow or_else depth_fault ts S
 
 -- the refusal of a table by its number, 0 for none
 abbrev pub numbered : ℕ → Option ℕ
-numbered n = if eqb n 0 then none else some n
+numbered n = when eqb n 0 then none else some n
 
 unfoldable pub bad_table_by : List ℕ → ℕ → Option Refusal
 bad_table_by t unsound =

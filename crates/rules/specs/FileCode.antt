@@ -16,7 +16,7 @@
 -- Assumes nothing: these are definitions.
 use Rattle.std.specs.Prelude.{ℕ, ◌+◌, ◌-◌, ◌*◌, Bool, true, false, not, ◌&&◌, ◌||◌, List, [], ◌∷◌, ◌≡◌, length, take, drop}
 use Rattle.std.proofs.Math.Option.{Option, none, some}
-use Rattle.text.specs.Basics.{if◌then◌else◌, ◌or_else◌, is_some, first, sum_until}
+use Rattle.text.specs.Basics.{when◌then◌else◌, ◌or_else◌, is_some, first, sum_until}
 use Rattle.text.specs.Text.{bytes}
 use Rattle.section.specs.declared.Fault.{Fault}
 use Rattle.section.specs.declared.Fault.TheVariants as F
@@ -91,10 +91,10 @@ pass_of none (some a) = P.Matched a
 pass_of (some f) a = P.Faulty f
 
 unfoldable pub pass_line : ℕ → Verdict → File → Bool → Query → Line → Pass
-pass_line s v f search r l = pass_of (fault_at s r.view l) (if search then line_answer v f (query_found r) l else none)
+pass_line s v f search r l = pass_of (fault_at s r.view l) (when search then line_answer v f (query_found r) l else none)
 
 unfoldable pub pass_text : ℕ → Verdict → File → Bool → Query → List ℕ → Pass
-pass_text s v f search r t = pass_of (hosts_fault_at s r.view t) (if search then first (line_answer v f (query_found r)) (lines t) else none)
+pass_text s v f search r t = pass_of (hosts_fault_at s r.view t) (when search then first (line_answer v f (query_found r)) (lines t) else none)
 
 abbrev pub is_unmatched : Pass → Bool
 is_unmatched (P.Faulty g) = false
@@ -132,7 +132,7 @@ lines_looked v f search r ls = counted search (sum_until (λ l. is_some (line_an
 unfoldable pub both_looked : Query → List ℕ → List ℕ → ℕ
 both_looked r allow deny =
     lines_looked Granted Allow true r (lines allow)
-    + (if is_some (first (line_answer Granted Allow (query_found r)) (lines allow)) then 0 else lines_looked Denied Deny true r (lines deny))
+    + (when is_some (first (line_answer Granted Allow (query_found r)) (lines allow)) then 0 else lines_looked Denied Deny true r (lines deny))
 
 abbrev pub refused_report : Refusal → Reported
 refused_report g = record { ruling = R.Refused g; looked = 0 }
@@ -165,7 +165,7 @@ examined_as none x = T.Finds x
 -- what the rule in t finds and looks at, if it is searched
 abbrev pub sought_in : Bool → Query → List ℕ → Looked
 sought_in search r t =
-    looked_for (if search then line_found r.view r.request t else No) (counted search (capped (line_looked r.view r.request t)))
+    looked_for (when search then line_found r.view r.request t else No) (counted search (capped (line_looked r.view r.request t)))
 
 -- whether what a rule tells is a fault
 abbrev pub is_refused : Examined → Bool
@@ -176,7 +176,7 @@ unfoldable pub rule_examined : Bool → Query → List ℕ → Examined
 rule_examined search r t = examined_as (judged_fault r.view (parse_rule t)) (sought_in search r t)
 
 unfoldable pub line_examined : Bool → Query → Line → Examined
-line_examined search r l = examined_as (judged_line r.view l) (if is_comment l || is_blank l then looked_for No 0 else sought_in search r l.raw)
+line_examined search r l = examined_as (judged_line r.view l) (when is_comment l || is_blank l then looked_for No 0 else sought_in search r l.raw)
 
 unfoldable pub command_part : ℕ → List ℕ → Option Rule → Part
 command_part at s none = part (at + length s) 0

@@ -6,7 +6,7 @@
 -- Assumes nothing: these are definitions.
 use Rattle.std.specs.Prelude.{ℕ, ◌+◌, ◌||◌, List}
 use Rattle.std.proofs.Math.Option.{Option, none, some}
-use Rattle.text.specs.Basics.{if◌then◌else◌, is_some, first, sum, sum_until}
+use Rattle.text.specs.Basics.{when◌then◌else◌, is_some, first, sum, sum_until}
 use Rattle.section.specs.Refusal.{Outcome, refused, answered, fitting}
 use Rattle.lines.specs.Line.{Line, lines, is_comment, is_blank}
 use Rattle.lines.specs.Rule.{Rule, parse_rule}
@@ -31,7 +31,7 @@ of_rule f none = 0
 of_rule f (some u) = f u
 
 unfoldable pub line_count : (Rule → ℕ) → Line → ℕ
-line_count f l = if is_comment l || is_blank l then 0 else of_rule f (parse_rule l.raw)
+line_count f l = when is_comment l || is_blank l then 0 else of_rule f (parse_rule l.raw)
 
 -- up to the first rule of a text that matches or asks, that one included
 unfoldable pub file_looked : List Table → Verdict → File → Request → List ℕ → ℕ
@@ -41,7 +41,7 @@ file_looked ts v f r t = sum_until (λ l. is_some (line_answer v f (rule_found (
 unfoldable pub looked : List Table → List ℕ → List ℕ → Request → ℕ
 looked ts allow deny r =
     file_looked ts Granted Allow r allow
-    + (if is_some (first (line_answer Granted Allow (rule_found (match_of ts) r)) (lines allow)) then 0 else file_looked ts Denied Deny r deny)
+    + (when is_some (first (line_answer Granted Allow (rule_found (match_of ts) r)) (lines allow)) then 0 else file_looked ts Denied Deny r deny)
 
 -- "(0 at a refusal)": 13 too
 abbrev pub number_of : Outcome ℕ → ℕ

@@ -6,7 +6,7 @@
 -- Assumes nothing: these are definitions.
 use Rattle.std.specs.Prelude.{ℕ, ◌+◌, ◌-◌, ◌||◌, List, [], ◌∷◌, length}
 use Rattle.std.proofs.Math.Option.{Option, none, some, get_or}
-use Rattle.text.specs.Basics.{if◌then◌else◌, ◌>>=◌, ◌or_else◌, is_empty, first}
+use Rattle.text.specs.Basics.{when◌then◌else◌, ◌>>=◌, ◌or_else◌, is_empty, first}
 use Rattle.section.specs.declared.Part.{Part}
 use Rattle.section.specs.Refusal.{Outcome, answered, ◌before◌, fitting}
 use Rattle.section.specs.Section as S
@@ -36,7 +36,7 @@ file_section Deny = (S.deny).order
 -- part where there is none"; "empty means none". The place of an empty part is free.
 abbrev pub raw_command : Line → Rule → Part
 raw_command l u =
-    let n : ℕ = length u.command in part (l.place + (length l.raw - n)) (if is_empty (trimmed u.command) then 0 else n)
+    let n : ℕ = length u.command in part (l.place + (length l.raw - n)) (when is_empty (trimmed u.command) then 0 else n)
 
 abbrev pub answer : Verdict → File → ℕ → Part → Answer
 answer v f n p = record { verdict = v; file = f; line = n; command = p }
@@ -50,7 +50,7 @@ rule_answer v f l u Found.No = none
 -- where found says what a rule finds
 unfoldable pub line_answer : Verdict → File → (Rule → Found) → Line → Option Answer
 line_answer v f found l =
-    if is_comment l || is_blank l then none else (parse_rule l.raw >>= λ u. rule_answer v f l u (found u))
+    when is_comment l || is_blank l then none else (parse_rule l.raw >>= λ u. rule_answer v f l u (found u))
 
 -- "First matching rule of allow grants; else first matching rule of deny denies; else granted with no file and line 0."
 unfoldable pub search : Matcher → List ℕ → List ℕ → Request → Answer

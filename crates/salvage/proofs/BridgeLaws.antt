@@ -12,7 +12,7 @@ use native.Mathlib.Omega.{arith}
 use borrow.Author.Tests.{lt-ltb, ne_eqb}
 use lib.Dec.{ltb, eqb}
 use lib.ListN.{length, drop}
-use Rattle.text.specs.Basics.{if◌then◌else◌, ◌or_else◌, given, holds, is_some, is_empty}
+use Rattle.text.specs.Basics.{when◌then◌else◌, ◌or_else◌, given, holds, is_some, is_empty}
 use Rattle.text.specs.Text.{bytes, split, intercalate}
 use Rattle.text.proofs.BasicLaws.{or_false}
 use Rattle.byuid.proofs.SplitLaws.{split_some}
@@ -93,9 +93,9 @@ bad_by_lem v l = by
     named false false = refl
 
     by : (lay : Option Fault) (c : Bool) (o : Option Rule)
-        → is_some (lay or_else (if c then none else (rule_fault o or_else rules_naming v o)))
-        ≡ (is_some (lay or_else (if c then none else rule_fault o))
-        || (if c then false else holds (rule_names (missing_by v)) o) || (if c then false else holds (rule_names (deep_by v)) o))
+        → is_some (lay or_else (when c then none else (rule_fault o or_else rules_naming v o)))
+        ≡ (is_some (lay or_else (when c then none else rule_fault o))
+        || (when c then false else holds (rule_names (missing_by v)) o) || (when c then false else holds (rule_names (deep_by v)) o))
     by (some f) c o = refl
     by none true o = refl
     by none false none = refl
@@ -123,8 +123,8 @@ module _ (v : View) where
   rule_line instead l =
       rw ((judge_view v).moved 0 0 l.number l.place l.raw l.ended) (by (bad_by v l) refl)
     where
-      by : (b : Bool) → bad_by v l ≡ b → (if b then instead else l.raw) ++ bytes "\n" ≡ (if b then instead ++ bytes "\n" else l.raw ++
-          (if l.ended then bytes "\n" else []))
+      by : (b : Bool) → bad_by v l ≡ b → (when b then instead else l.raw) ++ bytes "\n" ≡ (when b then instead ++ bytes "\n" else l.raw ++
+          (when l.ended then bytes "\n" else []))
       by true e = refl
       by false e = rw ((judge_view v).ends l.number l.place l.raw l.ended e)
 
@@ -172,7 +172,7 @@ module _ (v : View) where
   joined false [] = []
   joined false (w ∷ ws) = bytes "," ++ intercalate (bytes ",") (w ∷ ws)
 
-  joined_cons : (alone : Bool) (w : List ℕ) (ws : List (List ℕ)) → ((if alone then [] else bytes ",") ++ w) ++ joined false ws ≡ joined alone (w ∷ ws)
+  joined_cons : (alone : Bool) (w : List ℕ) (ws : List (List ℕ)) → ((when alone then [] else bytes ",") ++ w) ++ joined false ws ≡ joined alone (w ∷ ws)
   unfolding intercalate
   joined_cons true w [] = append-nil w
   joined_cons true w (u ∷ ws) = sym (append_assoc w (bytes ",") (intercalate (bytes ",") (u ∷ ws)))
@@ -184,8 +184,8 @@ module _ (v : View) where
   unfolding entry_bytes keep
   one_entry alone w ws = by (good_entry w) alone
     where
-      by : (b a : Bool) → (if not b then [] else (if a then [] else bytes ",") ++ w) ++ joined (a && not b) (keep good_entry ws)
-          ≡ joined a (if b then w ∷ keep good_entry ws else keep good_entry ws)
+      by : (b a : Bool) → (when not b then [] else (when a then [] else bytes ",") ++ w) ++ joined (a && not b) (keep good_entry ws)
+          ≡ joined a (when b then w ∷ keep good_entry ws else keep good_entry ws)
       by true true = joined_cons true w (keep good_entry ws)
       by true false = joined_cons false w (keep good_entry ws)
       by false true = refl
@@ -230,8 +230,8 @@ module _ (v : View) where
   listed_lines k alone (l ∷ ls) = by (worse k l) (listed_lines k (alone && worse k l) ls)
     where
       by : (b : Bool) → written k v true (alone && worse k l) ls ≡ flat_map change_bytes (in_section (section_of k) (numbers_of k ls))
-          → (if b then change_bytes ((section_of k).order, l.number) else []) ++ written k v true (alone && worse k l) ls
-          ≡ flat_map change_bytes (in_section (section_of k) (map (λ (l : Line). l.number) (if b then l ∷ keep (worse k) ls else keep (worse k) ls)))
+          → (when b then change_bytes ((section_of k).order, l.number) else []) ++ written k v true (alone && worse k l) ls
+          ≡ flat_map change_bytes (in_section (section_of k) (map (λ (l : Line). l.number) (when b then l ∷ keep (worse k) ls else keep (worse k) ls)))
       by true ih = ap (λ (s : List ℕ). change_bytes ((section_of k).order, l.number) ++ s) ih
       by false ih = ih
 
@@ -275,7 +275,7 @@ module _ (v : View) where
   plain_places k p e n at [] = refl
   plain_places k p e n at (w ∷ []) = rw (e w false) (by (p w))
     where
-      by : (b : Bool) → map (λ (l : Line). l.number) (if b then line n at w false ∷ [] else []) ≡ (if b then n ∷ [] else [])
+      by : (b : Bool) → map (λ (l : Line). l.number) (when b then line n at w false ∷ [] else []) ≡ (when b then n ∷ [] else [])
       by true = refl
       by false = refl
   plain_places k p e n at (w ∷ u ∷ ws) = rw (e w true) (by (p w) (plain_places k p e (n + 1) (at + length w + 1) (u ∷ ws)))
@@ -284,7 +284,7 @@ module _ (v : View) where
       rest = keep (worse k) (plain_lines (n + 1) (at + length w + 1) (u ∷ ws))
 
       by : (b : Bool) → map (λ (l : Line). l.number) rest ≡ places p (n + 1) (u ∷ ws)
-          → map (λ (l : Line). l.number) (if b then line n at w true ∷ rest else rest) ≡ (if b then n ∷ places p (n + 1) (u ∷ ws) else places p (n + 1)
+          → map (λ (l : Line). l.number) (when b then line n at w true ∷ rest else rest) ≡ (when b then n ∷ places p (n + 1) (u ∷ ws) else places p (n + 1)
           (u ∷ ws))
       by true ih = ap (λ (ns : List ℕ). n ∷ ns) ih
       by false ih = ih

@@ -12,7 +12,7 @@ use mathlib.Core.Path.{◌≡◌, refl, sym, ap, ap₂, ◌∙◌}
 use native.Mathlib.Numerals.{add-one}
 use native.Mathlib.Omega.{arith}
 use lib.ListN.{length, take, drop}
-use Rattle.text.specs.Basics.{if◌then◌else◌, ◌or_else◌, is_some, first}
+use Rattle.text.specs.Basics.{when◌then◌else◌, ◌or_else◌, is_some, first}
 use Rattle.text.specs.Text.{bytes, split}
 use Rattle.lines.specs.Line.{Line, line, logical_lines, lines}
 use Rattle.lines.specs.Rewrite.{line_bytes}
@@ -33,7 +33,7 @@ module _ (bad : Line → Bool) where
   unfolding keep
   keep_none l ls e = by (bad l) e
     where
-      by : (b : Bool) → (if b then l ∷ keep bad ls else keep bad ls) ≡ [] → (b ≡ false) × (keep bad ls ≡ [])
+      by : (b : Bool) → (when b then l ∷ keep bad ls else keep bad ls) ≡ [] → (b ≡ false) × (keep bad ls ≡ [])
       by true k = let z : ◌≡◌ {A = ℕ} 0 1 = cc in absurd (omega arith)
       by false k = (refl, k)
 
@@ -88,7 +88,7 @@ module _ (bad : Line → Bool) (judge : Judge bad) (instead : List ℕ) (stands 
     pub whole : Whole raw joins
     pub bytes : salvage_line bad instead l ≡ raw ++ (10 ∷ [])
     pub good : (m pl : ℕ) → bad (line m pl raw true) ≡ false
-    pub is : raw ≡ (if bad l then instead else l.raw)
+    pub is : raw ≡ (when bad l then instead else l.raw)
 
   put_line : (n at : ℕ) (t : List ℕ) → Put (this n at t)
   put_line n at t = by (bad (this n at t)) refl
@@ -144,7 +144,7 @@ module _ (bad : Line → Bool) (judge : Judge bad) (instead : List ℕ) (stands 
 
   -- the lines one by one
   abbrev new_raw : Line → List ℕ
-  new_raw l = if bad l then instead else l.raw
+  new_raw l = when bad l then instead else l.raw
 
   Lined : List ℕ → Type 0
   Lined t = (n at m pl : ℕ) → map (λ (l : Line). l.raw) (logical_lines m pl (split "\n" (made n at t))) ≡ map new_raw (logical_lines n at (split "\n" t))

@@ -6,7 +6,7 @@ use mathlib.Core.Bool.{Bool, true, false, ◌&&◌, ◌||◌, or-false}
 use mathlib.Core.List.{List, [], ◌∷◌, ◌++◌, map}
 use mathlib.Core.Path.{◌≡◌, refl, ap, ◌∙◌}
 use lib.Dec.{eqb}
-use Rattle.text.specs.Basics.{if◌then◌else◌, any}
+use Rattle.text.specs.Basics.{when◌then◌else◌, any}
 use Rattle.text.specs.Text.{split}
 use Rattle.text.proofs.Intercalate.{any_append}
 use Rattle.section.specs.Section as S
@@ -35,7 +35,7 @@ module _ (k n : ℕ) where
   own_section s e worse (l ∷ ls) = by (worse l) (own_section s e worse ls)
     where
       by : (b : Bool) → any test (in_section s (map (λ (l : Line.Line). l.number) (keep worse ls))) ≡ any (λ l. worse l && eqb l.number n) ls
-          → any test (in_section s (map (λ (l : Line.Line). l.number) (if b then l ∷ keep worse ls else keep worse ls)))
+          → any test (in_section s (map (λ (l : Line.Line). l.number) (when b then l ∷ keep worse ls else keep worse ls)))
           ≡ (b && eqb l.number n || any (λ l. worse l && eqb l.number n) ls)
       by true ih = rw e (ap (λ (x : Bool). eqb l.number n || x) ih)
       by false ih = ih

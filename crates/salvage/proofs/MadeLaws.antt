@@ -13,7 +13,7 @@ use borrow.Author.Tests.{lt-ltb}
 use lib.Dec.{ltb, eqb}
 use lib.ListN.{length, take, drop, length-append, length-drop}
 use lib.Seq.{length-take-le}
-use Rattle.text.specs.Basics.{if◌then◌else◌, is_some, is_empty}
+use Rattle.text.specs.Basics.{when◌then◌else◌, is_some, is_empty}
 use Rattle.text.specs.Text.{bytes, split, split_once, intercalate}
 use Rattle.text.specs.Scan.{put_at}
 use Rattle.text.proofs.PasteLaws.{length_put_at}

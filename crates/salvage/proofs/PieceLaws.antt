@@ -11,7 +11,7 @@ use borrow.Author.Tests.{eq-eqb, ne_eqb, lt-ltb, le-ltb, ltb-true, ltb-false}
 use lib.Dec.{ltb, eqb}
 use lib.ListN.{length, take, drop, length-append, length-drop}
 use lib.Seq.{take_all, drop-drop, length-take-le}
-use Rattle.text.specs.Basics.{if◌then◌else◌, is_some}
+use Rattle.text.specs.Basics.{when◌then◌else◌, is_some}
 use Rattle.text.specs.Text.{bytes, split}
 use Rattle.text.specs.Number.{to_digits}
 use Rattle.text.specs.Scan.{index_of, put_at}
@@ -68,7 +68,7 @@ stop_within K.Deny n = omega arith
 stop_within K.Byuid n = omega arith
 stop_within K.Portacl n = by (eqb n 0)
   where
-    by : (b : Bool) → (if b then 0 else n + 1) ≤ n + 1
+    by : (b : Bool) → (when b then 0 else n + 1) ≤ n + 1
     by true = omega arith
     by false = omega arith
 
@@ -78,7 +78,7 @@ unfolding stop_of lines_from
 lines_stop K.Allow t at n h = logical_lines_end t at n at h
 lines_stop K.Deny t at n h = logical_lines_end t at n at h
 lines_stop K.Byuid t at n h = rw (le-ltb at (length t + 1) h)
-lines_stop K.Portacl t at n h = rw (le-ltb at (if eqb (length t) 0 then 0 else length t + 1) h)
+lines_stop K.Portacl t at n h = rw (le-ltb at (when eqb (length t) 0 then 0 else length t + 1) h)
 
 -- ## The logical line at a place
 
@@ -203,7 +203,7 @@ module _ (k : Kind) (m at : ℕ) (h : at < stop_of k m) where
   unfolding stop_of
   entry_at e = by (eqb m 0) refl (rw e at h)
     where
-      by : (b : Bool) → eqb m 0 ≡ b → at < (if b then 0 else m + 1) → (0 < m) × (at ≤ m)
+      by : (b : Bool) → eqb m 0 ≡ b → at < (when b then 0 else m + 1) → (0 < m) × (at ≤ m)
       by true q l = absurd (omega arith)
       by false q l = (some m q, omega arith)
         where
@@ -349,7 +349,7 @@ module _ (instead : List ℕ) (bad : Bool) (s d : List ℕ) (at : ℕ) where
 module _ (s d : List ℕ) (at : ℕ) (ended : Bool) (room : at + length (bind_bytes s ended) ≤ length d) where
   pub bind_room : at + length s ≤ length d
   unfolding bind_bytes
-  bind_room = omega (arith, length-append (convert_line s) (if ended then bytes "\n" else []), length_convert_line s)
+  bind_room = omega (arith, length-append (convert_line s) (when ended then bytes "\n" else []), length_convert_line s)
 
   module _ (o : List ℕ) (is-o : o ≡ put_at d at (convert_line s)) where
     wrote : Wrote d o (convert_line s) at (at + length s)
@@ -436,7 +436,7 @@ module _ (k : Kind) (bad : Bool) (number : ℕ) (d : List ℕ) (at : ℕ) where
   unfolding listed_bytes
   change_none e = by bad e
     where
-      by : (b : Bool) → not b ≡ true → Wrote d d (if b then change_bytes ((section_of k).order, number) else []) at at
+      by : (b : Bool) → not b ≡ true → Wrote d d (when b then change_bytes ((section_of k).order, number) else []) at at
       by true q = absurd (true≢false (sym q))
       by false q = wrote_nil d at
 
@@ -445,7 +445,7 @@ module _ (k : Kind) (bad : Bool) (number : ℕ) (d : List ℕ) (at : ℕ) where
     unfolding listed_bytes
     parts = by bad e
       where
-        by : (b : Bool) → not b ≡ false → (if b then change_bytes ((section_of k).order, number) else []) ≡ to_digits 256 4
+        by : (b : Bool) → not b ≡ false → (when b then change_bytes ((section_of k).order, number) else []) ≡ to_digits 256 4
             (section_of k).order ++ to_digits 256 4 number
         by true q = refl
         by false q = absurd (true≢false q)

@@ -7,7 +7,7 @@ use mathlib.Core.Option.{Option, none, some}
 use mathlib.Core.Path.{◌≡◌, refl, sym, ap, ◌∙◌}
 use native.Mathlib.Omega.{arith}
 use lib.ListN.{length}
-use Rattle.text.specs.Basics.{if◌then◌else◌, is_some, is_empty, all}
+use Rattle.text.specs.Basics.{when◌then◌else◌, is_some, is_empty, all}
 use Rattle.text.specs.Text.{bytes, split_once, split, intercalate}
 use Rattle.text.proofs.BasicLaws.{and_true}
 use Rattle.text.proofs.Intercalate.{free, is_field_free, is_empty_intercalate, split_intercalate}
@@ -24,7 +24,7 @@ module _ {A : Type 0} (p : A → Bool) where
   keep_all q [] e = refl
   keep_all q (x ∷ l) e = by (p x) (keep_all q l (and_true (q x) (all q l) e).1)
     where
-      by : (b : Bool) → all q (keep p l) ≡ true → all q (if b then x ∷ keep p l else keep p l) ≡ true
+      by : (b : Bool) → all q (keep p l) ≡ true → all q (when b then x ∷ keep p l else keep p l) ≡ true
       by true ih = rw (and_true (q x) (all q l) e).0 ih
       by false ih = ih
 
@@ -33,7 +33,7 @@ module _ {A : Type 0} (p : A → Bool) where
   keep_passes [] = refl
   keep_passes (x ∷ l) = by (p x) refl (keep_passes l)
     where
-      by : (b : Bool) → p x ≡ b → all p (keep p l) ≡ true → all p (if b then x ∷ keep p l else keep p l) ≡ true
+      by : (b : Bool) → p x ≡ b → all p (keep p l) ≡ true → all p (when b then x ∷ keep p l else keep p l) ≡ true
       by true e ih = rw e ih
       by false e ih = ih
 

@@ -15,7 +15,7 @@ use borrow.Author.Tests.{ltb-false, le-ltb}
 use lib.Dec.{ltb}
 use lib.ListN.{length}
 use Rattle.text.specs.Basics as Basics
-use Rattle.text.specs.Basics.{if◌then◌else◌, ◌or_else◌, given, is_some, first}
+use Rattle.text.specs.Basics.{when◌then◌else◌, ◌or_else◌, given, is_some, first}
 use Rattle.text.specs.Text as Text
 use Rattle.text.specs.Text.{bytes, split}
 use Rattle.text.proofs.BasicLaws.{or_false}
@@ -146,11 +146,11 @@ module _ (ts : Texts) where
   deny_good = salvage_hosts_good (bad_line tables) (judge_tables tables) (bytes "ALL: ALL") (all_all tables) ts.deny
 
   -- "leaves every other byte and its order": the lines one by one
-  pub allow_lines : map (λ (l : Line.Line). l.raw) (lines (salvaged ts).allow) ≡ map (λ l. if bad_line tables l then [] else l.raw) (lines ts.allow)
+  pub allow_lines : map (λ (l : Line.Line). l.raw) (lines (salvaged ts).allow) ≡ map (λ l. when bad_line tables l then [] else l.raw) (lines ts.allow)
   unfolding salvaged_by
   allow_lines = salvage_hosts_lines (bad_line tables) (judge_tables tables) [] (nothing tables) ts.allow
 
-  pub deny_lines : map (λ (l : Line.Line). l.raw) (lines (salvaged ts).deny) ≡ map (λ l. if bad_line tables l then bytes "ALL: ALL" else l.raw) (lines
+  pub deny_lines : map (λ (l : Line.Line). l.raw) (lines (salvaged ts).deny) ≡ map (λ l. when bad_line tables l then bytes "ALL: ALL" else l.raw) (lines
       ts.deny)
   unfolding salvaged_by
   deny_lines = salvage_hosts_lines (bad_line tables) (judge_tables tables) (bytes "ALL: ALL") (all_all tables) ts.deny
@@ -181,9 +181,9 @@ unfolding retired_fault places
 none_listed n [] e = refl
 none_listed n (l ∷ ls) e = by (is_retired l) e (λ h. none_listed (n + 1) ls h)
   where
-    by : (b : Bool) → (if b then some (refusal F.RetiredForm (S.byuid).order n) else retired_fault (n + 1) ls) ≡ none
+    by : (b : Bool) → (when b then some (refusal F.RetiredForm (S.byuid).order n) else retired_fault (n + 1) ls) ≡ none
         → (retired_fault (n + 1) ls ≡ none → places is_retired (n + 1) ls ≡ [])
-        → (if b then n ∷ places is_retired (n + 1) ls else places is_retired (n + 1) ls) ≡ []
+        → (when b then n ∷ places is_retired (n + 1) ls else places is_retired (n + 1) ls) ≡ []
     by true h ih = let z : ◌≡◌ {A = ℕ} 0 1 = cc in absurd (omega arith)
     by false h ih = ih h
 

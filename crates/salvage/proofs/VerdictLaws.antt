@@ -12,7 +12,7 @@ use borrow.Author.Tests.{ltb-false, le-ltb}
 use lib.Dec.{ltb}
 use lib.ListN.{length, length-append}
 use Rattle.text.specs.Basics as Basics
-use Rattle.text.specs.Basics.{if◌then◌else◌, ◌>>=◌, ◌or_else◌, holds, is_some, any, first}
+use Rattle.text.specs.Basics.{when◌then◌else◌, ◌>>=◌, ◌or_else◌, holds, is_some, any, first}
 use Rattle.text.specs.Text as Text
 use Rattle.text.specs.Text.{bytes}
 use Rattle.text.proofs.BasicLaws.{or_false}
@@ -73,8 +73,8 @@ module _ (m : Matcher) (r : Request) where
       k = line 0 0 l.raw true
 
       by : (b : Bool) (o : Option Rule.Rule)
-          → is_some (if b then none else (o >>= λ u. rule_answer Denied Deny l u (rule_found m r u)))
-          ≡ is_some (if b then none else (o >>= λ u. rule_answer Denied Deny k u (rule_found m r u)))
+          → is_some (when b then none else (o >>= λ u. rule_answer Denied Deny l u (rule_found m r u)))
+          ≡ is_some (when b then none else (o >>= λ u. rule_answer Denied Deny k u (rule_found m r u)))
       by true o = refl
       by false none = refl
       by false (some u) = rule_decides l k u (rule_found m r u)
@@ -101,16 +101,16 @@ module _ (m : Matcher) (r : Request) where
 
   -- where lines with `ALL: ALL` for each bad one do not decide, the good ones do not
   good_silent : (bad : Line.Line → Bool) (ls : List Line.Line)
-      → any decides (map (λ (l : Line.Line). if bad l then bytes "ALL: ALL" else l.raw) ls) ≡ false
-      → any decides (map (λ (l : Line.Line). if bad l then [] else l.raw) ls) ≡ false
+      → any decides (map (λ (l : Line.Line). when bad l then bytes "ALL: ALL" else l.raw) ls) ≡ false
+      → any decides (map (λ (l : Line.Line). when bad l then [] else l.raw) ls) ≡ false
   unfolding any
   good_silent bad [] e = refl
   good_silent bad (l ∷ ls) e =
-      let others : List (List ℕ) = map (λ (x : Line.Line). if bad x then bytes "ALL: ALL" else x.raw) ls in
-      let a = or_false (decides (if bad l then bytes "ALL: ALL" else l.raw)) (any decides others) e in
+      let others : List (List ℕ) = map (λ (x : Line.Line). when bad x then bytes "ALL: ALL" else x.raw) ls in
+      let a = or_false (decides (when bad l then bytes "ALL: ALL" else l.raw)) (any decides others) e in
       rw (by (bad l) a.0, good_silent bad ls a.1)
     where
-      by : (b : Bool) → decides (if b then bytes "ALL: ALL" else l.raw) ≡ false → decides (if b then [] else l.raw) ≡ false
+      by : (b : Bool) → decides (when b then bytes "ALL: ALL" else l.raw) ≡ false → decides (when b then [] else l.raw) ≡ false
       by true k = absurd (true≢false (sym all_decides ∙ k))
       by false k = k
 
@@ -145,7 +145,7 @@ module _ (m : Matcher) (r : Request) where
       rule u Found.Ask = refl
       rule u Found.No = refl
 
-      by : (b : Bool) (o : Option Rule.Rule) → answer_grants (if b then none else (o >>= λ u. rule_answer Denied Deny l u (rule_found m r u))) ≡ false
+      by : (b : Bool) (o : Option Rule.Rule) → answer_grants (when b then none else (o >>= λ u. rule_answer Denied Deny l u (rule_found m r u))) ≡ false
       by true o = refl
       by false none = refl
       by false (some u) = rule u (rule_found m r u)
@@ -213,7 +213,7 @@ module _ (ts : Texts) where
         length-append b (flat_map (salvage_line (bad_line tables) (bytes "ALL: ALL")) ls),
       )
     where
-      by : (b : Bool) → length (if b then [] ++ bytes "\n" else line_bytes l) ≤ length (if b then bytes "ALL: ALL" ++ bytes "\n" else line_bytes l)
+      by : (b : Bool) → length (when b then [] ++ bytes "\n" else line_bytes l) ≤ length (when b then bytes "ALL: ALL" ++ bytes "\n" else line_bytes l)
       by true = omega arith
       by false = omega arith
 

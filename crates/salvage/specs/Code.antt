@@ -11,7 +11,7 @@
 use Rattle.std.specs.Prelude.{ℕ, ◌+◌, ◌-◌, ◌≤◌, Bool, true, false, not, ◌&&◌, List, [], ◌∷◌, ◌++◌, ◌≡◌, length, take, drop, ltb, eqb}
 use Prim.Native.String.{String}
 use Rattle.std.proofs.Math.Option.{Option}
-use Rattle.text.specs.Basics.{if◌then◌else◌, ◌or_else◌, given, is_some}
+use Rattle.text.specs.Basics.{when◌then◌else◌, ◌or_else◌, given, is_some}
 use Rattle.text.specs.Text.{bytes, split}
 use Rattle.section.specs.declared.Fault.TheVariants as F
 use Rattle.section.specs.declared.Refusal.{Refusal}
@@ -47,10 +47,10 @@ unfoldable pub stop_of : Kind → ℕ → ℕ
 stop_of K.Allow n = n
 stop_of K.Deny n = n
 stop_of K.Byuid n = n + 1
-stop_of K.Portacl n = if eqb n 0 then 0 else n + 1
+stop_of K.Portacl n = when eqb n 0 then 0 else n + 1
 
 abbrev pub parts_from : String → ℕ → List ℕ → ℕ → ℕ → List Line
-parts_from mark stop t at n = if ltb at stop then plain_lines n at (split mark (drop at t)) else []
+parts_from mark stop t at n = when ltb at stop then plain_lines n at (split mark (drop at t)) else []
 
 unfoldable pub lines_from : Kind → List ℕ → ℕ → ℕ → List Line
 lines_from K.Allow t at n = logical_lines n at (split "\n" (drop at t))
@@ -83,13 +83,13 @@ section_of K.Byuid = S.byuid
 section_of K.Portacl = S.portacl
 
 unfoldable pub rule_bytes : List ℕ → Bool → List ℕ → List ℕ
-rule_bytes instead bad s = (if bad then instead else s) ++ bytes "\n"
+rule_bytes instead bad s = (when bad then instead else s) ++ bytes "\n"
 
 unfoldable pub bind_bytes : List ℕ → Bool → List ℕ
-bind_bytes s ended = convert_line s ++ (if ended then bytes "\n" else [])
+bind_bytes s ended = convert_line s ++ (when ended then bytes "\n" else [])
 
 unfoldable pub entry_bytes : Bool → Bool → List ℕ → List ℕ
-entry_bytes bad alone s = if bad then [] else (if alone then [] else bytes ",") ++ s
+entry_bytes bad alone s = when bad then [] else (when alone then [] else bytes ",") ++ s
 
 -- where alone says that no entry was kept so far
 unfoldable pub text_bytes : Kind → Bool → Bool → List ℕ → Bool → List ℕ
@@ -99,7 +99,7 @@ text_bytes K.Byuid bad alone s ended = bind_bytes s ended
 text_bytes K.Portacl bad alone s ended = entry_bytes bad alone s
 
 unfoldable pub listed_bytes : Kind → Bool → ℕ → List ℕ
-listed_bytes k bad n = if bad then change_bytes ((section_of k).order, n) else []
+listed_bytes k bad n = when bad then change_bytes ((section_of k).order, n) else []
 
 unfoldable pub written_for : Kind → Bool → Bool → Bool → ℕ → List ℕ → Bool → List ℕ
 written_for k true bad alone n s ended = listed_bytes k bad n

@@ -7,7 +7,7 @@
 use Rattle.std.specs.Prelude.{ℕ, ◌+◌, Bool, not, ◌||◌, length}
 use mathlib.Core.List.{List, [], ◌∷◌, ◌++◌, map, flat_map}
 use Rattle.std.proofs.Math.Option.{Option}
-use Rattle.text.specs.Basics.{if◌then◌else◌, ◌or_else◌, is_some, is_empty}
+use Rattle.text.specs.Basics.{when◌then◌else◌, ◌or_else◌, is_some, is_empty}
 use Rattle.text.specs.Text.{bytes, split, intercalate}
 use Rattle.text.specs.Number.{to_digits}
 use Rattle.section.specs.declared.Refusal.{Refusal}
@@ -27,12 +27,12 @@ module _ {A : Type 0} where
   -- what is chosen of a list
   unfoldable pub keep : (A → Bool) → List A → List A
   keep p [] = []
-  keep p (x ∷ xs) = if p x then x ∷ keep p xs else keep p xs
+  keep p (x ∷ xs) = when p x then x ∷ keep p xs else keep p xs
 
   -- the numbers, from n on, of what is chosen
   unfoldable pub places : (A → Bool) → ℕ → List A → List ℕ
   places p n [] = []
-  places p n (x ∷ xs) = if p x then n ∷ places p (n + 1) xs else places p (n + 1) xs
+  places p n (x ∷ xs) = when p x then n ∷ places p (n + 1) xs else places p (n + 1) xs
 
 -- ## The texts
 
@@ -42,7 +42,7 @@ bad_line ts l = is_some (line_fault l) || line_names (is_missing ts) l || line_n
 
 -- "into nothing", or into a rule, "both ended by a newline where the bad one had none, and leaves every other byte"
 abbrev pub salvage_line : (Line → Bool) → List ℕ → Line → List ℕ
-salvage_line bad instead l = if bad l then instead ++ bytes "\n" else line_bytes l
+salvage_line bad instead l = when bad l then instead ++ bytes "\n" else line_bytes l
 
 unfoldable pub salvage_hosts : (Line → Bool) → List ℕ → List ℕ → List ℕ
 salvage_hosts bad instead t = flat_map (salvage_line bad instead) (lines t)
@@ -78,7 +78,7 @@ bad_lines bad t = map (λ (l : Line). l.number) (keep bad (lines t))
 
 -- "Empty text has no entries."
 abbrev pub bad_entries : List ℕ → List ℕ
-bad_entries t = if is_empty t then [] else places (λ e. not (good_entry e)) 1 (split "," t)
+bad_entries t = when is_empty t then [] else places (λ e. not (good_entry e)) 1 (split "," t)
 
 -- "It lists section and line of each change, as the damaged sheet numbers them and in its order, and lists nothing else."
 unfoldable pub changes_by : (Line → Bool) → Texts → List (ℕ × ℕ)

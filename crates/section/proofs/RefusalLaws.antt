@@ -10,7 +10,7 @@ use mathlib.Core.Option.{Option, none, some}
 use mathlib.Core.Path.{◌≡◌, refl, sym, ap, ◌∙◌}
 use borrow.Author.Tests.{ltb-true, le-ltb}
 use lib.Dec.{ltb}
-use Rattle.text.specs.Basics.{if◌then◌else◌}
+use Rattle.text.specs.Basics.{when◌then◌else◌}
 use Rattle.text.proofs.BasicLaws.{and_true}
 use Rattle.section.specs.declared.Fault.{Fault}
 use Rattle.section.specs.declared.Fault.TheVariants as F
@@ -40,7 +40,7 @@ first_above n (c ∷ cs) e =
     let h : n < fault_number c.0 = ltb-true n (fault_number c.0) p.0 in
     by h c.1 (above_less n (fault_number c.0) h (first_holding cs) (first_above (fault_number c.0) cs p.1))
   where
-    by : n < fault_number c.0 → (b : Bool) → Above n (first_holding cs) → Above n (if b then some c.0 else first_holding cs)
+    by : n < fault_number c.0 → (b : Bool) → Above n (first_holding cs) → Above n (when b then some c.0 else first_holding cs)
     by h true a = h
     by h false a = a
 
@@ -56,7 +56,7 @@ lowest_rising n (c ∷ cs) e =
     by c.1 (lowest_rising (fault_number c.0) cs p.1) (first_above (fault_number c.0) cs p.1)
   where
     by : (b : Bool) → lowest cs ≡ first_holding cs → Above (fault_number c.0) (first_holding cs)
-        → (if b then some (lower_fault c.0 (lowest cs)) else lowest cs) ≡ (if b then some c.0 else first_holding cs)
+        → (when b then some (lower_fault c.0 (lowest cs)) else lowest cs) ≡ (when b then some c.0 else first_holding cs)
     by true h a = ap some (ap (lower_fault c.0) h ∙ lower_above c.0 (first_holding cs) a)
     by false h a = h
 
@@ -70,7 +70,7 @@ module _ {A B : Type 0} (p : A → Bool) (f : A → Outcome B) where
   fitting_bind none = refl
   fitting_bind (some a) = by (p a)
     where
-      by : (b : Bool) → (if b then f a else refused (placeless F.BadRequest)) ≡ ((if b then answered a else refused (placeless F.BadRequest)) >>= f)
+      by : (b : Bool) → (when b then f a else refused (placeless F.BadRequest)) ≡ ((when b then answered a else refused (placeless F.BadRequest)) >>= f)
       by true = refl
       by false = refl
 

@@ -5,7 +5,7 @@
 -- Assumes nothing: these are definitions.
 use Rattle.std.specs.Prelude.{ℕ, Bool, List, [], ◌∷◌}
 use Rattle.std.proofs.Math.Option.{Option, none, some}
-use Rattle.text.specs.Basics.{if◌then◌else◌}
+use Rattle.text.specs.Basics.{when◌then◌else◌}
 use Rattle.section.specs.declared.Cursor.{Cursor}
 use Rattle.section.specs.declared.Fault.{Fault}
 use Rattle.section.specs.Section.{Section}
@@ -15,4 +15,4 @@ cursor_at s at = record { at = at; limit = s.limit; order = s.order }
 
 unfoldable pub first_holding : List (Fault × Bool) → Option Fault
 first_holding [] = none
-first_holding (c ∷ cs) = if c.1 then some c.0 else first_holding cs
+first_holding (c ∷ cs) = when c.1 then some c.0 else first_holding cs

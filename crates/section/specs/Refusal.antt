@@ -11,7 +11,7 @@
 -- Assumes nothing: these are definitions.
 use Rattle.std.specs.Prelude.{ℕ, Bool, ◌||◌, List, [], ◌∷◌, ◌++◌, length, drop, ltb}
 use Rattle.std.proofs.Math.Option.{Option, none, some}
-use Rattle.text.specs.Basics.{if◌then◌else◌, given}
+use Rattle.text.specs.Basics.{when◌then◌else◌, given}
 use Rattle.section.specs.declared.Fault.{Fault}
 use Rattle.section.specs.declared.Fault.TheVariants as F
 use Rattle.section.specs.declared.Refusal.{Refusal}
@@ -48,12 +48,12 @@ fault_number F.RetiredForm = 22
 -- f, unless the other has a lower number
 abbrev pub lower_fault : Fault → Option Fault → Fault
 lower_fault f none = f
-lower_fault f (some g) = if ltb (fault_number g) (fault_number f) then g else f
+lower_fault f (some g) = when ltb (fault_number g) (fault_number f) then g else f
 
 -- "within a line the lowest number"
 unfoldable pub lowest : List (Fault × Bool) → Option Fault
 lowest [] = none
-lowest (c ∷ cs) = if c.1 then some (lower_fault c.0 (lowest cs)) else lowest cs
+lowest (c ∷ cs) = when c.1 then some (lower_fault c.0 (lowest cs)) else lowest cs
 
 -- "A refusal carries number, section (1 to 4, or 0) and line (0 where none; the entry number for 12)"; of the tables
 -- "section 5 and the table's number from 1 (0 for the limits of 64 tables and of the whole section)"
@@ -92,7 +92,7 @@ some r before c = refused r
 -- stands for a request with a number outside its kinds
 abbrev pub fitting : {A B : Type 0} → (A → Bool) → Option A → (A → Outcome B) → Outcome B
 fitting p none f = refused (placeless F.BadRequest)
-fitting p (some a) f = if p a then f a else refused (placeless F.BadRequest)
+fitting p (some a) f = when p a then f a else refused (placeless F.BadRequest)
 
 -- 14: "the whole output is longer than the lent output"
 abbrev pub within_room : ℕ → List ℕ → Outcome (List ℕ)

@@ -15,7 +15,7 @@ use lib.ListN.{length, take, drop, length-drop, length-append, take-append-drop}
 use lib.Seq.{take-nil, take-take, take-length, length-take-le, take_at, drop_at, drop-drop, take-append_seam, drop-append_seam}
 use lib.Dec.{ltb}
 use borrow.Author.Tests.{ltb-false, le-ltb, lt-ltb}
-use Rattle.text.specs.Basics.{if◌then◌else◌, ◌or_else◌, given, all}
+use Rattle.text.specs.Basics.{when◌then◌else◌, ◌or_else◌, given, all}
 use Rattle.text.specs.Number.{from_digits, to_digits}
 use Rattle.text.proofs.BasicLaws.{all_take, all_drop}
 use Rattle.text.proofs.ScanLaws.{take_rest}
@@ -35,7 +35,7 @@ use Rattle.sheet.proofs.TextsLaws.{or_else_none, texts_fault_parts, tables_named
 -- ## Outcomes
 
 module _ {A : Type 0} where
-  pub if_answered : (b : Bool) (r : Refusal) (o : Outcome A) (a : A) → (if b then refused r else o) ≡ answered a → (b ≡ false) × (o ≡ answered a)
+  pub if_answered : (b : Bool) (r : Refusal) (o : Outcome A) (a : A) → (when b then refused r else o) ≡ answered a → (b ≡ false) × (o ≡ answered a)
   if_answered true r o a e = (cc, cc)
   if_answered false r o a e = (refl, e)
 

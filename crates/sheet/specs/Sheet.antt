@@ -8,7 +8,7 @@
 -- Assumes nothing: these are definitions.
 use Rattle.std.specs.Prelude.{ℕ, ◌+◌, ◌-◌, List, [], ◌∷◌, ◌++◌, length, take, drop, ltb}
 use Rattle.std.proofs.Math.Option.{Option, some}
-use Rattle.text.specs.Basics.{if◌then◌else◌, ◌or_else◌, given}
+use Rattle.text.specs.Basics.{when◌then◌else◌, ◌or_else◌, given}
 use Rattle.text.specs.Number.{from_digits, to_digits}
 use Rattle.section.specs.declared.Fault.TheVariants as F
 use Rattle.section.specs.declared.Part.{Part}
@@ -66,9 +66,9 @@ unfoldable pub section_at : Section → ℕ → List ℕ → Outcome Part
 section_at s at sheet =
     let rest : List ℕ = drop at sheet in
     let n : ℕ = from_digits 256 0 (take 4 rest) in
-    if ltb (length rest) 4 then refused (refusal F.CutShort s.order 0)
-    else if ltb s.limit n then refused (refusal F.OverLimit s.order 0)
-    else if ltb (length rest) (4 + n) then refused (refusal F.CutShort s.order 0)
+    when ltb (length rest) 4 then refused (refusal F.CutShort s.order 0)
+    else when ltb s.limit n then refused (refusal F.OverLimit s.order 0)
+    else when ltb (length rest) (4 + n) then refused (refusal F.CutShort s.order 0)
     else answered (part (at + 4) n)
 
 abbrev pub part_end : Part → ℕ

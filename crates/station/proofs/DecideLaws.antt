@@ -11,7 +11,7 @@ use mathlib.Core.Path.{◌≡◌, refl, sym, ap, subst, ◌∙◌}
 use borrow.Author.Tests.{le-ltb}
 use lib.ListN.{length, take, drop, length-drop}
 use lib.Seq.{length-take-le, drop-drop}
-use Rattle.text.specs.Basics.{if◌then◌else◌, ◌or_else◌, given}
+use Rattle.text.specs.Basics.{when◌then◌else◌, ◌or_else◌, given}
 use Rattle.section.specs.declared.Fault.TheVariants as F
 use Rattle.section.specs.declared.Part.{Part}
 use Rattle.section.specs.declared.Refusal.{Refusal}
@@ -267,8 +267,8 @@ module _ (sheet : List ℕ) (p : Parts) (framed : frame sheet ≡ answered p) wh
             (capped (looked (tables_of t) a d (held (request_at names q)))))
           where
             by : (z : Bool) (w : Answer) (k : ℕ) → refusing_request z (in_sheet p w) k
-                ≡ reported ((if z then answered w else refused (placeless F.BadRequest)) >>= λ a. answered (in_sheet p a))
-                (number_of (if z then answered k else refused (placeless F.BadRequest)))
+                ≡ reported ((when z then answered w else refused (placeless F.BadRequest)) >>= λ a. answered (in_sheet p a))
+                (number_of (when z then answered k else refused (placeless F.BadRequest)))
             by true w k = refl
             by false w k = refl
 
@@ -289,7 +289,7 @@ module _ (sheet : List ℕ) (p : Parts) (framed : frame sheet ≡ answered p) wh
 pub over_search : (ts : List Table) (a d : List ℕ) (r : Request) (b : Answer) → decide_over ts a d (some r) ≡ answered b → search (match_of ts) a d (held r) ≡ b
 over_search ts a d r b e = by (well_formed r) e
   where
-    by : (c : Bool) → (if c then answered (search (match_of ts) a d (held r)) else refused (placeless F.BadRequest)) ≡ answered b
+    by : (c : Bool) → (when c then answered (search (match_of ts) a d (held r)) else refused (placeless F.BadRequest)) ≡ answered b
         → search (match_of ts) a d (held r) ≡ b
     by false k = let z : ◌≡◌ {A = ℕ} 0 1 = cc in absurd (omega arith)
     by true k = cc

@@ -11,7 +11,7 @@ use borrow.Author.Tests.{ne_eqb, eqb-true, lt-ltb, le-ltb}
 use lib.Dec.{eqb, ltb, leb-suc-suc}
 use lib.ListN.{length, take, drop, get_or, length-drop}
 use lib.Seq.{drop-nil, get_or-drop}
-use Rattle.text.specs.Basics.{if◌then◌else◌, ◌>>=◌, ◌or_else◌, given, holds, is_some, any, first}
+use Rattle.text.specs.Basics.{when◌then◌else◌, ◌>>=◌, ◌or_else◌, given, holds, is_some, any, first}
 use Rattle.text.specs.Text.{first_among, equal, equal_fold, lower}
 use Rattle.text.proofs.ScanLaws.{take_rest}
 use Rattle.lines.specs.Rule.{is_except}
@@ -40,7 +40,7 @@ place_some [] n = refl
 place_some (t ∷ ts) n = by (equal_fold n t.name) (place_named ts n) (table_named ts n) (place_some ts n)
   where
     by : (b : Bool) (o : Option ℕ) (p : Option Table) → is_some o ≡ is_some p
-        → is_some (if b then some 0 else (o >>= λ i. some (suc i))) ≡ is_some (given b t or_else p)
+        → is_some (when b then some 0 else (o >>= λ i. some (suc i))) ≡ is_some (given b t or_else p)
     by true o p e = refl
     by false none p e = e
     by false (some i) p e = e
@@ -159,7 +159,7 @@ module _ (before : ℕ) (b : Bool) (n : ℕ) where
   number_kept e = rw (ne_eqb before 0 e)
 
 abbrev pub number_from : ℕ → Option ℕ → ℕ
-number_from m o = if eqb m 0 then number_or o else m
+number_from m o = when eqb m 0 then number_or o else m
 
 number_more : (m : ℕ) (b : Bool) (k : ℕ) (o : Option ℕ) → (k ≡ 0 → ⊥) → number_from m (given b k or_else o) ≡ number_from (first_number m b k) o
 number_more m b k o h = by (eqb m 0) refl b
@@ -374,7 +374,7 @@ named_slash : (w n : List ℕ) → table_name w ≡ some n → first_among "/" w
 unfolding table_name
 named_slash w n = by (first_among "/" w)
   where
-    by : (x : Bool) → (if x then given (is_table_name (drop 1 w)) (drop 1 w) else none) ≡ some n → x ≡ true
+    by : (x : Bool) → (when x then given (is_table_name (drop 1 w)) (drop 1 w) else none) ≡ some n → x ≡ true
     by true e = refl
     by false e = ap is_some e
 

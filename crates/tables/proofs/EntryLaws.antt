@@ -11,7 +11,7 @@ use borrow.Author.Tests.{leb-true, leb-false, le-leb, lt-leb, lt-ltb, le-ltb}
 use lib.Dec.{leb}
 use lib.ListN.{length, take, drop, get_or, length-drop, drop_of_length-le}
 use lib.Seq.{length-take-le, drop-drop}
-use Rattle.text.specs.Basics.{if◌then◌else◌, ◌>>=◌}
+use Rattle.text.specs.Basics.{when◌then◌else◌, ◌>>=◌}
 use Rattle.text.specs.Text.{equal_fold}
 use Rattle.text.specs.Number.{from_digits}
 use Rattle.text.proofs.ScanLaws.{take_rest}
@@ -416,7 +416,7 @@ module _ (t name : List ℕ) (n : ℕ) (rest : List ℕ) (i : ℕ) (so_far : Sou
 
     module _ (whole : span.cut ≡ false) (other : List ℕ) (is-other : other ≡ (entry_table rest).name) (x : Bool) (is_x : x ≡ equal_fold name other) where
       here : place_named (drop i (tables_in t)) name
-          ≡ (if x then some 0 else (place_named (entries (n - (i + 1)) (after_entry rest)) name >>= λ k. some (suc k)))
+          ≡ (when x then some 0 else (place_named (entries (n - (i + 1)) (after_entry rest)) name >>= λ k. some (suc k)))
       unfolding place_named
       here = rw (reached_here t n rest i so_far.reached more span is-span whole, is_x, is-other)
 

@@ -6,7 +6,7 @@ use mathlib.Core.Bool.{Bool, true, false}
 use mathlib.Core.List.{List, [], ◌∷◌, map}
 use mathlib.Core.Path.{◌≡◌, refl, sym, ap, ◌∙◌}
 use lib.ListN.{length, get_or, get_or-map}
-use Rattle.text.specs.Basics.{if◌then◌else◌}
+use Rattle.text.specs.Basics.{when◌then◌else◌}
 use Rattle.text.specs.Text.{char_range, lower, equal, equal_fold}
 use Rattle.text.proofs.ScanLaws.{eq_of_equal, equal_fold_lengths}
 
@@ -15,7 +15,7 @@ pub lower_rest : (x : ℕ) → lower x % 32 ≡ x % 32
 unfolding lower
 lower_rest x = by (char_range "A" "Z" x)
   where
-    by : (b : Bool) → (if b then x + 32 else x) % 32 ≡ x % 32
+    by : (b : Bool) → (when b then x + 32 else x) % 32 ≡ x % 32
     by true = omega arith
     by false = refl
 

@@ -12,7 +12,7 @@ use borrow.Author.Tests.{eqb-true, eqb-false, ltb-true, ltb-false, leb-true, leb
 use lib.Dec.{eqb, ltb, leb}
 use lib.ListN.{length, take, drop, get_or, set, replicate, get_or-replicate, length-set, length-drop, drop_of_length-le}
 use lib.Seq.{drop-cons, drop-drop, get_or-drop, get_or-set_same, get_or-set_other}
-use Rattle.text.specs.Basics.{if◌then◌else◌, ◌>>=◌}
+use Rattle.text.specs.Basics.{when◌then◌else◌, ◌>>=◌}
 use Rattle.text.specs.Text.{lower, equal, equal_fold}
 use Rattle.text.proofs.ScanLaws.{eq_of_equal, take_rest}
 use Rattle.tables.specs.declared.entry.EntrySpan.{EntrySpan}

@@ -10,7 +10,7 @@ use borrow.Author.Tests.{leb-true, le-leb, lt-leb, ltb-true, ltb-false, ne_eqb, 
 use lib.Dec.{leb, ltb, eqb}
 use lib.ListN.{length, take, drop, get_or, length-drop}
 use lib.Seq.{take-take, take-nil, length-take-le}
-use Rattle.text.specs.Basics.{if◌then◌else◌, ◌>>=◌, ◌or_else◌, given, is_some, first}
+use Rattle.text.specs.Basics.{when◌then◌else◌, ◌>>=◌, ◌or_else◌, given, is_some, first}
 use Rattle.text.specs.Text.{first_among, equal_fold}
 use Rattle.text.specs.Number.{from_digits}
 use Rattle.section.specs.declared.Fault.{Fault}
@@ -54,8 +54,8 @@ pub tables_read_lem : (t : List ℕ) (p : List Table × List ℕ) → read_table
 unfolding read_tables tables_in table_count
 tables_read_lem t p e = by (ltb (length t) 2) refl e
   where
-    by : (b : Bool) → ltb (length t) 2 ≡ b → (if b then none else read_each (count_at 2 t) (drop 2 t)) ≡ some p
-        → entries (if ltb (length t) 2 then 0 else count_at 2 t) (drop 2 t) ≡ p.0
+    by : (b : Bool) → ltb (length t) 2 ≡ b → (when b then none else read_each (count_at 2 t) (drop 2 t)) ≡ some p
+        → entries (when ltb (length t) 2 then 0 else count_at 2 t) (drop 2 t) ≡ p.0
     by true f g = absurd (none_some g)
     by false f g = rw f (entries_read (count_at 2 t) (drop 2 t) p g)
 
@@ -236,8 +236,8 @@ tables_cut t m ts e h = by (ltb (length t) 2) refl e (ltb (length (take m t)) 2)
     long : length (take m t) ≡ m
     long = length-take-le m t (omega arith)
 
-    by : (b : Bool) → ltb (length t) 2 ≡ b → (if b then none else read_each (count_at 2 t) (drop 2 t)) ≡ some (ts, [])
-        → (c : Bool) → ltb (length (take m t)) 2 ≡ c → (if c then none else read_each (count_at 2 (take m t)) (drop 2 (take m t))) ≡ none
+    by : (b : Bool) → ltb (length t) 2 ≡ b → (when b then none else read_each (count_at 2 t) (drop 2 t)) ≡ some (ts, [])
+        → (c : Bool) → ltb (length (take m t)) 2 ≡ c → (when c then none else read_each (count_at 2 (take m t)) (drop 2 (take m t))) ≡ none
     by true f g c k = absurd (none_some g)
     by false f g true k = refl
     by false f g false k =
@@ -251,8 +251,8 @@ pub pattern_sound : (m k : Matcher) (e : List ℕ) → is_some (pattern_with m e
 unfolding pattern_with
 pattern_sound m k e = by (first_among "/" e) (table_name e)
   where
-    by : (b : Bool) (o : Option (List ℕ)) → is_some (if b then (o >>= λ n. some (m n)) else host_pattern e)
-        ≡ is_some (if b then (o >>= λ n. some (k n)) else host_pattern e)
+    by : (b : Bool) (o : Option (List ℕ)) → is_some (when b then (o >>= λ n. some (m n)) else host_pattern e)
+        ≡ is_some (when b then (o >>= λ n. some (k n)) else host_pattern e)
     by true none = refl
     by true (some n) = refl
     by false o = refl
@@ -283,7 +283,7 @@ named_place [] n i d e = absurd (none_some e)
 named_place (t ∷ ts) n i d e = by (equal_fold n t.name) refl (place_named ts n) refl e (λ k. named_place ts n k d)
   where
     by : (b : Bool) → equal_fold n t.name ≡ b → (o : Option ℕ) → place_named ts n ≡ o
-        → (if b then some 0 else (o >>= λ k. some (suc k))) ≡ some i → ((k : ℕ) → place_named ts n ≡ some k → Named ts n k d) → Named (t ∷ ts) n i d
+        → (when b then some 0 else (o >>= λ k. some (suc k))) ≡ some i → ((k : ℕ) → place_named ts n ≡ some k → Named ts n k d) → Named (t ∷ ts) n i d
     by true f o g q ih =
         let z : 0 ≡ i = some_same 0 i q in
         record { within = omega arith; named = rw (← z, f) }
@@ -296,7 +296,7 @@ named_place (t ∷ ts) n i d e = by (equal_fold n t.name) refl (place_named ts n
 
 -- a number from 1 on, 0 for none
 abbrev pub numbered : ℕ → Option ℕ
-numbered n = if eqb n 0 then none else some n
+numbered n = when eqb n 0 then none else some n
 
 first_from : (p : List Table → Table → Bool) (k : ℕ) (before ts : List Table) (n : ℕ) → first_table p k before ts ≡ some n → k ≤ n
 unfolding first_table
@@ -356,7 +356,7 @@ module _ (ts : List Table) (n : ℕ) where
 pub names_zero : (ts : List Table) → table_name_fault ts ≡ none → (tables_checked ts).misnamed ≡ 0
 names_zero ts e = by (eqb (tables_checked ts).misnamed 0) refl (sym (names_told ts) ∙ e)
   where
-    by : (b : Bool) → eqb (tables_checked ts).misnamed 0 ≡ b → refused_by F.TableName (if b then none else some (tables_checked ts).misnamed) ≡ none
+    by : (b : Bool) → eqb (tables_checked ts).misnamed 0 ≡ b → refused_by F.TableName (when b then none else some (tables_checked ts).misnamed) ≡ none
         → (tables_checked ts).misnamed ≡ 0
     by true f g = eqb-true (tables_checked ts).misnamed 0 f
     by false f g = absurd (none_some (sym g))

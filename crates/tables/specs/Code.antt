@@ -6,7 +6,7 @@
 use Rattle.std.specs.Prelude.{ℕ, zero, suc, ◌+◌, ◌-◌, ◌*◌, ◌%◌, ◌≤◌, ◌<◌, Bool, true, false, not, ◌&&◌, ◌||◌, List, [], ◌∷◌, ◌≡◌, length, take, drop, get_or, eqb, ltb}
 use Rattle.std.proofs.Math.Option
 use Rattle.std.proofs.Math.Option.{Option, none, some}
-use Rattle.text.specs.Basics.{if◌then◌else◌, ◌>>=◌, holds, is_some, is_empty, any}
+use Rattle.text.specs.Basics.{when◌then◌else◌, ◌>>=◌, holds, is_some, is_empty, any}
 use Rattle.text.specs.Text.{among, split, equal_fold}
 use Rattle.text.specs.Number.{from_digits}
 use Rattle.text.specs.Scan.{span_len}
@@ -34,7 +34,7 @@ entries (suc k) t = followed (entries k) (read_table t)
 
 -- the count of tables, 0 where its two bytes are not there
 unfoldable pub table_count : List ℕ → ℕ
-table_count t = if ltb (length t) 2 then 0 else from_digits 256 0 (take 2 t)
+table_count t = when ltb (length t) 2 then 0 else from_digits 256 0 (take 2 t)
 
 unfoldable pub tables_in : List ℕ → List Table
 tables_in t = entries (table_count t) (drop 2 t)
@@ -61,12 +61,12 @@ after_entry t = (entry_or (read_table t)).1
 
 abbrev pub frame_of : Option (List Table × List ℕ) → Framing
 frame_of none = Framing.Cut
-frame_of (some p) = if is_empty p.1 then Framing.Sound else Framing.Trailing
+frame_of (some p) = when is_empty p.1 then Framing.Sound else Framing.Trailing
 
 -- the place of the first table so named
 unfoldable pub place_named : List Table → List ℕ → Option ℕ
 place_named [] n = none
-place_named (t ∷ ts) n = if equal_fold n t.name then some 0 else (place_named ts n >>= λ i. some (suc i))
+place_named (t ∷ ts) n = when equal_fold n t.name then some 0 else (place_named ts n >>= λ i. some (suc i))
 
 abbrev pub place_of : Option ℕ → Place
 place_of none = Place.Missing
@@ -153,7 +153,7 @@ abbrev pub named_before : List Table → List ℕ → ℕ → Bool
 named_before ts n i = holds (λ k. ltb k i) (place_named ts n)
 
 abbrev pub first_number : ℕ → Bool → ℕ → ℕ
-first_number before b n = if eqb before 0 && b then n else before
+first_number before b n = when eqb before 0 && b then n else before
 
 -- a number of a table, 0 for none
 abbrev pub number_or : Option ℕ → ℕ

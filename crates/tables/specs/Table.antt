@@ -10,7 +10,7 @@
 -- Assumes nothing: these are definitions.
 use Rattle.std.specs.Prelude.{ℕ, zero, suc, ◌+◌, Bool, true, false, not, ◌&&◌, ◌||◌, List, [], ◌∷◌, length, take, drop, leb, ltb}
 use Rattle.std.proofs.Math.Option.{Option, none, some}
-use Rattle.text.specs.Basics.{if◌then◌else◌, ◌>>=◌, ◌or_else◌, given, holds, is_some, is_empty, any, all, first}
+use Rattle.text.specs.Basics.{when◌then◌else◌, ◌>>=◌, ◌or_else◌, given, holds, is_some, is_empty, any, all, first}
 use Rattle.text.specs.Text.{first_among, split, in_range, equal_fold}
 use Rattle.text.specs.Number.{from_digits}
 use Rattle.section.specs.declared.Fault.TheVariants as F
@@ -50,7 +50,7 @@ read_each (suc k) t = do
 
 -- "a two-byte count of tables, most significant first"
 unfoldable pub read_tables : List ℕ → Option (List Table × List ℕ)
-read_tables t = if ltb (length t) 2 then none else read_each (from_digits 256 0 (take 2 t)) (drop 2 t)
+read_tables t = when ltb (length t) 2 then none else read_each (from_digits 256 0 (take 2 t)) (drop 2 t)
 
 abbrev pub tables_read : Option (List Table × List ℕ) → List Table
 tables_read none = []
@@ -66,7 +66,7 @@ unfoldable pub is_table_name : List ℕ → Bool
 is_table_name n = all is_name_byte n && in_range 1 64 (length n)
 
 unfoldable pub table_name : List ℕ → Option (List ℕ)
-table_name e = if first_among "/" e then given (is_table_name (drop 1 e)) (drop 1 e) else none
+table_name e = when first_among "/" e then given (is_table_name (drop 1 e)) (drop 1 e) else none
 
 -- "All comparison ignores ASCII case"
 unfoldable pub table_named : List Table → List ℕ → Option Table
@@ -94,7 +94,7 @@ Matcher = List ℕ → Endpoint → Bool
 
 -- "Let `/name`, tried first of the kinds, work": the pattern that e writes
 unfoldable pub pattern_with : Matcher → List ℕ → Pattern
-pattern_with m e = if first_among "/" e then (table_name e >>= λ n. some (m n)) else host_pattern e
+pattern_with m e = when first_among "/" e then (table_name e >>= λ n. some (m n)) else host_pattern e
 
 -- "a host matches if any pattern in that table matches"; "tables may name tables"
 unfoldable pub in_table : List Table → ℕ → Matcher

@@ -5,7 +5,7 @@
 -- Assumes nothing: these are definitions.
 use Rattle.std.specs.Prelude.{ℕ, zero, suc, ◌+◌, ◌-◌, ◌^◌, List, ltb}
 use Rattle.std.proofs.Math.Option.{Option, none, some}
-use Rattle.text.specs.Basics.{if◌then◌else◌, holds, sum_until}
+use Rattle.text.specs.Basics.{when◌then◌else◌, holds, sum_until}
 use Rattle.patterns.specs.Host.{Endpoint}
 use Rattle.tables.specs.Table.{Table, table_name, table_patterns, pattern_with, in_table, depth}
 
@@ -25,4 +25,4 @@ abbrev pub tried_of : List Table → List ℕ → Endpoint → ℕ
 tried_of ts n h = tried_in ts depth n h
 
 unfoldable pub capped : ℕ → ℕ
-capped n = if ltb n (2 ^ 64) then n else 2 ^ 64 - 1
+capped n = when ltb n (2 ^ 64) then n else 2 ^ 64 - 1

@@ -13,7 +13,7 @@ use native.Mathlib.Omega.{arith}
 use borrow.Author.Tests.{eqb-true, eqb-false, eq-eqb, leb-true, not-true}
 use lib.Dec.{eqb, leb}
 use lib.ListN.{length, take, drop}
-use Rattle.text.specs.Basics.{if◌then◌else◌, any, all}
+use Rattle.text.specs.Basics.{when◌then◌else◌, any, all}
 use Rattle.text.specs.Text.{bytes, among, equal, starts_with, first_among, last_among, cons_first, split_once, cons_head, split, in_range, is_digit}
 use Rattle.text.specs.Text.{lower, equal_fold}
 use Rattle.text.specs.Number.{from_digits, digit_value, decimal, read_decimal}
@@ -40,7 +40,7 @@ unfolding lower
 cased x y = by (leb 65 x) refl (leb x 90) refl (leb 65 y) refl (leb y 90) refl
   where
     by : (a : Bool) → leb 65 x ≡ a → (b : Bool) → leb x 90 ≡ b → (c : Bool) → leb 65 y ≡ c → (d : Bool) → leb y 90 ≡ d
-        → (if a && b then x + 32 else x) ≡ (if c && d then y + 32 else y) → Cased x y
+        → (when a && b then x + 32 else x) ≡ (when c && d then y + 32 else y) → Cased x y
     by true p true q true r true s e = let z : x ≡ y = omega arith in rw z (same y)
     by true p true q true r false s e =
         cased_at x y (x - 65) (omega (arith, leb-true 65 x p)) (omega (arith, leb-true 65 x p)) (omega (arith, leb-true x 90 q, leb-true 65 x p))
@@ -229,7 +229,7 @@ module _ (m : List ℕ) (clear : (c : ℕ) → any (eqb c) m ≡ true → Blindl
       (by (starts_with m (y ∷ ys)) (split_once m xs) (split_once m ys) (alike_split_once xs ys a.1))
     where
       by : (b : Bool) (o u : Option (List ℕ × List ℕ)) → AlikePair o u
-          → AlikePair (if b then some ([], drop (length m) (x ∷ xs)) else cons_first x o) (if b then some ([], drop (length m) (y ∷ ys)) else cons_first y u)
+          → AlikePair (when b then some ([], drop (length m) (x ∷ xs)) else cons_first x o) (when b then some ([], drop (length m) (y ∷ ys)) else cons_first y u)
       by true o u h = (tt, alike_drop (length m) (x ∷ xs) (y ∷ ys) a)
       by false none none h = tt
       by false none (some q) h = absurd h
@@ -250,7 +250,7 @@ alike_split marks b (x ∷ xs) [] a = absurd a
 alike_split marks b (x ∷ xs) (y ∷ ys) a =
     rw (blind (among marks) b x y a.0) (by (among marks y) (split marks xs) (split marks ys) (alike_split marks b xs ys a.1))
   where
-    by : (c : Bool) (vs ws : List (List ℕ)) → AlikeList vs ws → AlikeList (if c then [] ∷ vs else cons_head x vs) (if c then [] ∷ ws else cons_head y ws)
+    by : (c : Bool) (vs ws : List (List ℕ)) → AlikeList vs ws → AlikeList (when c then [] ∷ vs else cons_head x vs) (when c then [] ∷ ws else cons_head y ws)
     by true vs ws h = (tt, h)
     by false [] [] h = ((a.0, tt), tt)
     by false [] (w ∷ ws) h = absurd h

@@ -13,7 +13,7 @@ use native.Mathlib.Omega.{arith}
 use borrow.Author.Tests.{eqb-false, eq-eqb, ne_eqb, not-true}
 use lib.Dec.{eqb}
 use lib.ListN.{length, take, drop, take-append-drop}
-use Rattle.text.specs.Basics.{if◌then◌else◌, ◌>>=◌, any, all, each, is_empty}
+use Rattle.text.specs.Basics.{when◌then◌else◌, ◌>>=◌, any, all, each, is_empty}
 use Rattle.text.specs.Text.{among, equal, starts_with, cons_first, split_once, cons_head, split, intercalate}
 use Rattle.text.proofs.BasicLaws.{and_true}
 use Rattle.text.proofs.ScanLaws.{eq_of_equal}
@@ -88,7 +88,7 @@ any_split marks p h (x ∷ t) = by (among marks x) refl (any_split marks p h t)
     head (w ∷ ws) = or_assoc (p x) (any p w) (any (any p) ws)
 
     by : (m : Bool) → among marks x ≡ m → any (any p) (split marks t) ≡ any p t
-        → any (any p) (if among marks x then [] ∷ split marks t else cons_head x (split marks t)) ≡ (p x || any p t)
+        → any (any p) (when among marks x then [] ∷ split marks t else cons_head x (split marks t)) ≡ (p x || any p t)
     by true e ih = rw (e, h x e) ih
     by false e ih = rw e (head (split marks t) ∙ ap (λ (b : Bool). p x || b) ih)
 
@@ -162,7 +162,7 @@ parts m (x ∷ t) = by (starts_with m (x ∷ t)) refl (parts m t)
     cons (some p) h = ap (λ (l : List ℕ). x ∷ l) h
 
     by : (b : Bool) → starts_with m (x ∷ t) ≡ b → Parts m t (split_once m t)
-        → Parts m (x ∷ t) (if starts_with m (x ∷ t) then some ([], drop (length m) (x ∷ t)) else cons_first x (split_once m t))
+        → Parts m (x ∷ t) (when starts_with m (x ∷ t) then some ([], drop (length m) (x ∷ t)) else cons_first x (split_once m t))
     by true e ih = rw e
         (sym (take-append-drop (length m) (x ∷ t)) ∙ ap (λ (l : List ℕ). l ++ drop (length m) (x ∷ t)) (sym (eq_of_equal m (take (length m) (x ∷ t)) e)))
     by false e ih = rw e (cons (split_once m t) ih)

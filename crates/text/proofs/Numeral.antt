@@ -10,7 +10,7 @@ use native.Mathlib.Nat.{div-add-mod', div-lt_iff_lt-mul, mod-lt, mod-eq_of_lt, p
 use borrow.Author.Tests.{ltb-true, ltb-false, lt-ltb, le-leb, lt-leb}
 use lib.Dec.{leb, ltb}
 use lib.ListN.{length, length-append}
-use Rattle.text.specs.Basics.{if◌then◌else◌, given, all}
+use Rattle.text.specs.Basics.{when◌then◌else◌, given, all}
 use Rattle.text.specs.Text.{equal, is_digit, lower}
 use Rattle.text.specs.Number.{from_digits, digit_byte, digit_value, numeral, decimal, read_decimal}
 use Rattle.text.proofs.BasicLaws.{and_true, all_append}
@@ -55,7 +55,7 @@ unfolding numeral
 numeral_ind b P nil one more zero n = nil n
 numeral_ind b P nil one more (suc k) n = by (ltb n b) refl (numeral_ind b P nil one more k (n / b))
   where
-    by : (t : Bool) → ltb n b ≡ t → P k (n / b) (numeral b k (n / b)) → P (suc k) n ((if ltb n b then [] else numeral b k (n / b)) ++ (digit_byte (n % b) ∷ []))
+    by : (t : Bool) → ltb n b ≡ t → P k (n / b) (numeral b k (n / b)) → P (suc k) n ((when ltb n b then [] else numeral b k (n / b)) ++ (digit_byte (n % b) ∷ []))
     by true e h = rw e (one k n (ltb-true n b e))
     by false e h = rw e (more k n (numeral b k (n / b)) (ltb-false n b e) h)
 

@@ -11,7 +11,7 @@ use borrow.Author.Tests.{ltb-true, ltb-false, lt-ltb}
 use lib.Dec.{ltb}
 use lib.ListN.{length, take, drop, get_or, set, length-append, length-set, take-append-drop}
 use lib.Seq.{length-take-le, take_at, drop_at, take-length, drop-length, take-suc, drop-cons, set_at}
-use Rattle.text.specs.Basics.{if◌then◌else◌}
+use Rattle.text.specs.Basics.{when◌then◌else◌}
 use Rattle.text.specs.Number.{digit_byte, numeral, decimal}
 use Rattle.text.specs.Scan.{put_at}
 use Rattle.text.proofs.Canonical.{length_numeral_below, length_numeral_above}
@@ -87,11 +87,11 @@ numeral_split : (f m i : ℕ) (t : List ℕ) → i < length t → numeral 10 (su
     × (0 < i → numeral 10 f (m / 10) ≡ take i t)
 unfolding numeral
 numeral_split f m i t h e =
-    let s : ((if ltb m 10 then [] else numeral 10 f (m / 10)) ≡ take i t) × (digit_byte (m % 10) ≡ get_or t i 0) =
-    snoc_inj (if ltb m 10 then [] else numeral 10 f (m / 10)) (take i t) (digit_byte (m % 10)) (get_or t i 0) (e ∙ take-suc t i 0 h) in
+    let s : ((when ltb m 10 then [] else numeral 10 f (m / 10)) ≡ take i t) × (digit_byte (m % 10) ≡ get_or t i 0) =
+    snoc_inj (when ltb m 10 then [] else numeral 10 f (m / 10)) (take i t) (digit_byte (m % 10)) (get_or t i 0) (e ∙ take-suc t i 0 h) in
     (s.1, by (ltb m 10) s.0)
   where
-    by : (b : Bool) → (if b then [] else numeral 10 f (m / 10)) ≡ take i t → 0 < i → numeral 10 f (m / 10) ≡ take i t
+    by : (b : Bool) → (when b then [] else numeral 10 f (m / 10)) ≡ take i t → 0 < i → numeral 10 f (m / 10) ≡ take i t
     by true q l = absurd (omega (arith, ap length q, length-take-le i t (omega arith)))
     by false q l = q
 

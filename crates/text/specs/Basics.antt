@@ -9,12 +9,12 @@
 use Rattle.std.specs.Prelude.{ℕ, ◌+◌, Bool, true, false, ◌&&◌, ◌||◌, List, [], ◌∷◌}
 use Rattle.std.proofs.Math.Option.{Option, none, some}
 
-infixr 5 if◌then◌else◌
+infixr 5 when◌then◌else◌
 infixl 20 ◌>>=◌
 infixl 25 ◌or_else◌
-abbrev pub if◌then◌else◌ {ℓ} : {A : Type ℓ} → Bool → A → A → A
-if true then a else b = a
-if false then a else b = b
+abbrev pub when◌then◌else◌ {ℓ} : {A : Type ℓ} → Bool → A → A → A
+when true then a else b = a
+when false then a else b = b
 
 abbrev pub ◌>>=◌ {ℓ κ} : {A : Type ℓ} {B : Type κ} → Option A → (A → Option B) → Option B
 none >>= f = none
@@ -25,7 +25,7 @@ none or_else o = o
 some a or_else o = some a
 
 abbrev pub given {ℓ} : {A : Type ℓ} → Bool → A → Option A
-given b a = if b then some a else none
+given b a = when b then some a else none
 
 abbrev pub holds {ℓ} : {A : Type ℓ} → (A → Bool) → Option A → Bool
 holds p none = false
@@ -49,7 +49,7 @@ module _ {A : Type 0} where
 
   unfoldable pub sum_until : (A → Bool) → (A → ℕ) → List A → ℕ
   sum_until p f [] = 0
-  sum_until p f (x ∷ xs) = f x + (if p x then 0 else sum_until p f xs)
+  sum_until p f (x ∷ xs) = f x + (when p x then 0 else sum_until p f xs)
 
   abbrev pub is_empty : List A → Bool
   is_empty [] = true

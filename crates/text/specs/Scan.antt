@@ -9,13 +9,13 @@
 use Rattle.std.specs.Prelude.{ℕ, suc, Bool, not, List, [], ◌∷◌, ◌++◌, eqb, length, drop}
 use Rattle.std.proofs.Math.Option.{Option, none, some}
 use Rattle.std.proofs.Math.Seq.{paste}
-use Rattle.text.specs.Basics.{if◌then◌else◌}
+use Rattle.text.specs.Basics.{when◌then◌else◌}
 use Rattle.text.specs.declared.NumberRead.{NumberRead}
 use Rattle.text.specs.declared.NumberRead.TheVariants.{Nothing, Value}
 
 unfoldable pub span_len : (ℕ → Bool) → List ℕ → ℕ
 span_len p [] = 0
-span_len p (x ∷ s) = if p x then suc (span_len p s) else 0
+span_len p (x ∷ s) = when p x then suc (span_len p s) else 0
 
 unfoldable pub index_of : ℕ → List ℕ → ℕ
 index_of b s = span_len (λ (x : ℕ). not (eqb x b)) s

@@ -17,7 +17,7 @@ use borrow.Author.Tests.{eq-eqb, eqb-true, le-ltb, ltb-false}
 use lib.Dec.{eqb, ltb}
 use lib.ListN.{length, take, drop, length-append}
 use lib.Seq.{take_at, drop_at}
-use Rattle.text.specs.Basics.{if◌then◌else◌, ◌or_else◌, given, holds, is_some, any, all, first}
+use Rattle.text.specs.Basics.{when◌then◌else◌, ◌or_else◌, given, holds, is_some, any, all, first}
 use Rattle.text.specs.Text.{split}
 use Rattle.text.specs.Number.{from_digits, to_digits}
 use Rattle.text.specs.Words.{word_bytes, read_words}
@@ -115,7 +115,7 @@ answered_propose n t five room x q e h = rw (q, e, le-ltb room (length (word_byt
 module _ (ns : List ℕ) where
   -- the bytes of a line, unless it is named
   abbrev pub stays : Line → List (List ℕ)
-  stays l = if named ns l then [] else line_bytes l ∷ []
+  stays l = when named ns l then [] else line_bytes l ∷ []
 
   unfoldable Stay : List ℕ → Type 0
   Stay t = (n at m pl : ℕ) → first line_fault (logical_lines n at (split "\n" t)) ≡ none
@@ -181,7 +181,7 @@ witnessed_rules ns kept (l ∷ ls) w n k e =
     by (eqb l.number n) refl e (named ns l) refl w (λ us z. witnessed_rules ns us ls z n k)
   where
     by : (b : Bool) → eqb l.number n ≡ b → (b || any (λ (l : Line). eqb l.number n) ls) ≡ true → (c : Bool) → named ns l ≡ c
-        → (if c then covered_by kept l && witnessed ns kept ls else witnessed ns (with_rule (rule_of l) kept) ls) ≡ true
+        → (when c then covered_by kept l && witnessed ns kept ls else witnessed ns (with_rule (rule_of l) kept) ls) ≡ true
         → ((us : List Rule) → witnessed ns us ls ≡ true → any (λ (l : Line). eqb l.number n) ls ≡ true → any (is_rule_line n) ls ≡ true)
         → (is_rule_line n l || any (is_rule_line n) ls) ≡ true
     by true q z true p w ih =
@@ -228,7 +228,7 @@ read_proposal t h = read_numbers_lem (proposal t) 1 (proposal_rises t h)
 limit_of : (n : ℕ) (x : Section) → section_of n ≡ some x → x.limit ≡ 16384
 limit_of n x e = by (eqb n 1) (eqb n 2) e
   where
-    by : (b c : Bool) → (if b then some S.allow else if c then some S.deny else none) ≡ some x → x.limit ≡ 16384
+    by : (b c : Bool) → (when b then some S.allow else when c then some S.deny else none) ≡ some x → x.limit ≡ 16384
     by true c k = let z : S.allow ≡ x = cc k in sym (ap (λ (y : Section). y.limit) z)
     by false true k = let z : S.deny ≡ x = cc k in sym (ap (λ (y : Section). y.limit) z)
     by false false k = let z : ◌≡◌ {A = ℕ} 0 1 = cc k in absurd (omega arith)

@@ -13,7 +13,7 @@ use borrow.Author.Tests.{eq-eqb, ne_eqb, eqb-true, eqb-false, ltb-false, not-tru
 use lib.Dec.{eqb, ltb}
 use lib.ListN.{length, take, drop, get_or, set, length-set}
 use lib.Seq.{get_or-set_same, get_or-set_other}
-use Rattle.text.specs.Basics.{if◌then◌else◌, ◌or_else◌, given, holds, is_some, any, all, first}
+use Rattle.text.specs.Basics.{when◌then◌else◌, ◌or_else◌, given, holds, is_some, any, all, first}
 use Rattle.text.specs.Text.{split}
 use Rattle.text.specs.Words.{word_bytes, read_words}
 use Rattle.text.proofs.BasicLaws.{and_true}
@@ -177,8 +177,8 @@ unfolding section_fault
 by_section n t five r k = by (eqb n 1) (eqb n 2)
   where
     by : (a b : Bool)
-        → with_section (if a then some S.allow else if b then some S.deny else none) (λ s. r (file_fault s t five))
-        ≡ r (if a then texts_fault t [] five else if b then texts_fault [] t five else some (placeless F.BadRequest))
+        → with_section (when a then some S.allow else when b then some S.deny else none) (λ s. r (file_fault s t five))
+        ≡ r (when a then texts_fault t [] five else when b then texts_fault [] t five else some (placeless F.BadRequest))
     by true b = ap r (sym (file_allow t five))
     by false true = ap r (sym (file_deny t five))
     by false false = sym k
@@ -250,7 +250,7 @@ sound_text n t five e = by (eqb n 1) (eqb n 2) e
         let p = file_parts s t five k in
         (omega (arith, within_limit s.limit (length t) (refusal F.OverLimit s.order 0) p.0, l), hosts_sound s t p.1.1.0)
 
-    by : (a b : Bool) → (if a then texts_fault t [] five else if b then texts_fault [] t five else some (placeless F.BadRequest)) ≡ none → (length t ≤ 16384)
+    by : (a b : Bool) → (when a then texts_fault t [] five else when b then texts_fault [] t five else some (placeless F.BadRequest)) ≡ none → (length t ≤ 16384)
         × Sound t
     by true b k = of S.allow refl (sym (file_allow t five) ∙ k)
     by false true k = of S.deny refl (sym (file_deny t five) ∙ k)
@@ -296,8 +296,8 @@ kept_dropped : (t marks : List ℕ) → Marked marks (proposal t) → (p : List 
     → kept_bytes names (lines t) ≡ dropped (numbers_of p) t
 unfolding kept_bytes dropped rewrite kept_here
 kept_dropped t marks m p e names is-names =
-    flat_ext (kept_line names) (λ l. if named (numbers_of p) l then [] else line_bytes l)
-    (λ l. ap (λ (b : Bool). if b then [] else line_bytes l)
+    flat_ext (kept_line names) (λ l. when named (numbers_of p) l then [] else line_bytes l)
+    (λ l. ap (λ (b : Bool). when b then [] else line_bytes l)
     (ap (λ (k : List ℕ). eqb (get_or k l.number 0) 2) is-names ∙ named_by t marks m p e l.number)) (lines t)
 
 module _ (n : ℕ) (t five : List ℕ) (c : Checked) (is_c : c ≡ checked_of (section_fault n t five)) where

@@ -13,7 +13,7 @@ use borrow.Author.Tests.{ltb-true, ltb-false}
 use lib.Dec.{eqb, ltb}
 use lib.ListN.{length, take, drop, length-append, length-drop, take-append-drop}
 use lib.Seq.{drop-drop, drop_at}
-use Rattle.text.specs.Basics.{if◌then◌else◌, ◌>>=◌, ◌or_else◌, is_empty, first}
+use Rattle.text.specs.Basics.{when◌then◌else◌, ◌>>=◌, ◌or_else◌, is_empty, first}
 use Rattle.text.specs.Text.{split}
 use Rattle.section.specs.declared.Part.{Part}
 use Rattle.section.specs.Section.{part, bytes_at}
@@ -101,8 +101,8 @@ module _ (v : Verdict) (f : File) (found : Rule → Found) (ns old new : List �
           few : length u.command ≤ length s
           few = command_few s u e
 
-          sized : (z : Bool) → bytes_at new (part (pl + (length s - length u.command)) (if z then 0 else length u.command))
-              ≡ bytes_at old (part (at + (length s - length u.command)) (if z then 0 else length u.command))
+          sized : (z : Bool) → bytes_at new (part (pl + (length s - length u.command)) (when z then 0 else length u.command))
+              ≡ bytes_at old (part (at + (length s - length u.command)) (when z then 0 else length u.command))
           sized true = refl
           sized false =
               part_there new s y pl (length s - length u.command) (length u.command) q (omega (arith, few))
@@ -114,8 +114,8 @@ module _ (v : Verdict) (f : File) (found : Rule → Found) (ns old new : List �
       by_found u e Found.Ask = (refl, (refl, refl))
 
       by : (c : Bool) (o : Option Rule) → parse_rule s ≡ o
-          → SameCommand (if c then none else (o >>= λ u. rule_answer v f (line n at s b) u (found u)))
-          (if c then none else (o >>= λ u. rule_answer v f (line m pl s b) u (found u)))
+          → SameCommand (when c then none else (o >>= λ u. rule_answer v f (line n at s b) u (found u)))
+          (when c then none else (o >>= λ u. rule_answer v f (line m pl s b) u (found u)))
       by true o e = tt
       by false none e = tt
       by false (some u) e = by_found u e (found u)
@@ -155,7 +155,7 @@ module _ (v : Verdict) (f : File) (found : Rule → Found) (ns old new : List �
         ap (λ (k : ℕ). drop k old) same ∙ (sym (drop-drop ((scan_line t).end + 1) at old) ∙ ap (drop ((scan_line t).end + 1)) p)
 
     commands_line : (c : Bool) → named ns own ≡ c → drop pl new ≡ rest_of ns own ++ rest → line_fault own ≡ none → first line_fault others ≡ none
-        → SameCommand (first answer_of (if named ns own then kept_lines ns others else own ∷ kept_lines ns others))
+        → SameCommand (first answer_of (when named ns own then kept_lines ns others else own ∷ kept_lines ns others))
         (first answer_of (logical_lines m pl (split "\n" (rest_of ns own ++ rest))))
     unfolding Commands first
     commands_line true q d g h =

@@ -11,7 +11,7 @@ use native.Mathlib.Omega.{arith}
 use borrow.Author.Tests.{ne_eqb, lt-ltb, le-ltb}
 use lib.Dec.{eqb, ltb}
 use lib.ListN.{length, take, drop}
-use Rattle.text.specs.Basics.{if◌then◌else◌, ◌>>=◌, ◌or_else◌, any, first}
+use Rattle.text.specs.Basics.{when◌then◌else◌, ◌>>=◌, ◌or_else◌, any, first}
 use Rattle.text.specs.Text.{bytes, cons_head, split}
 use Rattle.section.specs.declared.Fault.{Fault}
 use Rattle.section.specs.declared.Refusal.{Refusal}
@@ -89,8 +89,8 @@ module _ (v : Verdict) (f : File) (found : Rule → Found) where
       by_found u Found.Ask = (refl, refl, refl, refl)
 
       by : (c : Bool) (o : Option Rule)
-          → MovedLine n m (if c then none else (o >>= λ u. rule_answer v f (line n at s b) u (found u)))
-          (if c then none else (o >>= λ u. rule_answer v f (line m pl s b) u (found u)))
+          → MovedLine n m (when c then none else (o >>= λ u. rule_answer v f (line n at s b) u (found u)))
+          (when c then none else (o >>= λ u. rule_answer v f (line m pl s b) u (found u)))
       by true o = tt
       by false none = tt
       by false (some u) = by_found u (found u)
@@ -104,7 +104,7 @@ removed_none ns n [] a = refl
 removed_none ns n (l ∷ ls) a =
     rw (le-ltb l.number n a.0, removed_none ns n ls (ascend_from n (suc l.number) ls (omega (arith, a.0)) a.1)) (by (named ns l))
   where
-    by : (b : Bool) → (if b && false then line_count l else 0) + 0 ≡ 0
+    by : (b : Bool) → (when b && false then line_count l else 0) + 0 ≡ 0
     by true = refl
     by false = refl
 
@@ -123,7 +123,7 @@ module _ (v : Verdict) (f : File) (ts : List Table) (r : Request) (s : Section) 
   answer_of l = line_answer v f found l
 
   abbrev rest_of : Line → List ℕ
-  rest_of l = if named ns l then [] else line_bytes l
+  rest_of l = when named ns l then [] else line_bytes l
 
   -- the answers of old lines, the first of which has the number k, and of new ones, where d lines were removed before them
   abbrev pub Moved : ℕ → ℕ → List Line → Option Answer → Option Answer → Type 0
@@ -186,7 +186,7 @@ module _ (v : Verdict) (f : File) (ts : List Table) (r : Request) (s : Section) 
       new = flat_map rest_of (logical_lines (n + (scan_line t).joins + 1) (at + (scan_line t).end + 1) (split "\n" (drop ((scan_line t).end + 1) t)))
 
       by : (o : Option Fault) → line_fault l ≡ o → (c : Bool) → named ns l ≡ c → fault_of l or_else first fault_of ls ≡ none
-          → Moved n d (l ∷ ls) (first answer_of (if named ns l then kept_lines ns ls else l ∷ kept_lines ns ls))
+          → Moved n d (l ∷ ls) (first answer_of (when named ns l then kept_lines ns ls else l ∷ kept_lines ns ls))
           (first answer_of (logical_lines m pl (split "\n" (rest_of l ++ new))))
       by (some g) p c q h = let z : ◌≡◌ {A = ℕ} 0 1 = cc (rw p at h) in absurd (omega arith)
       by none p true q h =

@@ -12,7 +12,7 @@ use borrow.Author.Tests.{eq-eqb, ne_eqb}
 use lib.Dec.{eqb}
 use lib.ListN.{length, take, drop, get_or, length-append, length-drop}
 use lib.Seq.{length-take-le}
-use Rattle.text.specs.Basics.{if◌then◌else◌}
+use Rattle.text.specs.Basics.{when◌then◌else◌}
 use Rattle.text.specs.Text.{split}
 use Rattle.text.specs.Scan.{put_at, after}
 use Rattle.text.proofs.PasteLaws.{put_more, length_put_at, after_nil}
@@ -41,7 +41,7 @@ length_here : (marks : List ℕ) (n : ℕ) (s : List ℕ) → length (kept_here 
 unfolding kept_here size_here
 length_here marks n s = by (eqb (get_or marks n 0) 2)
   where
-    by : (b : Bool) → length (if b then [] else s) ≡ (if b then 0 else length s)
+    by : (b : Bool) → length (when b then [] else s) ≡ (when b then 0 else length s)
     by true = refl
     by false = refl
 
@@ -49,7 +49,7 @@ size_few : (marks : List ℕ) (n k : ℕ) → size_here marks n k ≤ k
 unfolding size_here
 size_few marks n k = by (eqb (get_or marks n 0) 2)
   where
-    by : (b : Bool) → (if b then 0 else k) ≤ k
+    by : (b : Bool) → (when b then 0 else k) ≤ k
     by true = omega arith
     by false = omega arith
 

@@ -10,7 +10,7 @@ use borrow.Author.Tests.{eq-eqb, ne_eqb, eqb-true, eqb-false, not-true, not-fals
 use lib.Dec.{eqb}
 use lib.ListN.{length, take, drop, get_or, drop_of_length-le}
 use lib.Seq.{drop-cons}
-use Rattle.text.specs.Basics.{if◌then◌else◌, any}
+use Rattle.text.specs.Basics.{when◌then◌else◌, any}
 use Rattle.text.specs.Text.{bytes, equal, equal_fold, is_word, lower}
 use Rattle.text.proofs.ScanLaws.{equal_fold_lengths, take_rest}
 use Rattle.lines.specs.declared.rule.ElementSpan.{ElementSpan}
@@ -94,7 +94,7 @@ module _ (s w : List ℕ) (is-w : w ≡ first_element s) (x : Bool) (is_x : x �
   empty_not [] z = word_empty
   empty_not (y ∷ w) z = absurd (omega arith)
 
-  alone_by : (c : Bool) (vs : List (List ℕ)) → c ≡ false → false ≡ (if c then all_alone (w ∷ vs) else false)
+  alone_by : (c : Bool) (vs : List (List ℕ)) → c ≡ false → false ≡ (when c then all_alone (w ∷ vs) else false)
   alone_by c vs e = rw e
 
   pub alone_other : not x ≡ true → false ≡ all_alone (words s)

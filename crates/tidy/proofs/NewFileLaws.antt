@@ -14,7 +14,7 @@ use mathlib.Core.Path.{◌≡◌, refl, sym, ap, ◌∙◌}
 use borrow.Author.Tests.{le-ltb, ltb-false, not-false}
 use lib.Dec.{eqb, ltb}
 use lib.ListN.{length, take, drop, length-append, length-drop}
-use Rattle.text.specs.Basics.{if◌then◌else◌, ◌or_else◌, given, holds, any, first}
+use Rattle.text.specs.Basics.{when◌then◌else◌, ◌or_else◌, given, holds, any, first}
 use Rattle.text.specs.Text.{split}
 use Rattle.section.specs.declared.Fault.{Fault}
 use Rattle.section.specs.declared.Fault.TheVariants as F
@@ -91,7 +91,7 @@ module _ (q : Line → Option Fault) (same : (n at m pl : ℕ) (r : List ℕ) (b
       rw a (every_first ls h.1)
 
 abbrev pub rest_of : List ℕ → Line → List ℕ
-rest_of ns l = if named ns l then [] else line_bytes l
+rest_of ns l = when named ns l then [] else line_bytes l
 
 module _ (ns : List ℕ) where
   module _ (P : List ℕ → Bool → Type 0) (ended : (r : List ℕ) (b : Bool) → P r b → b ≡ true) where
@@ -159,7 +159,7 @@ module _ (ns : List ℕ) where
       by : (c b : Bool) → (scan_line t).ended ≡ b
           → length (flat_map (rest_of ns) (logical_lines (n + (scan_line t).joins + 1) (at + (scan_line t).end + 1) (split "\n" (drop ((scan_line t).end + 1) t)))) ≤
           length (drop ((scan_line t).end + 1) t)
-          → length ((if c then [] else (take (scan_line t).end t ++ (if b then 10 ∷ [] else [])))
+          → length ((when c then [] else (take (scan_line t).end t ++ (when b then 10 ∷ [] else [])))
           ++ flat_map (rest_of ns) (logical_lines (n + (scan_line t).joins + 1) (at + (scan_line t).end + 1) (split "\n" (drop ((scan_line t).end + 1) t)))) ≤ length t
       by true b e h = omega (arith, h, length-drop ((scan_line t).end + 1) t)
       by false true e h =
@@ -262,16 +262,16 @@ module _ (t : List ℕ) (n at m pl : ℕ) (pre : List ℕ) (seen kept : List Rul
       ascend_from (suc n) (n + (scan_line t).joins + 1) others (omega arith)
       (ascending (drop ((scan_line t).end + 1) t) (n + (scan_line t).joins + 1) (at + (scan_line t).end + 1))
 
-  regrouped : (b : Bool) → covered_by seen own ≡ b → (pre ++ (if b then n ∷ [] else [])) ++ covered_lines (with_rule (rule_of own) seen) others ≡ proposed
+  regrouped : (b : Bool) → covered_by seen own ≡ b → (pre ++ (when b then n ∷ [] else [])) ++ covered_lines (with_rule (rule_of own) seen) others ≡ proposed
   unfolding covered_lines
-  regrouped b q = append_assoc pre (if b then n ∷ [] else []) (covered_lines (with_rule (rule_of own) seen) others) ∙ rw q
+  regrouped b q = append_assoc pre (when b then n ∷ [] else []) (covered_lines (with_rule (rule_of own) seen) others) ∙ rw q
 
   later : (b : Bool) → covered_by seen own ≡ b → (m' pl' : ℕ) (kept' : List Rule) → CoverLess kept' (with_rule (rule_of own) seen) → first line_fault others ≡ none
       → covered_lines kept' (logical_lines m' pl' (split "\n" (flat_map (rest_of proposed) others))) ≡ []
   unfolding Again
   later b q m' pl' kept' less h =
       ap (λ (ns : List ℕ). covered_lines kept' (logical_lines m' pl' (split "\n" (flat_map (rest_of ns) others)))) (sym (regrouped b q))
-      ∙ ih (n + (scan_line t).joins + 1) (at + (scan_line t).end + 1) m' pl' (pre ++ (if b then n ∷ [] else [])) (with_rule (rule_of own) seen) kept'
+      ∙ ih (n + (scan_line t).joins + 1) (at + (scan_line t).end + 1) m' pl' (pre ++ (when b then n ∷ [] else [])) (with_rule (rule_of own) seen) kept'
       (λ k e. below_more b n n pre (omega arith) p k (omega arith)) less h
 
   again_line : line_fault own ≡ none → first line_fault others ≡ none → (b : Bool) → covered_by seen own ≡ b
@@ -284,7 +284,7 @@ module _ (t : List ℕ) (n at m pl : ℕ) (pre : List ℕ) (seen kept : List Rul
       let b : (scan_line t).ended ≡ true = sound_ended n at (take (scan_line t).end t) (scan_line t).ended f in
       rw is-named
       (ap (λ (x : Bool). covered_lines kept (logical_lines m pl (split "\n"
-      ((take (scan_line t).end t ++ (if x then 10 ∷ [] else [])) ++ flat_map (rest_of proposed) others)))) b
+      ((take (scan_line t).end t ++ (when x then 10 ∷ [] else [])) ++ flat_map (rest_of proposed) others)))) b
       ∙ (ap (λ (s : List ℕ). covered_lines kept (logical_lines m pl (split "\n" s)))
       (append_assoc (take (scan_line t).end t) (10 ∷ []) (flat_map (rest_of proposed) others))
       ∙ (ap (covered_lines kept)

@@ -15,7 +15,7 @@ use borrow.Author.Tests.{eq-eqb, ne_eqb, eqb-true, eqb-false, lt-ltb, le-ltb, no
 use lib.Dec.{eqb, ltb}
 use lib.ListN.{length, take, drop, get_or, set, length-set, length-append, length-drop, drop_of_length-le}
 use lib.Seq.{paste-zero, drop-drop, get_or-set_same, get_or-set_other}
-use Rattle.text.specs.Basics.{if◌then◌else◌, ◌>>=◌, holds, any, all}
+use Rattle.text.specs.Basics.{when◌then◌else◌, ◌>>=◌, holds, any, all}
 use Rattle.text.specs.Number.{to_digits, from_digits}
 use Rattle.text.specs.Words.{word_bytes, read_words}
 use Rattle.text.specs.Scan.{put_at, after}
@@ -462,7 +462,7 @@ from_is marks (suc k) n (x ∷ ns) r h =
     rises_to x xs l q = rises_up (suc n) xs q
 
     by : (b : Bool) → eqb n x ≡ b → (n ≡ x → marked_from marks k (suc n) ≡ ns) → (suc n ≤ x → marked_from marks k (suc n) ≡ x ∷ ns)
-        → (if eqb (get_or marks n 0) 1 then n ∷ [] else []) ++ marked_from marks k (suc n) ≡ x ∷ ns
+        → (when eqb (get_or marks n 0) 1 then n ∷ [] else []) ++ marked_from marks k (suc n) ≡ x ∷ ns
     by true e f g =
         let same : n ≡ x = eqb-true n x e in
         rw (h n (omega arith), e) (ap₂ (λ (y : ℕ) (ys : List ℕ). y ∷ ys) same (f same))
@@ -477,7 +477,7 @@ covered_rises n m seen [] a u = tt
 covered_rises n m seen (l ∷ ls) a u = by (covered_by seen l) (covered_rises (suc l.number) m (with_rule (rule_of l) seen) ls a.1 u.1)
   where
     by : (b : Bool) → Rises (suc l.number) m (covered_lines (with_rule (rule_of l) seen) ls)
-        → Rises n m ((if b then l.number ∷ [] else []) ++ covered_lines (with_rule (rule_of l) seen) ls)
+        → Rises n m ((when b then l.number ∷ [] else []) ++ covered_lines (with_rule (rule_of l) seen) ls)
     by true h = (a.0, (u.0, h))
     by false h = rises_from n (suc l.number) m (covered_lines (with_rule (rule_of l) seen) ls) (omega (arith, a.0)) h
 

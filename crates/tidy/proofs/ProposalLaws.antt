@@ -13,7 +13,7 @@ use mathlib.Core.Path.{◌≡◌, refl, sym, ap, ap₂, ◌∙◌}
 use native.Mathlib.Omega.{arith}
 use borrow.Author.Tests.{eq-eqb, ne_eqb, eqb-true}
 use lib.Dec.{eqb}
-use Rattle.text.specs.Basics.{if◌then◌else◌, holds, any, all}
+use Rattle.text.specs.Basics.{when◌then◌else◌, holds, any, all}
 use lib.ListN.{length, take, drop, length-drop}
 use Rattle.text.specs.Text.{equal, equal_fold, is_word, split}
 use Rattle.text.proofs.BasicLaws.{and_true}
@@ -129,10 +129,10 @@ most ns kept seen (l ∷ ls) h e =
     rest : List ℕ
     rest = covered_lines (with_rule (rule_of l) seen) ls
 
-    by : (b : Bool) → named ns l ≡ b → (if b then covered_by kept l && witnessed ns kept ls else witnessed ns (with_rule (rule_of l) kept) ls) ≡ true
+    by : (b : Bool) → named ns l ≡ b → (when b then covered_by kept l && witnessed ns kept ls else witnessed ns (with_rule (rule_of l) kept) ls) ≡ true
         → ((us : List Rule) → CoverLess us (with_rule (rule_of l) seen) → witnessed ns us ls ≡ true → Among ns rest ls)
-        → (named ns l ≡ true → any (eqb l.number) ((if covered_by seen l then l.number ∷ [] else []) ++ rest) ≡ true)
-        × Among ns ((if covered_by seen l then l.number ∷ [] else []) ++ rest) ls
+        → (named ns l ≡ true → any (eqb l.number) ((when covered_by seen l then l.number ∷ [] else []) ++ rest) ≡ true)
+        × Among ns ((when covered_by seen l then l.number ∷ [] else []) ++ rest) ls
     by true q k ih =
         let a = and_true (covered_by kept l) (witnessed ns kept ls) k in
         rw (less_covered kept seen l h a.0) (
@@ -141,7 +141,7 @@ most ns kept seen (l ∷ ls) h e =
         )
     by false q k ih = (
       λ e. absurd (true≢false (sym e ∙ q)),
-      among_more ns rest (if covered_by seen l then l.number ∷ [] else []) ls (ih (with_rule (rule_of l) kept) (less_both (rule_of l) kept seen h) k),
+      among_more ns rest (when covered_by seen l then l.number ∷ [] else []) ls (ih (with_rule (rule_of l) kept) (less_both (rule_of l) kept seen h) k),
     )
 
 -- "as many lines to drop as can be accepted": no accepted proposal names another line
@@ -208,7 +208,7 @@ not_below m seen (l ∷ ls) a =
     by (covered_by seen l) (not_below m (with_rule (rule_of l) seen) ls (ascend_from (suc m) (suc l.number) ls (omega (arith, a.0)) a.1))
   where
     by : (b : Bool) → any (eqb m) (covered_lines (with_rule (rule_of l) seen) ls) ≡ false
-        → any (eqb m) ((if b then l.number ∷ [] else []) ++ covered_lines (with_rule (rule_of l) seen) ls) ≡ false
+        → any (eqb m) ((when b then l.number ∷ [] else []) ++ covered_lines (with_rule (rule_of l) seen) ls) ≡ false
     by true h = rw (ne_eqb m l.number (λ e. omega (arith, a.0))) h
     by false h = h
 
@@ -221,7 +221,7 @@ named_covered pre seen l ls a h =
     (by (covered_by seen l) (not_below l.number (with_rule (rule_of l) seen) ls a))
   where
     by : (b : Bool) → any (eqb l.number) (covered_lines (with_rule (rule_of l) seen) ls) ≡ false
-        → any (eqb l.number) ((if b then l.number ∷ [] else []) ++ covered_lines (with_rule (rule_of l) seen) ls) ≡ b
+        → any (eqb l.number) ((when b then l.number ∷ [] else []) ++ covered_lines (with_rule (rule_of l) seen) ls) ≡ b
     by true k = rw (eq-eqb l.number l.number refl)
     by false k = k
 
@@ -249,7 +249,7 @@ through_kept (some u) seen kept h e v k = by (covers u v) refl k
 abbrev pub Below : ℕ → List ℕ → Type 0
 Below n pre = (m : ℕ) → n ≤ m → any (eqb m) pre ≡ false
 
-pub below_more : (b : Bool) (n k : ℕ) (pre : List ℕ) → n ≤ k → Below n pre → Below (suc k) (pre ++ (if b then k ∷ [] else []))
+pub below_more : (b : Bool) (n k : ℕ) (pre : List ℕ) → n ≤ k → Below n pre → Below (suc k) (pre ++ (when b then k ∷ [] else []))
 unfolding any
 below_more true n k pre l h m e = any_append (eqb m) pre (k ∷ []) ∙ rw (h m (omega arith), ne_eqb m k (λ q. omega arith))
 below_more false n k pre l h m e = any_append (eqb m) pre [] ∙ rw (h m (omega arith))
@@ -261,18 +261,18 @@ greedy n pre seen kept [] a p h = refl
 greedy n pre seen kept (l ∷ ls) a p h =
     rw (named_covered pre seen l ls a.1 (p l.number a.0))
     (by (covered_by seen l) refl (λ us g. rw (← (regroup (covered_by seen l)))
-    (greedy (suc l.number) (pre ++ (if covered_by seen l then l.number ∷ [] else [])) (with_rule (rule_of l) seen) us ls a.1
+    (greedy (suc l.number) (pre ++ (when covered_by seen l then l.number ∷ [] else [])) (with_rule (rule_of l) seen) us ls a.1
     (below_more (covered_by seen l) n l.number pre a.0 p) g)))
   where
-    regroup : (b : Bool) → (pre ++ (if b then l.number ∷ [] else [])) ++ covered_lines (with_rule (rule_of l) seen) ls
-        ≡ pre ++ ((if b then l.number ∷ [] else []) ++ covered_lines (with_rule (rule_of l) seen) ls)
-    regroup b = append_assoc pre (if b then l.number ∷ [] else []) (covered_lines (with_rule (rule_of l) seen) ls)
+    regroup : (b : Bool) → (pre ++ (when b then l.number ∷ [] else [])) ++ covered_lines (with_rule (rule_of l) seen) ls
+        ≡ pre ++ ((when b then l.number ∷ [] else []) ++ covered_lines (with_rule (rule_of l) seen) ls)
+    regroup b = append_assoc pre (when b then l.number ∷ [] else []) (covered_lines (with_rule (rule_of l) seen) ls)
 
     ns : List ℕ
-    ns = pre ++ ((if covered_by seen l then l.number ∷ [] else []) ++ covered_lines (with_rule (rule_of l) seen) ls)
+    ns = pre ++ ((when covered_by seen l then l.number ∷ [] else []) ++ covered_lines (with_rule (rule_of l) seen) ls)
 
     by : (b : Bool) → covered_by seen l ≡ b → ((us : List Rule) → CoverLess (with_rule (rule_of l) seen) us → witnessed ns us ls ≡ true)
-        → (if b then covered_by kept l && witnessed ns kept ls else witnessed ns (with_rule (rule_of l) kept) ls) ≡ true
+        → (when b then covered_by kept l && witnessed ns kept ls else witnessed ns (with_rule (rule_of l) kept) ls) ≡ true
     by true q ih = let c = less_covered seen kept l h q in rw c (ih kept (through_kept (rule_of l) seen kept h c))
     by false q ih = ih (with_rule (rule_of l) kept) (less_both (rule_of l) seen kept h)
 
@@ -288,7 +288,7 @@ lines_of seen (l ∷ ls) ms h =
     (h l.number (rw (eq-eqb l.number l.number refl)))
   where
     by : (b : Bool) → are_lines (covered_lines (with_rule (rule_of l) seen) ls) ms ≡ true → any (λ (m : Line). eqb m.number l.number) ms ≡ true
-        → are_lines ((if b then l.number ∷ [] else []) ++ covered_lines (with_rule (rule_of l) seen) ls) ms ≡ true
+        → are_lines ((when b then l.number ∷ [] else []) ++ covered_lines (with_rule (rule_of l) seen) ls) ms ≡ true
     by true ih e = rw e ih
     by false ih e = ih
 
@@ -304,7 +304,7 @@ pub covered_lines_same : (us vs : List Rule) → ((v : Rule) → any (λ u. cove
 unfolding covered_lines any
 covered_lines_same us vs h [] = refl
 covered_lines_same us vs h (l ∷ ls) =
-    ap₂ (λ (b : Bool) (ns : List ℕ). (if b then l.number ∷ [] else []) ++ ns) (by (rule_of l))
+    ap₂ (λ (b : Bool) (ns : List ℕ). (when b then l.number ∷ [] else []) ++ ns) (by (rule_of l))
     (covered_lines_same (with_rule (rule_of l) us) (with_rule (rule_of l) vs) (more (rule_of l)) ls)
   where
     by : (o : Option Rule) → holds (λ v. any (λ u. covers u v) us) o ≡ holds (λ v. any (λ u. covers u v) vs) o
@@ -345,10 +345,10 @@ within_all ms [] h = refl
 within_all ms (n ∷ ns) h = rw (h n (rw (eq-eqb n n refl)), within_all ms ns (λ m k. h m (rw k (or-true (eqb m n)))))
 
 regroup : (pre : List ℕ) (seen : List Rule) (l : Line) (ls : List Line) (m : ℕ) → any (eqb m) (pre ++ covered_lines seen (l ∷ ls)) ≡ true
-    → any (eqb m) ((pre ++ (if covered_by seen l then l.number ∷ [] else [])) ++ covered_lines (with_rule (rule_of l) seen) ls) ≡ true
+    → any (eqb m) ((pre ++ (when covered_by seen l then l.number ∷ [] else [])) ++ covered_lines (with_rule (rule_of l) seen) ls) ≡ true
 unfolding covered_lines
 regroup pre seen l ls m k =
-    ap (any (eqb m)) (append_assoc pre (if covered_by seen l then l.number ∷ [] else []) (covered_lines (with_rule (rule_of l) seen) ls)) ∙ k
+    ap (any (eqb m)) (append_assoc pre (when covered_by seen l then l.number ∷ [] else []) (covered_lines (with_rule (rule_of l) seen) ls)) ∙ k
 
 fewer : (ns : List ℕ) (n : ℕ) (pre : List ℕ) (seen kept : List Rule) (ls : List Line) → Ascend n ls → Below n pre → CoverLess seen kept
     → Within ns (pre ++ covered_lines seen ls) → witnessed ns kept ls ≡ true
@@ -356,11 +356,11 @@ unfolding witnessed
 fewer ns n pre seen kept [] a p h w = refl
 fewer ns n pre seen kept (l ∷ ls) a p h w =
     by (named ns l) refl
-    (λ us g. fewer ns (suc l.number) (pre ++ (if covered_by seen l then l.number ∷ [] else [])) (with_rule (rule_of l) seen) us ls a.1
+    (λ us g. fewer ns (suc l.number) (pre ++ (when covered_by seen l then l.number ∷ [] else [])) (with_rule (rule_of l) seen) us ls a.1
     (below_more (covered_by seen l) n l.number pre a.0 p) g (λ m k. regroup pre seen l ls m (w m k)))
   where
     by : (b : Bool) → named ns l ≡ b → ((us : List Rule) → CoverLess (with_rule (rule_of l) seen) us → witnessed ns us ls ≡ true)
-        → (if named ns l then covered_by kept l && witnessed ns kept ls else witnessed ns (with_rule (rule_of l) kept) ls) ≡ true
+        → (when named ns l then covered_by kept l && witnessed ns kept ls else witnessed ns (with_rule (rule_of l) kept) ls) ≡ true
     by true q ih =
         let s : covered_by seen l ≡ true = sym (named_covered pre seen l ls a.1 (p l.number a.0)) ∙ w l.number q in
         let c = less_covered seen kept l h s in
@@ -381,7 +381,7 @@ is_line seen (l ∷ ls) n e = by (covered_by seen l) e (is_line (with_rule (rule
     own true q k ih = rw (eqb-true n l.number q, eq-eqb l.number l.number refl)
     own false q k ih = rw (ih k) (or-true (eqb l.number n))
 
-    by : (b : Bool) → any (eqb n) ((if b then l.number ∷ [] else []) ++ rest) ≡ true
+    by : (b : Bool) → any (eqb n) ((when b then l.number ∷ [] else []) ++ rest) ≡ true
         → (any (eqb n) rest ≡ true → any (λ (l : Line). eqb l.number n) ls ≡ true)
         → (eqb l.number n || any (λ (l : Line). eqb l.number n) ls) ≡ true
     by true k ih = own (eqb n l.number) refl k ih

@@ -14,7 +14,7 @@ use borrow.Author.Tests.{eq-eqb, ne_eqb, eqb-true, eqb-false, lt-ltb, le-ltb, le
 use lib.Dec.{eqb, ltb, leb}
 use lib.ListN.{length, take, drop, get_or, set, replicate, length-set, length-replicate, get_or-replicate}
 use lib.Seq.{take_at, get_or-set_same, get_or-set_other}
-use Rattle.text.specs.Basics.{if◌then◌else◌, ◌or_else◌, holds, is_some, any, all, first}
+use Rattle.text.specs.Basics.{when◌then◌else◌, ◌or_else◌, holds, is_some, any, all, first}
 use Rattle.text.specs.Text.{among, first_among, split}
 use Rattle.text.proofs.BasicLaws.{and_true, or_false}
 use Rattle.text.proofs.Intercalate.{any_append}
@@ -115,7 +115,7 @@ module _ (text links t : List ℕ) (first at left : ℕ) (h : Seeking text links
   module _ (l : 0 < left) where
     one_more : (k : ℕ) → left ≡ suc k
         → repeats text links 16384 first t
-        ≡ (if eqb at 0 || ltb (length text) at then false else (same_at text (at - 1) t || repeats text links k (link_at links ((at - 1) / 4)) t))
+        ≡ (when eqb at 0 || ltb (length text) at then false else (same_at text (at - 1) t || repeats text links k (link_at links ((at - 1) / 4)) t))
     unfolding repeats
     one_more k e = h.so_far ∙ ap (λ (k : ℕ). repeats text links k at t) e
 
@@ -174,7 +174,7 @@ module _ (links : List ℕ) where
   unfolding link_at
   link_few i = by (ltb 16384 (get_or links i 0)) refl
     where
-      by : (b : Bool) → ltb 16384 (get_or links i 0) ≡ b → (if b then 0 else get_or links i 0) ≤ 16384
+      by : (b : Bool) → ltb 16384 (get_or links i 0) ≡ b → (when b then 0 else get_or links i 0) ≤ 16384
       by true e = omega arith
       by false e = ltb-false 16384 (get_or links i 0) e
 
@@ -222,7 +222,7 @@ module _ (text links raw : List ℕ) (v : Rule) (is_v : parse_rule raw ≡ some 
 
 unfoldable pub in_bucket : ℕ → List Rule → List Rule
 in_bucket b [] = []
-in_bucket b (u ∷ us) = if eqb (bucket_of u) b then u ∷ in_bucket b us else in_bucket b us
+in_bucket b (u ∷ us) = when eqb (bucket_of u) b then u ∷ in_bucket b us else in_bucket b us
 
 pub Hung : List ℕ → List ℕ → ℕ → List Rule → Type 0
 Hung text links i us = (b : ℕ) → b < 2048 → Chain text links i (link_at links (4096 + b)) (in_bucket b us)
@@ -234,7 +234,7 @@ any_bucket v (u ∷ us) = by (eqb (bucket_of u) (bucket_of v)) refl (same_lists 
   where
     by : (b : Bool) → eqb (bucket_of u) (bucket_of v) ≡ b → (c : Bool) → same_lists u v ≡ c
         → any (λ u. same_lists u v) (in_bucket (bucket_of v) us) ≡ any (λ u. same_lists u v) us
-        → any (λ u. same_lists u v) (if b then u ∷ in_bucket (bucket_of v) us else in_bucket (bucket_of v) us) ≡ (same_lists u v || any (λ u. same_lists u v) us)
+        → any (λ u. same_lists u v) (when b then u ∷ in_bucket (bucket_of v) us else in_bucket (bucket_of v) us) ≡ (same_lists u v || any (λ u. same_lists u v) us)
     by true e c f ih = ap (λ (x : Bool). same_lists u v || x) ih
     by false e true f ih = absurd (eqb-false (bucket_of u) (bucket_of v) e (bucket_same u v f))
     by false e false f ih = rw f ih
@@ -260,7 +260,7 @@ module _ (text links : List ℕ) (i : ℕ) (us : List Rule) (short : length text
       by : (x : Bool) → eqb (bucket_of v) b ≡ x
           → Chain text (set (set links (i / 4) (link_at links (4096 + bucket_of v))) (4096 + bucket_of v) (i + 1)) (i + 4)
           (link_at (set (set links (i / 4) (link_at links (4096 + bucket_of v))) (4096 + bucket_of v) (i + 1)) (4096 + b))
-          (if x then v ∷ in_bucket b us else in_bucket b us)
+          (when x then v ∷ in_bucket b us else in_bucket b us)
       by true e =
           let same : bucket_of v ≡ b = eqb-true (bucket_of v) b e in
           let room : 4096 + bucket_of v < length (set links (i / 4) (link_at links (4096 + bucket_of v))) =
@@ -384,7 +384,7 @@ marking_start text l s = record {
 rule_some : (raw : List ℕ) (v : Rule) → rule_of (line 0 0 raw true) ≡ some v → parse_rule raw ≡ some v
 rule_some raw v e = by (is_comment (line 0 0 raw true) || is_blank (line 0 0 raw true)) e
   where
-    by : (b : Bool) → (if b then none else parse_rule raw) ≡ some v → parse_rule raw ≡ some v
+    by : (b : Bool) → (when b then none else parse_rule raw) ≡ some v → parse_rule raw ≡ some v
     by true k = let z : ◌≡◌ {A = ℕ} 0 1 = cc in absurd (omega arith)
     by false k = k
 
@@ -404,12 +404,12 @@ module _ (text marks links : List ℕ) (all : Bool) (i n : ℕ) (h : Marking tex
     next = at_next text i n h.at l r is-r
 
     split_off : (b : Bool) → covered_by h.seen (line n i raw r.ended) ≡ b
-        → proposal text ≡ (h.done ++ (if b then n ∷ [] else [])) ++ covered_lines (with_rule (rule_of (line 0 0 raw true)) h.seen) after
+        → proposal text ≡ (h.done ++ (when b then n ∷ [] else [])) ++ covered_lines (with_rule (rule_of (line 0 0 raw true)) h.seen) after
     unfolding covered_lines
     split_off b e =
         h.rest
         ∙ (ap (λ (ls : List Line). h.done ++ covered_lines h.seen ls) (logical_lines_drop text i r is-r n l)
-        ∙ rw e (sym (append_assoc h.done (if b then n ∷ [] else []) (covered_lines (with_rule (rule_of (line 0 0 raw true)) h.seen) after))))
+        ∙ rw e (sym (append_assoc h.done (when b then n ∷ [] else []) (covered_lines (with_rule (rule_of (line 0 0 raw true)) h.seen) after))))
 
     fits : length (join raw) ≤ 2048
     fits = at_short text i n h.at l r is-r
@@ -473,8 +473,8 @@ module _ (text marks links : List ℕ) (all : Bool) (i n : ℕ) (h : Marking tex
           right true = refl
           right false = refl
 
-      ruled : Marking text (if all then set marks n 1 else rule_marks text links n (join raw) marks)
-          (if all then links else rule_links text links i (join raw)) (if all then true else rule_all text links (join raw)) (r.end + 1) (n + r.joins + 1)
+      ruled : Marking text (when all then set marks n 1 else rule_marks text links n (join raw) marks)
+          (when all then links else rule_links text links i (join raw)) (when all then true else rule_all text links (join raw)) (r.end + 1) (n + r.joins + 1)
       unfolding rule_marks rule_links rule_all
       ruled = by all refl (is_repeat text links (join raw)) refl
         where
@@ -492,9 +492,9 @@ module _ (text marks links : List ℕ) (all : Bool) (i n : ℕ) (h : Marking tex
               right false = refl
 
           by : (x : Bool) → all ≡ x → (y : Bool) → is_repeat text links (join raw) ≡ y
-              → Marking text (if x then set marks n 1 else (if y then set marks n 1 else marks))
-              (if x then links else (if y then links else linked links i (join raw)))
-              (if x then true else (if y then false else all_text (join raw))) (r.end + 1) (n + r.joins + 1)
+              → Marking text (when x then set marks n 1 else (when y then set marks n 1 else marks))
+              (when x then links else (when y then links else linked links i (join raw)))
+              (when x then true else (when y then false else all_text (join raw))) (r.end + 1) (n + r.joins + 1)
           by true f y g = rw f at (repeated (every f))
           by false f true g = rw f at (repeated (same f ∙ g))
           by false f false g = kept f (same f ∙ g)
@@ -518,9 +518,9 @@ module _ (text marks links : List ℕ) (all : Bool) (i n : ℕ) (h : Marking tex
       stepped = rw (is-a, is_m, is-k) (by (rule_of (line 0 0 raw true)) refl)
         where
           by : (o : Option Rule) → rule_of (line 0 0 raw true) ≡ o
-              → Marking text (if is_some o then (if all then set marks n 1 else rule_marks text links n (join raw) marks) else marks)
-              (if is_some o then (if all then links else rule_links text links i (join raw)) else links)
-              (if is_some o then (if all then true else rule_all text links (join raw)) else all) (r.end + 1) (n + r.joins + 1)
+              → Marking text (when is_some o then (when all then set marks n 1 else rule_marks text links n (join raw) marks) else marks)
+              (when is_some o then (when all then links else rule_links text links i (join raw)) else links)
+              (when is_some o then (when all then true else rule_all text links (join raw)) else all) (r.end + 1) (n + r.joins + 1)
           by none e = skipped e
           by (some v) e = ruled v e
 

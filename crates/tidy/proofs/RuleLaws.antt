@@ -12,7 +12,7 @@ use borrow.Author.Tests.{eqb-true, ltb-true, ltb-false}
 use lib.Dec.{eqb, ltb}
 use lib.ListN.{length, take, drop}
 use lib.Seq.{take_all}
-use Rattle.text.specs.Basics.{if◌then◌else◌, ◌>>=◌}
+use Rattle.text.specs.Basics.{when◌then◌else◌, ◌>>=◌}
 use Rattle.text.specs.Text.{bytes, among, equal, cons_head, split, equal_fold, lower}
 use Rattle.text.proofs.BasicLaws.{and_true}
 use Rattle.text.proofs.ScanLaws.{equal_fold_by}
@@ -113,7 +113,7 @@ print_words_lem h (x ∷ t) = by (among " \t," x) (print_words_lem h t) (print_w
   where
     by : (b : Bool) → print_list h t ≡ print_words h (non_empty (split " \t," t))
         → print_list (print_more h x) t ≡ print_words (print_more h x) (non_empty (split " \t," t))
-        → print_list (if b then h else print_more h x) t ≡ print_words h (non_empty (if b then [] ∷ split " \t," t else cons_head x (split " \t," t)))
+        → print_list (when b then h else print_more h x) t ≡ print_words h (non_empty (when b then [] ∷ split " \t," t else cons_head x (split " \t," t)))
     by true e f = e
     by false e f = f ∙ sym (print_head h x (split " \t," t))
 

@@ -13,7 +13,7 @@ use native.Mathlib.Omega.{arith}
 use borrow.Author.Tests.{not-true}
 use lib.Dec.{eqb}
 use lib.ListN.{length}
-use Rattle.text.specs.Basics.{if◌then◌else◌, ◌>>=◌, ◌or_else◌, holds, any, all, first}
+use Rattle.text.specs.Basics.{when◌then◌else◌, ◌>>=◌, ◌or_else◌, holds, any, all, first}
 use Rattle.text.specs.Basics as Basics
 use Rattle.text.specs.Text as Text
 use Rattle.text.specs.Text.{bytes, equal, equal_fold, is_word}
@@ -73,7 +73,7 @@ module _ (m : List ℕ → Found) (blind : (x y : List ℕ) → equal_fold x y �
 -- the lines that are kept
 unfoldable pub kept_lines : List ℕ → List Line → List Line
 kept_lines ns [] = []
-kept_lines ns (l ∷ ls) = if named ns l then kept_lines ns ls else l ∷ kept_lines ns ls
+kept_lines ns (l ∷ ls) = when named ns l then kept_lines ns ls else l ∷ kept_lines ns ls
 
 module _ (m : Matcher) (r : Request) (blind : CaseBlind m r) where
   same_found_lem : (u v : Rule) → same_list u.daemons v.daemons ≡ true → same_list u.clients v.clients ≡ true → rule_found m r u ≡ rule_found m r v
@@ -146,7 +146,7 @@ module _ (m : Matcher) (r : Request) (blind : CaseBlind m r) where
     unfolding line_answer
     line_none l e = by (is_comment l || is_blank l) (parse_rule l.raw) e
       where
-        by : (b : Bool) (o : Option Rule) → (if b then none else o) ≡ none → (if b then none else (o >>= λ u. rule_answer v f l u (rule_found m r u))) ≡ none
+        by : (b : Bool) (o : Option Rule) → (when b then none else o) ≡ none → (when b then none else (o >>= λ u. rule_answer v f l u (rule_found m r u))) ≡ none
         by true o k = refl
         by false none k = refl
         by false (some u) k = let z : ◌≡◌ {A = ℕ} 0 1 = cc in absurd (omega arith)
@@ -155,8 +155,8 @@ module _ (m : Matcher) (r : Request) (blind : CaseBlind m r) where
     unfolding line_answer
     line_rule l u e = by (is_comment l || is_blank l) (parse_rule l.raw) e
       where
-        by : (b : Bool) (o : Option Rule) → (if b then none else o) ≡ some u
-            → (if b then none else (o >>= λ w. rule_answer v f l w (rule_found m r w))) ≡ rule_answer v f l u (rule_found m r u)
+        by : (b : Bool) (o : Option Rule) → (when b then none else o) ≡ some u
+            → (when b then none else (o >>= λ w. rule_answer v f l w (rule_found m r w))) ≡ rule_answer v f l u (rule_found m r u)
         by true o k = let z : ◌≡◌ {A = ℕ} 0 1 = cc in absurd (omega arith)
         by false none k = let z : ◌≡◌ {A = ℕ} 0 1 = cc in absurd (omega arith)
         by false (some w) k = let same : w ≡ u = cc k in ap (λ (x : Rule). rule_answer v f l x (rule_found m r x)) same
@@ -190,12 +190,12 @@ module _ (m : Matcher) (r : Request) (blind : CaseBlind m r) where
             rule none p = ih kept h (rw p at k)
             rule (some u) p = ih (u ∷ kept) (found u (rule_found m r u) refl (sym (line_rule l u p) ∙ q), h) (rw p at k)
 
-        by : (b : Bool) → (if b then covered_by kept l && witnessed ns kept ls else witnessed ns (with_rule (rule_of l) kept) ls) ≡ true
+        by : (b : Bool) → (when b then covered_by kept l && witnessed ns kept ls else witnessed ns (with_rule (rule_of l) kept) ls) ≡ true
             → (witnessed ns kept ls ≡ true → first (line_answer v f (rule_found m r)) ls ≡ first (line_answer v f (rule_found m r)) (kept_lines ns ls))
             → ((us : List Rule) → Missed us → witnessed ns us ls ≡ true
             → first (line_answer v f (rule_found m r)) ls ≡ first (line_answer v f (rule_found m r)) (kept_lines ns ls))
             → line_answer v f (rule_found m r) l or_else first (line_answer v f (rule_found m r)) ls
-            ≡ first (line_answer v f (rule_found m r)) (if b then kept_lines ns ls else l ∷ kept_lines ns ls)
+            ≡ first (line_answer v f (rule_found m r)) (when b then kept_lines ns ls else l ∷ kept_lines ns ls)
         by true k ih ih' =
             let a = and_true (covered_by kept l) (witnessed ns kept ls) k in
             rw (covered_line kept l h a.0) (ih a.1)

@@ -9,7 +9,7 @@ use mathlib.Core.Bool.{Bool, true, false, not, ◌&&◌, ◌||◌}
 use mathlib.Core.List.{List, [], ◌∷◌, ◌++◌}
 use mathlib.Core.Option.{Option, none, some, get_or}
 use mathlib.Core.Path.{◌≡◌, refl, sym, ap, ap₂, ◌∙◌}
-use Rattle.text.specs.Basics.{if◌then◌else◌, ◌>>=◌, ◌or_else◌, first}
+use Rattle.text.specs.Basics.{when◌then◌else◌, ◌>>=◌, ◌or_else◌, first}
 use Rattle.section.specs.declared.Fault.TheVariants as F
 use Rattle.section.specs.declared.Refusal.{Refusal}
 use Rattle.section.specs.Refusal.{Outcome, refused, answered, ◌before◌, fitting}
@@ -66,7 +66,7 @@ line_file : (v : Verdict) (f : File) (found : Rule → Found) (l : Line) (a : An
 unfolding line_answer
 line_file v f found l a = by (is_comment l || is_blank l) (parse_rule l.raw)
   where
-    by : (c : Bool) (o : Option Rule) → (if c then none else (o >>= λ u. rule_answer v f l u (found u))) ≡ some a → a.file ≡ f
+    by : (c : Bool) (o : Option Rule) → (when c then none else (o >>= λ u. rule_answer v f l u (found u))) ≡ some a → a.file ≡ f
     by true o e = let z : ◌≡◌ {A = ℕ} 0 1 = cc e in absurd (omega arith)
     by false none e = let z : ◌≡◌ {A = ℕ} 0 1 = cc e in absurd (omega arith)
     by false (some u) e = found_file v f l u (found u) a e
@@ -172,8 +172,8 @@ alike_fitting : (p : Answer → Answer → Type 0) (f g : Request → Answer) �
 alike_fitting p f g h none = refl
 alike_fitting p f g h (some r) = by (well_formed r)
   where
-    by : (b : Bool) → Alike p (if b then answered (f r) else refused (Rattle.section.specs.Refusal.placeless F.BadRequest))
-        (if b then answered (g r) else refused (Rattle.section.specs.Refusal.placeless F.BadRequest))
+    by : (b : Bool) → Alike p (when b then answered (f r) else refused (Rattle.section.specs.Refusal.placeless F.BadRequest))
+        (when b then answered (g r) else refused (Rattle.section.specs.Refusal.placeless F.BadRequest))
     by true = h r
     by false = refl
 

@@ -11,7 +11,7 @@ use mathlib.Core.Path.{◌≡◌, refl, sym, ap, ◌∙◌}
 use borrow.Author.Tests.{ltb-false, not-false}
 use lib.Dec.{ltb}
 use lib.ListN.{length, take, drop}
-use Rattle.text.specs.Basics.{if◌then◌else◌, ◌or_else◌, ◌>>=◌, any, first}
+use Rattle.text.specs.Basics.{when◌then◌else◌, ◌or_else◌, ◌>>=◌, any, first}
 use Rattle.text.specs.Text.{among, cons_first, split}
 use Rattle.section.specs.declared.Fault.{Fault}
 use Rattle.section.specs.declared.Fault.TheVariants as F
@@ -48,7 +48,7 @@ line_tests l e =
     ((F.Unended, not l.ended)
     ∷ (F.BadByte, not (is_comment l) && has_bad_byte (join l.raw))
     ∷ (F.LongLine, is_too_long (join l.raw)) ∷ []))
-    (if is_comment l || is_blank l then none else rule_fault (Rattle.lines.specs.Rule.parse_rule l.raw)) e).0
+    (when is_comment l || is_blank l then none else rule_fault (Rattle.lines.specs.Rule.parse_rule l.raw)) e).0
 
 no_element : (a b c d e : Bool) → lowest ((F.NoElement, a) ∷ (F.MisplacedExcept, b) ∷ (F.ReservedStart, c) ∷ (F.UnknownElement, d) ∷ (F.BadPercent, e) ∷ [])
     ≡ none
@@ -103,12 +103,12 @@ unfolding parse_rule split_separator
 long_rule [] h = absurd (unparted h)
 long_rule (x ∷ []) h = absurd (by (among ":" x) h)
   where
-    by : (b : Bool) → rule_fault (parted (if b then some ([], []) else cons_first x none)) ≡ none → ⊥
+    by : (b : Bool) → rule_fault (parted (when b then some ([], []) else cons_first x none)) ≡ none → ⊥
     by true k = no_daemon [] k
     by false k = unparted k
 long_rule (x ∷ y ∷ []) h = absurd (by (among ":" x) (not (among "[" x) && among ":" y) h)
   where
-    by : (b c : Bool) → rule_fault (parted (if b then some ([], y ∷ []) else cons_first x (if c then some ([], []) else cons_first y none))) ≡ none → ⊥
+    by : (b c : Bool) → rule_fault (parted (when b then some ([], y ∷ []) else cons_first x (when c then some ([], []) else cons_first y none))) ≡ none → ⊥
     by true c k = no_daemon (y ∷ []) k
     by false true k = no_client (x ∷ []) k
     by false false k = unparted k
@@ -168,16 +168,16 @@ module _ (text : List ℕ) (i n : ℕ) (h : At text i n) (l : i < length text) (
   unfolding line_fault_by
   at_rule v e = by (is_comment (line n i raw r.ended) || is_blank (line n i raw r.ended)) e tests
     where
-      tests : (if is_comment (line n i raw r.ended) || is_blank (line n i raw r.ended) then none else rule_fault (parse_rule raw)) ≡ none
+      tests : (when is_comment (line n i raw r.ended) || is_blank (line n i raw r.ended) then none else rule_fault (parse_rule raw)) ≡ none
       tests =
           (none_both
           (lowest
           ((F.Unended, not r.ended)
           ∷ (F.BadByte, not (is_comment (line n i raw r.ended)) && has_bad_byte (join raw))
           ∷ (F.LongLine, is_too_long (join raw)) ∷ []))
-          (if is_comment (line n i raw r.ended) || is_blank (line n i raw r.ended) then none else rule_fault (parse_rule raw)) both.0).1
+          (when is_comment (line n i raw r.ended) || is_blank (line n i raw r.ended) then none else rule_fault (parse_rule raw)) both.0).1
 
-      by : (b : Bool) → (if b then none else parse_rule raw) ≡ some v → (if b then none else rule_fault (parse_rule raw)) ≡ none → i + 4 ≤ r.end + 1
+      by : (b : Bool) → (when b then none else parse_rule raw) ≡ some v → (when b then none else rule_fault (parse_rule raw)) ≡ none → i + 4 ≤ r.end + 1
       by true k f = let z : ◌≡◌ {A = ℕ} 0 1 = cc in absurd (omega arith)
       by false k f = omega (arith, long_rule raw f, take_few (r.end - i) (drop i text), at_from)
 

@@ -12,7 +12,7 @@
 use Rattle.std.specs.Prelude.{ℕ, zero, suc, ◌+◌, ◌-◌, ◌*◌, ◌%◌, ◌≤◌, ◌<◌, ◌/◌, Bool, true, false, not, ◌&&◌, ◌||◌, ◌≡◌, eqb, ltb, leb, length, take, drop, get_or, set}
 use mathlib.Core.List.{List, [], ◌∷◌, ◌++◌, flat_map}
 use Rattle.std.proofs.Math.Option.{Option, none, some}
-use Rattle.text.specs.Basics.{if◌then◌else◌, ◌or_else◌, given, holds, is_some, any, all, first}
+use Rattle.text.specs.Basics.{when◌then◌else◌, ◌or_else◌, given, holds, is_some, any, all, first}
 use Rattle.text.specs.Text.{lower, split}
 use Rattle.text.specs.Words.{word_bytes, read_words}
 use Rattle.section.specs.declared.Fault.{Fault}
@@ -46,7 +46,7 @@ texts_fault allow deny five = over_limit S.allow allow or_else over_limit S.deny
 
 unfoldable pub section_fault : ℕ → List ℕ → List ℕ → Option Refusal
 section_fault n t five =
-    if eqb n 1 then texts_fault t [] five else if eqb n 2 then texts_fault [] t five else some (placeless F.BadRequest)
+    when eqb n 1 then texts_fault t [] five else when eqb n 2 then texts_fault [] t five else some (placeless F.BadRequest)
 
 abbrev pub checked_by : Pass → Checked
 checked_by (P.Faulty f) = C.Refused f
@@ -79,7 +79,7 @@ abbrev pub print_more : ℕ → ℕ → ℕ
 print_more h x = (h * 131 + lower x) % 16777216
 
 unfoldable pub print_next : ℕ → ℕ → ℕ
-print_next h x = if is_parting x then h else print_more h x
+print_next h x = when is_parting x then h else print_more h x
 
 unfoldable pub print_list : ℕ → List ℕ → ℕ
 print_list h [] = h
@@ -98,13 +98,13 @@ same_at text p t = leb (length (join (raw_at text p))) 2048 && same_text (join (
 
 -- a place and 1, or 0
 unfoldable pub link_at : List ℕ → ℕ → ℕ
-link_at links i = if ltb 16384 (get_or links i 0) then 0 else get_or links i 0
+link_at links i = when ltb 16384 (get_or links i 0) then 0 else get_or links i 0
 
 -- a chain ends at 0; what follows a place stands in links at its quarter, as no two rules stand nearer than four bytes
 unfoldable pub repeats : List ℕ → List ℕ → ℕ → ℕ → List ℕ → Bool
 repeats text links zero h t = false
 repeats text links (suc k) h t =
-    if eqb h 0 || ltb (length text) h then false
+    when eqb h 0 || ltb (length text) h then false
     else (same_at text (h - 1) t || repeats text links k (link_at links ((h - 1) / 4)) t)
 
 -- behind the places stand the chains' beginnings, one for each bucket
@@ -120,30 +120,30 @@ linked links i t = set (set links (i / 4) (link_at links (beginning t))) (beginn
 -- ## A step
 
 unfoldable pub rule_all : List ℕ → List ℕ → List ℕ → Bool
-rule_all text links t = if is_repeat text links t then false else all_text t
+rule_all text links t = when is_repeat text links t then false else all_text t
 
 unfoldable pub rule_marks : List ℕ → List ℕ → ℕ → List ℕ → List ℕ → List ℕ
-rule_marks text links n t marks = if is_repeat text links t then set marks n 1 else marks
+rule_marks text links n t marks = when is_repeat text links t then set marks n 1 else marks
 
 unfoldable pub rule_links : List ℕ → List ℕ → ℕ → List ℕ → List ℕ
-rule_links text links i t = if is_repeat text links t then links else linked links i t
+rule_links text links i t = when is_repeat text links t then links else linked links i t
 
 abbrev pub has_rule : List ℕ → Bool
 has_rule raw = is_some (rule_of (line 0 0 raw true))
 
 unfoldable pub step_all : List ℕ → List ℕ → Bool → List ℕ → Bool
-step_all text links all raw = if has_rule raw then (if all then true else rule_all text links (join raw)) else all
+step_all text links all raw = when has_rule raw then (when all then true else rule_all text links (join raw)) else all
 
 unfoldable pub step_marks : List ℕ → List ℕ → Bool → ℕ → List ℕ → List ℕ → List ℕ
-step_marks text links all n raw marks = if has_rule raw then (if all then set marks n 1 else rule_marks text links n (join raw) marks) else marks
+step_marks text links all n raw marks = when has_rule raw then (when all then set marks n 1 else rule_marks text links n (join raw) marks) else marks
 
 unfoldable pub step_links : List ℕ → List ℕ → Bool → ℕ → List ℕ → List ℕ
-step_links text links all i raw = if has_rule raw then (if all then links else rule_links text links i (join raw)) else links
+step_links text links all i raw = when has_rule raw then (when all then links else rule_links text links i (join raw)) else links
 
 -- ## Marks
 
 abbrev pub flag : Bool → ℕ
-flag b = if b then 1 else 0
+flag b = when b then 1 else 0
 
 pub record Marked (marks ns : List ℕ) : Type 0 where
   pub long : length marks ≡ 16385
@@ -151,7 +151,7 @@ pub record Marked (marks ns : List ℕ) : Type 0 where
 
 -- n, if it is marked; the numbers below n + k, from n on, that are marked
 unfoldable pub marked_here : List ℕ → ℕ → List ℕ
-marked_here marks n = if eqb (get_or marks n 0) 1 then n ∷ [] else []
+marked_here marks n = when eqb (get_or marks n 0) 1 then n ∷ [] else []
 
 unfoldable pub marked_from : List ℕ → ℕ → ℕ → List ℕ
 marked_from marks zero n = []
@@ -175,10 +175,10 @@ pub record Named (marks ns : List ℕ) : Type 0 where
 
 -- the bytes s of line n, unless it is named
 unfoldable pub kept_here : List ℕ → ℕ → List ℕ → List ℕ
-kept_here marks n s = if eqb (get_or marks n 0) 2 then [] else s
+kept_here marks n s = when eqb (get_or marks n 0) 2 then [] else s
 
 unfoldable pub size_here : List ℕ → ℕ → ℕ → ℕ
-size_here marks n size = if eqb (get_or marks n 0) 2 then 0 else size
+size_here marks n size = when eqb (get_or marks n 0) 2 then 0 else size
 
 abbrev pub kept_line : List ℕ → Line → List ℕ
 kept_line marks l = kept_here marks l.number (line_bytes l)

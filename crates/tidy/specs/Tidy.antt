@@ -10,7 +10,7 @@
 -- Assumes nothing: these are definitions.
 use Rattle.std.specs.Prelude.{ℕ, ◌+◌, Bool, true, false, not, ◌&&◌, ◌||◌, List, [], ◌∷◌, ◌++◌, eqb, ltb}
 use Rattle.std.proofs.Math.Option.{Option, none, some, get_or}
-use Rattle.text.specs.Basics.{if◌then◌else◌, ◌or_else◌, given, holds, any, all}
+use Rattle.text.specs.Basics.{when◌then◌else◌, ◌or_else◌, given, holds, any, all}
 use Rattle.text.specs.Text.{equal_fold, is_word}
 use Rattle.text.specs.Words.{word_bytes, read_words}
 use Rattle.section.specs.declared.Fault.TheVariants as F
@@ -27,7 +27,7 @@ use Rattle.rules.specs.Check.{hosts_fault, missing_fault, depth_fault}
 -- ## Rules that never fire
 
 abbrev pub rule_of : Line → Option Rule
-rule_of l = if is_comment l || is_blank l then none else parse_rule l.raw
+rule_of l = when is_comment l || is_blank l then none else parse_rule l.raw
 
 -- "the same elements and EXCEPTs in the same order .., ignoring case"
 unfoldable pub same_list : List (List ℕ) → List (List ℕ) → Bool
@@ -72,7 +72,7 @@ named ns l = any (eqb l.number) ns
 unfoldable pub witnessed : List ℕ → List Rule → List Line → Bool
 witnessed ns kept [] = true
 witnessed ns kept (l ∷ ls) =
-    if named ns l then covered_by kept l && witnessed ns kept ls
+    when named ns l then covered_by kept l && witnessed ns kept ls
     else witnessed ns (with_rule (rule_of l) kept) ls
 
 -- every number is that of some line; that such a line is a rule is in witnessed
@@ -90,7 +90,7 @@ accepts t ns = are_lines ns (lines t) && witnessed ns [] (lines t)
 unfoldable pub covered_lines : List Rule → List Line → List ℕ
 covered_lines seen [] = []
 covered_lines seen (l ∷ ls) =
-    (if covered_by seen l then l.number ∷ [] else []) ++ covered_lines (with_rule (rule_of l) seen) ls
+    (when covered_by seen l then l.number ∷ [] else []) ++ covered_lines (with_rule (rule_of l) seen) ls
 
 unfoldable pub proposal : List ℕ → List ℕ
 proposal t = covered_lines [] (lines t)
@@ -99,18 +99,18 @@ proposal t = covered_lines [] (lines t)
 
 -- "a new file with only those rules gone"
 unfoldable pub dropped : List ℕ → List ℕ → List ℕ
-dropped ns t = rewrite (λ l. if named ns l then [] else line_bytes l) t
+dropped ns t = rewrite (λ l. when named ns l then [] else line_bytes l) t
 
 -- "the line moves by the lines removed above it"
 unfoldable pub removed_above : List ℕ → ℕ → List Line → ℕ
 removed_above ns n [] = 0
-removed_above ns n (l ∷ ls) = (if named ns l && ltb l.number n then line_count l else 0) + removed_above ns n ls
+removed_above ns n (l ∷ ls) = (when named ns l && ltb l.number n then line_count l else 0) + removed_above ns n ls
 
 -- ## The calls
 
 -- "Given a file and the tables": the section that a caller's number names
 abbrev pub section_of : ℕ → Option Section
-section_of n = if eqb n (S.allow).order then some S.allow else if eqb n (S.deny).order then some S.deny else none
+section_of n = when eqb n (S.allow).order then some S.allow else when eqb n (S.deny).order then some S.deny else none
 
 -- 13 where it names neither of the two
 abbrev pub with_section : Option Section → (Section → Outcome (List ℕ)) → Outcome (List ℕ)

@@ -2,19 +2,20 @@
 // it to standard output. What is no such sheet, or can't be read, gets a message on standard error, and nothing is written.
 #![tactic(auto)]
 
-use libc::{STDERR_FILENO, STDOUT_FILENO};
+use std::io;
+use std::io::Print;
+use std::rt::{Env, Files};
 
-fn tell(s: &[u8]) {
-    io::write_all(STDERR_FILENO, s);
-}
+// Four sections have at most 45,072 bytes: a longer file is refused by its first 45,073, as it would be whole.
+const MOST: u64 = 45073;
 
-fn tell_refusal(name: &[u8], n: u32, section: u32) {
-    tell(name);
-    tell(b": refused ");
-    io::print_decimal(STDERR_FILENO, n as u64);
-    tell(b" section ");
-    io::print_decimal(STDERR_FILENO, section as u64);
-    tell(b": no sheet of four sections\n");
+fn tell_refusal(errors: &impl Print, name: &[u8], n: u32, section: u32) -> io::Result<()> {
+    errors.write_all(name)?;
+    errors.print(": refused ")?;
+    errors.print(n)?;
+    errors.print(" section ")?;
+    errors.print(section)?;
+    errors.print(": no sheet of four sections\n")
 }
 
 // The first n bytes of s; none where it has fewer.
@@ -26,57 +27,38 @@ fn front(s: &[u8], n: usize) -> &[u8] {
     &s[a..n]
 }
 
-fn write_sheet(sheet: &[u8]) {
-    if !io::write_all(STDOUT_FILENO, sheet) {
-        os::fail(b"standard output");
-    }
-}
-
-fn upgrade_in(out: &mut [u8], name: &[u8], sheet: &[u8]) {
-    let w = gate::gate_upgrade(out, sheet);
-    if w.number != 0 {
-        tell_refusal(name, w.number, w.section);
-        return;
-    }
-    write_sheet(front(out, w.count as usize));
-}
-
-fn upgrade(name: &[u8], sheet: &[u8]) {
+fn upgrade(rt: &impl Print, errors: &impl Print, name: &[u8], sheet: &[u8]) -> io::Result<()> {
     let mut out = [0u8; 45074];
-    upgrade_in(&mut out, name, sheet);
+    let w = gate::gate_upgrade(&mut out, sheet);
+    if w.number != 0 {
+        return tell_refusal(errors, name, w.number, w.section);
+    }
+    rt.write_all(front(&out, w.count as usize))
 }
 
-// Whether reading stopped at the end of the file, and not at an error.
-fn at_end(fd: i32) -> bool {
-    let mut next = [0u8; 1];
-    libc::read(fd, &mut next) == 0
+fn upgrade_file<R: Files + Print + AllocGlobal>(
+    rt: &R,
+    errors: &impl Print,
+    name: &[u8],
+) -> io::Result<()> {
+    match report::file::read_front(rt, name, MOST) {
+        Ok(sheet) => upgrade(rt, errors, name, &sheet),
+        Err(e) => report::file::tell_failure(errors, rt.alloc(), name, e),
+    }
 }
 
-// Four sections have at most 45,072 bytes: a longer file is refused by its first 45,073, as it would be whole.
-fn upgrade_file(fd: i32, name: &[u8]) {
-    let mut sheet = [0u8; 45073];
-    let n = io::read_full(fd, &mut sheet);
-    if n < 45073 {
-        if !at_end(fd) {
-            os::fail(name);
-            return;
-        }
+fn run<R: Env + Files + Print + AllocGlobal>(rt: &R, errors: &impl Print) -> io::Result<()> {
+    let mut name = [0u8; 4096];
+    match rt.arg(1, &mut name) {
+        Ok(length) => upgrade_file(rt, errors, &name[..length]),
+        Err(_) => errors.print("usage: upgrader FILE\n"),
     }
-    upgrade(name, &sheet[..n]);
 }
 
-fn main() {
-    let mut name = io::buffer();
-    let length = os::arg(1, &mut name);
-    if os::errno() != 0 {
-        tell(b"usage: upgrader FILE\n");
-        return;
+// What can't be read is told in `run`: an error that comes back is of a write.
+fn main(rt: HostRuntime) {
+    let errors = rt.stderr();
+    if let Err(e) = run(&rt, &errors) {
+        let _ = report::file::tell_failure(&errors, rt.alloc(), b"standard output", e);
     }
-    let fd = os::open_read(&name[..length]);
-    if fd < 0 {
-        os::fail(&name[..length]);
-        return;
-    }
-    upgrade_file(fd, &name[..length]);
-    libc::close(fd);
 }

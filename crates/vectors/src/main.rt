@@ -3,92 +3,103 @@
 #![tactic(auto)]
 
 use codes::GateAnswer;
-use libc::STDIN_FILENO;
+use std::io;
+use std::io::{Input, Print, Read};
 
 // ## How an answer is written
 
-fn decision(a: GateAnswer) {
-    if report::refused(a.number, a.section, a.line) {
-        return;
+fn decision(rt: &impl Print, a: GateAnswer) -> io::Result<()> {
+    if report::refused(rt, a.number, a.section, a.line)? {
+        return Ok(());
     }
-    report::word(a.word as usize);
-    report::end_line();
+    report::word(rt, a.word as usize)?;
+    report::end_line(rt)
 }
 
 // A verdict, with the file and line of its rule, how many elements were looked at, and the rule's command out of the text where it stands.
-fn ruling(a: GateAnswer, whole: &[u8]) {
-    if report::refused(a.number, a.section, a.line) {
-        return;
+fn ruling(rt: &impl Print, a: GateAnswer, whole: &[u8]) -> io::Result<()> {
+    if report::refused(rt, a.number, a.section, a.line)? {
+        return Ok(());
     }
-    report::word(a.word as usize);
-    rule(a.file, a.line);
-    report::word(report::LOOKED);
-    report::number(a.looked);
-    command(part(whole, a.place, a.len));
-    report::end_line();
+    report::word(rt, a.word as usize)?;
+    rule(rt, a.file, a.line)?;
+    report::word(rt, report::LOOKED)?;
+    report::number(rt, a.looked)?;
+    command(rt, part(whole, a.place, a.len))?;
+    report::end_line(rt)
 }
 
 // The word that says that the name matters.
 const NAME_MATTERS: u32 = 9;
 
 // Whether the name matters, or the verdict, file and line that every user gets.
-fn matter(a: GateAnswer) {
-    if report::refused(a.number, a.section, a.line) {
-        return;
+fn matter(rt: &impl Print, a: GateAnswer) -> io::Result<()> {
+    if report::refused(rt, a.number, a.section, a.line)? {
+        return Ok(());
     }
     if a.word == NAME_MATTERS {
-        report::text(b"name matters");
+        report::text(rt, b"name matters")?;
     } else {
-        report::word(a.word as usize);
-        rule(a.file, a.line);
+        report::word(rt, a.word as usize)?;
+        rule(rt, a.file, a.line)?;
     }
-    report::end_line();
+    report::end_line(rt)
 }
 
-fn rule(file: u32, line: u64) {
-    report::word(std::num::wrapping_add_usize(report::NO_FILE, file as usize));
+fn rule(rt: &impl Print, file: u32, line: u64) -> io::Result<()> {
+    report::word(rt, report::NO_FILE.wrapping_add(file as usize))?;
     if file != 0 {
-        report::number(line);
+        report::number(rt, line)?;
     }
+    Ok(())
 }
 
-fn command(s: &[u8]) {
+fn command(rt: &impl Print, s: &[u8]) -> io::Result<()> {
     if 0 < s.len() {
-        report::word(report::COMMAND);
-        report::text(s);
+        report::word(rt, report::COMMAND)?;
+        report::text(rt, s)?;
     }
+    Ok(())
 }
 
 // The part of n bytes at a place.
 fn part(s: &[u8], place: u64, n: u64) -> &[u8] {
-    let e = std::num::wrapping_add_u64(place, n);
+    let e = place.wrapping_add(n);
     cases::part(s, place as usize, e as usize)
 }
 
 // Says so where a call touched a byte of the block beyond the count that it answers.
-fn untouched(out: &[u8], count: u64) {
+fn untouched(rt: &impl Print, out: &[u8], count: u64) -> io::Result<()> {
     let rest = cases::part(out, count as usize, out.len());
     if !cases::all_stops(rest) {
-        report::word(report::TOUCHED);
+        report::word(rt, report::TOUCHED)?;
     }
+    Ok(())
 }
 
-fn written(number: u32, section: u32, line: u64, count: u64, out: &[u8]) {
-    untouched(out, count);
-    if report::refused(number, section, line) {
-        return;
+fn written(
+    rt: &impl Print,
+    number: u32,
+    section: u32,
+    line: u64,
+    count: u64,
+    out: &[u8],
+) -> io::Result<()> {
+    untouched(rt, out, count)?;
+    if report::refused(rt, number, section, line)? {
+        return Ok(());
     }
-    report::text(part(out, 0, count));
-    report::end_line();
+    report::text(rt, part(out, 0, count))?;
+    report::end_line(rt)
 }
 
-fn text_at(text: usize, place: u64, n: u64) {
-    report::word(text);
-    report::number(place);
-    report::word(report::COMMA);
-    report::number(n);
-    report::word(report::BYTES);
-    report::end_line();
+fn text_at(rt: &impl Print, text: usize, place: u64, n: u64) -> io::Result<()> {
+    report::word(rt, text)?;
+    report::number(rt, place)?;
+    report::word(rt, report::COMMA)?;
+    report::number(rt, n)?;
+    report::word(rt, report::BYTES)?;
+    report::end_line(rt)
 }
 
 // ## The calls
@@ -124,7 +135,7 @@ fn read_request(case: &[u8]) -> Request {
     }
 }
 
-fn verdict(case: &[u8]) {
+fn verdict(rt: &impl Print, case: &[u8]) -> io::Result<()> {
     let r = read_request(case);
     let allow = cases::field(case, 7);
     let deny = cases::field(case, 8);
@@ -146,13 +157,12 @@ fn verdict(case: &[u8]) {
         cases::name(case, 6),
     );
     if a.file == 2 {
-        ruling(a, deny);
-        return;
+        return ruling(rt, a, deny);
     }
-    ruling(a, allow);
+    ruling(rt, a, allow)
 }
 
-fn tables_verdict(case: &[u8]) {
+fn tables_verdict(rt: &impl Print, case: &[u8]) -> io::Result<()> {
     let r = read_request(case);
     let allow = cases::field(case, 7);
     let deny = cases::field(case, 8);
@@ -175,13 +185,12 @@ fn tables_verdict(case: &[u8]) {
         cases::name(case, 6),
     );
     if a.file == 2 {
-        ruling(a, deny);
-        return;
+        return ruling(rt, a, deny);
     }
-    ruling(a, allow);
+    ruling(rt, a, allow)
 }
 
-fn sheet_verdict(case: &[u8]) {
+fn sheet_verdict(rt: &impl Print, case: &[u8]) -> io::Result<()> {
     let r = read_request(case);
     let sheet = cases::field(case, 7);
     let a = gate::gate_sheet_verdict(
@@ -200,70 +209,79 @@ fn sheet_verdict(case: &[u8]) {
         r.user,
         cases::name(case, 6),
     );
-    ruling(a, sheet);
+    ruling(rt, a, sheet)
 }
 
-fn name_matters(case: &[u8]) {
+fn name_matters(rt: &impl Print, case: &[u8]) -> io::Result<()> {
     let r = read_request(case);
-    matter(gate::gate_name_matters(
-        cases::field(case, 7),
-        cases::field(case, 8),
-        cases::field(case, 1),
-        r.client_state,
-        r.client_kind,
-        r.client_high,
-        r.client_low,
-        cases::name(case, 2),
-        r.server_state,
-        r.server_kind,
-        r.server_high,
-        r.server_low,
-        cases::name(case, 4),
-        r.user,
-        cases::name(case, 6),
-    ));
+    matter(
+        rt,
+        gate::gate_name_matters(
+            cases::field(case, 7),
+            cases::field(case, 8),
+            cases::field(case, 1),
+            r.client_state,
+            r.client_kind,
+            r.client_high,
+            r.client_low,
+            cases::name(case, 2),
+            r.server_state,
+            r.server_kind,
+            r.server_high,
+            r.server_low,
+            cases::name(case, 4),
+            r.user,
+            cases::name(case, 6),
+        ),
+    )
 }
 
-fn tables_name_matters(case: &[u8]) {
+fn tables_name_matters(rt: &impl Print, case: &[u8]) -> io::Result<()> {
     let r = read_request(case);
-    matter(gate::gate_tables_name_matters(
-        cases::field(case, 7),
-        cases::field(case, 8),
-        cases::field(case, 9),
-        cases::field(case, 1),
-        r.client_state,
-        r.client_kind,
-        r.client_high,
-        r.client_low,
-        cases::name(case, 2),
-        r.server_state,
-        r.server_kind,
-        r.server_high,
-        r.server_low,
-        cases::name(case, 4),
-        r.user,
-        cases::name(case, 6),
-    ));
+    matter(
+        rt,
+        gate::gate_tables_name_matters(
+            cases::field(case, 7),
+            cases::field(case, 8),
+            cases::field(case, 9),
+            cases::field(case, 1),
+            r.client_state,
+            r.client_kind,
+            r.client_high,
+            r.client_low,
+            cases::name(case, 2),
+            r.server_state,
+            r.server_kind,
+            r.server_high,
+            r.server_low,
+            cases::name(case, 4),
+            r.user,
+            cases::name(case, 6),
+        ),
+    )
 }
 
-fn sheet_name_matters(case: &[u8]) {
+fn sheet_name_matters(rt: &impl Print, case: &[u8]) -> io::Result<()> {
     let r = read_request(case);
-    matter(gate::gate_sheet_name_matters(
-        cases::field(case, 7),
-        cases::field(case, 1),
-        r.client_state,
-        r.client_kind,
-        r.client_high,
-        r.client_low,
-        cases::name(case, 2),
-        r.server_state,
-        r.server_kind,
-        r.server_high,
-        r.server_low,
-        cases::name(case, 4),
-        r.user,
-        cases::name(case, 6),
-    ));
+    matter(
+        rt,
+        gate::gate_sheet_name_matters(
+            cases::field(case, 7),
+            cases::field(case, 1),
+            r.client_state,
+            r.client_kind,
+            r.client_high,
+            r.client_low,
+            cases::name(case, 2),
+            r.server_state,
+            r.server_kind,
+            r.server_high,
+            r.server_low,
+            cases::name(case, 4),
+            r.user,
+            cases::name(case, 6),
+        ),
+    )
 }
 
 // A request for a byuid decision, in the fields 1 to 3: port, address, uid.
@@ -287,17 +305,23 @@ fn read_byuid(case: &[u8]) -> ByuidRequest {
     }
 }
 
-fn byuid(case: &[u8]) {
+fn byuid(rt: &impl Print, case: &[u8]) -> io::Result<()> {
     let r = read_byuid(case);
     let mark = cases::number(case, 4);
     let text = cases::field(case, 5);
-    decision(gate::gate_byuid(text, mark, r.port, r.kind, r.high, r.low, r.uid));
+    decision(
+        rt,
+        gate::gate_byuid(text, mark, r.port, r.kind, r.high, r.low, r.uid),
+    )
 }
 
-fn sheet_byuid(case: &[u8]) {
+fn sheet_byuid(rt: &impl Print, case: &[u8]) -> io::Result<()> {
     let r = read_byuid(case);
     let sheet = cases::field(case, 4);
-    decision(gate::gate_sheet_byuid(sheet, r.port, r.kind, r.high, r.low, r.uid));
+    decision(
+        rt,
+        gate::gate_sheet_byuid(sheet, r.port, r.kind, r.high, r.low, r.uid),
+    )
 }
 
 // A request for a portacl decision, in the fields 1 to 7: the four settings, uid, protocol, port. Its groups are in the fields from 9 on.
@@ -324,62 +348,68 @@ fn read_portacl(case: &[u8]) -> PortaclRequest {
     }
 }
 
-fn portacl(case: &[u8]) {
+fn portacl(rt: &impl Print, case: &[u8]) -> io::Result<()> {
     let r = read_portacl(case);
     let list = cases::numbers(case, 9);
-    decision(gate::gate_portacl(
-        cases::field(case, 8),
-        r.enabled,
-        r.port_high,
-        r.suser_exempt,
-        r.autoport_exempt,
-        r.uid,
-        cases::front(&list, cases::from(case, 9)),
-        r.protocol,
-        r.port,
-    ));
+    decision(
+        rt,
+        gate::gate_portacl(
+            cases::field(case, 8),
+            r.enabled,
+            r.port_high,
+            r.suser_exempt,
+            r.autoport_exempt,
+            r.uid,
+            cases::front(&list, cases::from(case, 9)),
+            r.protocol,
+            r.port,
+        ),
+    )
 }
 
-fn sheet_portacl(case: &[u8]) {
+fn sheet_portacl(rt: &impl Print, case: &[u8]) -> io::Result<()> {
     let r = read_portacl(case);
     let list = cases::numbers(case, 9);
-    decision(gate::gate_sheet_portacl(
-        cases::field(case, 8),
-        r.enabled,
-        r.port_high,
-        r.suser_exempt,
-        r.autoport_exempt,
-        r.uid,
-        cases::front(&list, cases::from(case, 9)),
-        r.protocol,
-        r.port,
-    ));
+    decision(
+        rt,
+        gate::gate_sheet_portacl(
+            cases::field(case, 8),
+            r.enabled,
+            r.port_high,
+            r.suser_exempt,
+            r.autoport_exempt,
+            r.uid,
+            cases::front(&list, cases::from(case, 9)),
+            r.protocol,
+            r.port,
+        ),
+    )
 }
 
-fn check(case: &[u8]) {
+fn check(rt: &impl Print, case: &[u8]) -> io::Result<()> {
     let c = gate::gate_check(cases::field(case, 1));
-    if report::refused(c.number, c.section, c.line) {
-        return;
+    if report::refused(rt, c.number, c.section, c.line)? {
+        return Ok(());
     }
-    report::word(report::SHEET_OK);
-    report::end_line();
+    report::word(rt, report::SHEET_OK)?;
+    report::end_line(rt)
 }
 
-fn unpack(case: &[u8]) {
+fn unpack(rt: &impl Print, case: &[u8]) -> io::Result<()> {
     let p = gate::gate_unpack(cases::field(case, 1));
-    if report::refused(p.number, p.section, p.line) {
-        return;
+    if report::refused(rt, p.number, p.section, p.line)? {
+        return Ok(());
     }
-    text_at(report::ALLOW_AT, p.allow_place, p.allow_len);
-    text_at(report::DENY_AT, p.deny_place, p.deny_len);
-    text_at(report::BYUID_AT, p.byuid_place, p.byuid_len);
-    text_at(report::PORTACL_AT, p.portacl_place, p.portacl_len);
-    text_at(report::TABLES_AT, p.tables_place, p.tables_len);
+    text_at(rt, report::ALLOW_AT, p.allow_place, p.allow_len)?;
+    text_at(rt, report::DENY_AT, p.deny_place, p.deny_len)?;
+    text_at(rt, report::BYUID_AT, p.byuid_place, p.byuid_len)?;
+    text_at(rt, report::PORTACL_AT, p.portacl_place, p.portacl_len)?;
+    text_at(rt, report::TABLES_AT, p.tables_place, p.tables_len)
 }
 
 // ## The calls that write
 
-fn pack(case: &[u8], out: &mut [u8]) {
+fn pack(rt: &impl Print, case: &[u8], out: &mut [u8]) -> io::Result<()> {
     let allow = cases::field(case, 2);
     let deny = cases::field(case, 3);
     let byuid = cases::field(case, 4);
@@ -393,51 +423,60 @@ fn pack(case: &[u8], out: &mut [u8]) {
         portacl,
         tables,
     );
-    untouched(out, w.count);
+    untouched(rt, out, w.count)?;
     packed(
+        rt,
         w.number,
         w.section,
         w.line,
         part(out, 0, w.count),
         cases::field(case, 7),
-    );
+    )
 }
 
-fn upgrade(case: &[u8], out: &mut [u8]) {
+fn upgrade(rt: &impl Print, case: &[u8], out: &mut [u8]) -> io::Result<()> {
     let sheet = cases::field(case, 2);
     let w = gate::gate_upgrade(cases::room(out, cases::number(case, 1)), sheet);
-    untouched(out, w.count);
+    untouched(rt, out, w.count)?;
     packed(
+        rt,
         w.number,
         w.section,
         w.line,
         part(out, 0, w.count),
         cases::field(case, 3),
-    );
+    )
 }
 
-fn convert(case: &[u8], out: &mut [u8]) {
+fn convert(rt: &impl Print, case: &[u8], out: &mut [u8]) -> io::Result<()> {
     let text = cases::field(case, 2);
     let w = gate::gate_convert(cases::room(out, cases::number(case, 1)), text);
-    written(w.number, w.section, w.line, w.count, out);
+    written(rt, w.number, w.section, w.line, w.count, out)
 }
 
 // How long a sheet is, and whether it begins with the bytes that are expected.
-fn packed(number: u32, section: u32, line: u64, sheet: &[u8], expected: &[u8]) {
-    if report::refused(number, section, line) {
-        return;
+fn packed(
+    rt: &impl Print,
+    number: u32,
+    section: u32,
+    line: u64,
+    sheet: &[u8],
+    expected: &[u8],
+) -> io::Result<()> {
+    if report::refused(rt, number, section, line)? {
+        return Ok(());
     }
-    report::number(sheet.len() as u64);
-    report::word(report::BYTES);
+    report::number(rt, sheet.len() as u64)?;
+    report::word(rt, report::BYTES)?;
     if text::equal(cases::part(sheet, 0, expected.len()), expected) {
-        report::word(report::SAME);
+        report::word(rt, report::SAME)?;
     } else {
-        report::word(report::OTHERS);
+        report::word(rt, report::OTHERS)?;
     }
-    report::end_line();
+    report::end_line(rt)
 }
 
-fn expand(case: &[u8], out: &mut [u8]) {
+fn expand(rt: &impl Print, case: &[u8], out: &mut [u8]) -> io::Result<()> {
     let r = read_request(case);
     let daemon = cases::field(case, 1);
     let client = cases::name(case, 2);
@@ -463,41 +502,41 @@ fn expand(case: &[u8], out: &mut [u8]) {
         user,
         process,
     );
-    written(w.number, w.section, w.line, w.count, out);
+    written(rt, w.number, w.section, w.line, w.count, out)
 }
 
 // The text of a field, and the address that it writes, written again.
-fn read_address(case: &[u8], out: &mut [u8]) {
+fn read_address(rt: &impl Print, case: &[u8], out: &mut [u8]) -> io::Result<()> {
     let s = cases::field(case, 1);
-    report::text(s);
-    report::word(report::ARROW);
+    report::text(rt, s)?;
+    report::word(rt, report::ARROW)?;
     let a = gate::gate_read_address(s);
-    if report::refused(a.number, a.section, a.line) {
-        return;
+    if report::refused(rt, a.number, a.section, a.line)? {
+        return Ok(());
     }
     let w = gate::gate_write_address(cases::room(out, 39), a.kind, a.high, a.low);
-    written(w.number, w.section, w.line, w.count, out);
+    written(rt, w.number, w.section, w.line, w.count, out)
 }
 
-fn write_address(case: &[u8], out: &mut [u8]) {
+fn write_address(rt: &impl Print, case: &[u8], out: &mut [u8]) -> io::Result<()> {
     let a = gate::gate_read_address(cases::field(case, 2));
     let kind = cases::kind(a.number, a.kind, cases::field(case, 2));
     let n = cases::number(case, 1);
     let w = gate::gate_write_address(cases::room(out, n), kind, a.high, a.low);
-    written(w.number, w.section, w.line, w.count, out);
+    written(rt, w.number, w.section, w.line, w.count, out)
 }
 
 // What comes next, and the name that was written.
-fn next(word: u32, name: &[u8]) {
-    report::word(word as usize);
+fn next(rt: &impl Print, word: u32, name: &[u8]) -> io::Result<()> {
+    report::word(rt, word as usize)?;
     if 0 < name.len() {
-        report::text(b" ");
-        report::text(name);
+        report::text(rt, b" ")?;
+        report::text(rt, name)?;
     }
-    report::end_line();
+    report::end_line(rt)
 }
 
-fn authbind(case: &[u8], out: &mut [u8]) {
+fn authbind(rt: &impl Print, case: &[u8], out: &mut [u8]) -> io::Result<()> {
     let at = gate::gate_read_address(cases::field(case, 3));
     let kind = cases::kind(at.number, at.kind, cases::field(case, 3));
     let room = cases::number(case, 1);
@@ -513,14 +552,14 @@ fn authbind(case: &[u8], out: &mut [u8]) {
         uid,
         answers,
     );
-    untouched(out, n.count);
-    if report::refused(n.number, n.section, n.line) {
-        return;
+    untouched(rt, out, n.count)?;
+    if report::refused(rt, n.number, n.section, n.line)? {
+        return Ok(());
     }
-    next(n.word, part(out, 0, n.count));
+    next(rt, n.word, part(out, 0, n.count))
 }
 
-fn carry_into(case: &[u8], plain: &mut [u8], marked: &mut [u8]) {
+fn carry_into(rt: &impl Print, case: &[u8], plain: &mut [u8], marked: &mut [u8]) -> io::Result<()> {
     let list = cases::field(case, 4);
     let w = gate::gate_carry(
         cases::room(plain, cases::number(case, 1)),
@@ -528,48 +567,56 @@ fn carry_into(case: &[u8], plain: &mut [u8], marked: &mut [u8]) {
         list,
         cases::number(case, 3),
     );
-    untouched(plain, w.count);
-    untouched(marked, w.other_count);
-    if report::refused(w.number, w.section, w.line) {
-        return;
+    untouched(rt, plain, w.count)?;
+    untouched(rt, marked, w.other_count)?;
+    if report::refused(rt, w.number, w.section, w.line)? {
+        return Ok(());
     }
-    packed(0, 0, 0, part(plain, 0, w.count), cases::field(case, 5));
+    packed(rt, 0, 0, 0, part(plain, 0, w.count), cases::field(case, 5))?;
     packed(
+        rt,
         0,
         0,
         0,
         part(marked, 0, w.other_count),
         cases::field(case, 6),
-    );
+    )
 }
 
-fn carry(case: &[u8], out: &mut [u8]) {
+fn carry(rt: &impl Print, case: &[u8], out: &mut [u8]) -> io::Result<()> {
     let mut marked = [b'.'; 8192];
-    carry_into(case, out, &mut marked);
+    carry_into(rt, case, out, &mut marked)
 }
 
-fn salvage_into(case: &[u8], new: &mut [u8], list: &mut [u8]) {
+fn salvage_into(rt: &impl Print, case: &[u8], new: &mut [u8], list: &mut [u8]) -> io::Result<()> {
     let sheet = cases::field(case, 3);
     let w = gate::gate_salvage(
         cases::room(new, cases::number(case, 1)),
         cases::room(list, cases::number(case, 2)),
         sheet,
     );
-    untouched(new, w.count);
-    untouched(list, w.other_count);
-    if report::refused(w.number, w.section, w.line) {
-        return;
+    untouched(rt, new, w.count)?;
+    untouched(rt, list, w.other_count)?;
+    if report::refused(rt, w.number, w.section, w.line)? {
+        return Ok(());
     }
-    packed(0, 0, 0, part(new, 0, w.count), cases::field(case, 4));
-    packed(0, 0, 0, part(list, 0, w.other_count), cases::field(case, 5));
+    packed(rt, 0, 0, 0, part(new, 0, w.count), cases::field(case, 4))?;
+    packed(
+        rt,
+        0,
+        0,
+        0,
+        part(list, 0, w.other_count),
+        cases::field(case, 5),
+    )
 }
 
-fn salvage(case: &[u8], out: &mut [u8]) {
+fn salvage(rt: &impl Print, case: &[u8], out: &mut [u8]) -> io::Result<()> {
     let mut list = [b'.'; 8192];
-    salvage_into(case, out, &mut list);
+    salvage_into(rt, case, out, &mut list)
 }
 
-fn propose(case: &[u8], out: &mut [u8]) {
+fn propose(rt: &impl Print, case: &[u8], out: &mut [u8]) -> io::Result<()> {
     let section = cases::number(case, 2);
     let w = gate::gate_propose(
         cases::room(out, cases::number(case, 1)),
@@ -577,17 +624,18 @@ fn propose(case: &[u8], out: &mut [u8]) {
         cases::field(case, 4),
         section,
     );
-    untouched(out, w.count);
+    untouched(rt, out, w.count)?;
     packed(
+        rt,
         w.number,
         w.section,
         w.line,
         part(out, 0, w.count),
         cases::field(case, 5),
-    );
+    )
 }
 
-fn drop(case: &[u8], out: &mut [u8]) {
+fn drop(rt: &impl Print, case: &[u8], out: &mut [u8]) -> io::Result<()> {
     let section = cases::number(case, 2);
     let w = gate::gate_drop(
         cases::room(out, cases::number(case, 1)),
@@ -596,94 +644,97 @@ fn drop(case: &[u8], out: &mut [u8]) {
         section,
         cases::field(case, 5),
     );
-    untouched(out, w.count);
+    untouched(rt, out, w.count)?;
     packed(
+        rt,
         w.number,
         w.section,
         w.line,
         part(out, 0, w.count),
         cases::field(case, 6),
-    );
+    )
 }
 
-fn index(case: &[u8], out: &mut [u8]) {
+fn index(rt: &impl Print, case: &[u8], out: &mut [u8]) -> io::Result<()> {
     let sheet = cases::field(case, 2);
     let w = gate::gate_index(cases::room(out, cases::number(case, 1)), sheet);
-    untouched(out, w.count);
+    untouched(rt, out, w.count)?;
     packed(
+        rt,
         w.number,
         w.section,
         w.line,
         part(out, 0, w.count),
         cases::field(case, 3),
-    );
+    )
 }
 
-fn verdicts(case: &[u8], out: &mut [u8]) {
+fn verdicts(rt: &impl Print, case: &[u8], out: &mut [u8]) -> io::Result<()> {
     let w = gate::gate_verdicts(
         cases::room(out, cases::number(case, 1)),
         cases::field(case, 2),
         cases::field(case, 3),
         cases::field(case, 4),
     );
-    untouched(out, w.count);
+    untouched(rt, out, w.count)?;
     packed(
+        rt,
         w.number,
         w.section,
         w.line,
         part(out, 0, w.count),
         cases::field(case, 5),
-    );
+    )
 }
 
-fn write(call: usize, case: &[u8], out: &mut [u8]) {
+fn write(rt: &impl Print, call: usize, case: &[u8], out: &mut [u8]) -> io::Result<()> {
     match call {
-        12 => pack(case, out),
-        13 => upgrade(case, out),
-        14 => expand(case, out),
-        15 => read_address(case, out),
-        16 => write_address(case, out),
-        17 => convert(case, out),
-        18 => authbind(case, out),
-        19 => carry(case, out),
-        20 => salvage(case, out),
-        21 => propose(case, out),
-        22 => drop(case, out),
-        23 => index(case, out),
-        _ => verdicts(case, out),
+        12 => pack(rt, case, out),
+        13 => upgrade(rt, case, out),
+        14 => expand(rt, case, out),
+        15 => read_address(rt, case, out),
+        16 => write_address(rt, case, out),
+        17 => convert(rt, case, out),
+        18 => authbind(rt, case, out),
+        19 => carry(rt, case, out),
+        20 => salvage(rt, case, out),
+        21 => propose(rt, case, out),
+        22 => drop(rt, case, out),
+        23 => index(rt, case, out),
+        _ => verdicts(rt, case, out),
     }
 }
 
 // ## The lines
 
 // Calls by their places in the list of `run`. Those that write are lent the front of a block of full stops.
-fn answer(call: usize, case: &[u8]) {
+fn answer(rt: &impl Print, call: usize, case: &[u8]) -> io::Result<()> {
     match call {
-        0 => verdict(case),
-        1 => tables_verdict(case),
-        2 => sheet_verdict(case),
-        3 => name_matters(case),
-        4 => tables_name_matters(case),
-        5 => sheet_name_matters(case),
-        6 => byuid(case),
-        7 => sheet_byuid(case),
-        8 => portacl(case),
-        9 => sheet_portacl(case),
-        10 => check(case),
-        11 => unpack(case),
-        _ => lend(call, case),
+        0 => verdict(rt, case),
+        1 => tables_verdict(rt, case),
+        2 => sheet_verdict(rt, case),
+        3 => name_matters(rt, case),
+        4 => tables_name_matters(rt, case),
+        5 => sheet_name_matters(rt, case),
+        6 => byuid(rt, case),
+        7 => sheet_byuid(rt, case),
+        8 => portacl(rt, case),
+        9 => sheet_portacl(rt, case),
+        10 => check(rt, case),
+        11 => unpack(rt, case),
+        _ => lend(rt, call, case),
     }
 }
 
-fn lend(call: usize, case: &[u8]) {
+fn lend(rt: &impl Print, call: usize, case: &[u8]) -> io::Result<()> {
     let mut out = [b'.'; 65536];
-    write(call, case, &mut out);
+    write(rt, call, case, &mut out)
 }
 
-fn malformed(line: &[u8]) {
-    report::word(report::MALFORMED);
-    report::text(line);
-    report::end_line();
+fn malformed(rt: &impl Print, line: &[u8]) -> io::Result<()> {
+    report::word(rt, report::MALFORMED)?;
+    report::text(rt, line)?;
+    report::end_line(rt)
 }
 
 // The place of a case's call. A call is written as its name, a colon and the kinds of its fields: t a text, n a number, . no more.
@@ -698,76 +749,71 @@ fn call(case: &[u8]) -> usize {
     )
 }
 
-fn run_case(line: &[u8], case: &[u8]) {
+fn run_case(rt: &impl Print, line: &[u8], case: &[u8]) -> io::Result<()> {
     let place = call(case);
     if 24 < place {
-        malformed(line);
-        return;
+        return malformed(rt, line);
     }
-    answer(place, case);
+    answer(rt, place, case)
 }
 
 // Reads the case of a line into a block, and runs it.
-fn run_in(block: &mut [u8], line: &[u8], kept: &[u8]) {
+fn run_in(rt: &impl Print, block: &mut [u8], line: &[u8], kept: &[u8]) -> io::Result<()> {
     cases::read_line(block, line, kept);
-    run_case(line, block);
+    run_case(rt, line, block)
 }
 
-fn run_with(line: &[u8], kept: &[u8]) {
+fn run_with(rt: &impl Print, line: &[u8], kept: &[u8]) -> io::Result<()> {
     let mut block = [0u8; 65536];
-    run_in(&mut block, line, kept);
+    run_in(rt, &mut block, line, kept)
 }
 
 // The same after the line of the text that is kept, which is read into a block of its own.
-fn keep_in(block: &mut [u8], line: &[u8], kept_line: &[u8]) {
+fn keep_in(rt: &impl Print, block: &mut [u8], line: &[u8], kept_line: &[u8]) -> io::Result<()> {
     cases::read_line(block, kept_line, b"");
-    run_with(line, cases::field(block, 1));
+    run_with(rt, line, cases::field(block, 1))
 }
 
-fn run(line: &[u8], kept_line: &[u8]) {
+fn run(rt: &impl Print, line: &[u8], kept_line: &[u8]) -> io::Result<()> {
     let mut block = [0u8; 65536];
-    keep_in(&mut block, line, kept_line);
+    keep_in(rt, &mut block, line, kept_line)
 }
 
-fn heading(line: &[u8]) {
-    report::text(line);
-    report::end_line();
+fn heading(rt: &impl Print, line: &[u8]) -> io::Result<()> {
+    report::text(rt, line)?;
+    report::end_line(rt)
 }
 
-fn run_line(line: &[u8], kept_line: &[u8]) {
+fn run_line(rt: &impl Print, line: &[u8], kept_line: &[u8]) -> io::Result<()> {
     match cases::first(line) {
-        0 => {}
-        b'#' => {}
-        b'-' => heading(line),
-        _ => run(line, kept_line),
+        0 => Ok(()),
+        b'#' => Ok(()),
+        b'-' => heading(rt, line),
+        _ => run(rt, line, kept_line),
     }
 }
 
-fn run_lines(input: &[u8]) {
-    let mut kept = 0;
-    let mut kept_end = 0;
-    let mut i = 0;
-    while i < input.len() {
-        let left = &input[i..];
-        let n = text::index_of(left, b'\n');
-        let line = cases::part(left, 0, n);
+fn run_lines(rt: &impl Print, input: &[u8]) -> io::Result<()> {
+    let mut kept = &input[..0];
+    for line in input.split(|b| *b == b'\n') {
         if cases::first(line) == b'@' {
-            kept = i;
-            kept_end = i + n;
+            kept = line;
         } else {
-            run_line(line, cases::part(input, kept, kept_end));
+            run_line(rt, line, kept)?;
         }
-        i = i + n + 1;
     }
+    Ok(())
 }
 
-fn run_input(input: &mut [u8]) {
-    let n = io::read_full(STDIN_FILENO, input);
-    run_lines(cases::part(input, 0, n));
+// More cases than this holds are to be read in parts.
+const MOST: u64 = 393216;
+
+fn run_input<R: Input + Print + AllocGlobal>(rt: &R) -> io::Result<()> {
+    let mut input = Vec::new(rt.alloc());
+    rt.reader().take(MOST).read_to_end(&mut input)?;
+    run_lines(rt, &input)
 }
 
-// More cases than this holds are to be read in parts: the prover runs out of stack over an array of 1,048,576 bytes.
-fn main() {
-    let mut input = [0u8; 393216];
-    run_input(&mut input);
+fn main(rt: HostRuntime) -> io::Result<()> {
+    run_input(&rt)
 }

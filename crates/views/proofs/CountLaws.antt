@@ -9,7 +9,7 @@ use mathlib.Core.List.{List, [], ◌∷◌}
 use mathlib.Core.Path.{◌≡◌, refl, sym, ap, ap₂, ◌∙◌}
 use lib.Dec.{ltb}
 use borrow.Author.Tests.{ltb-true, ltb-false, lt-ltb, le-ltb}
-use Rattle.text.specs.Basics.{if◌then◌else◌, any, sum_until}
+use Rattle.text.specs.Basics.{when◌then◌else◌, any, sum_until}
 use Rattle.text.proofs.BasicLaws.{or_false as or_none}
 use Rattle.tables.specs.Tried.{capped}
 use Rattle.views.specs.Level.{sum_within}
@@ -28,7 +28,7 @@ pub capped_lt : (n : ℕ) → capped n < 2 ^ 64
 unfolding capped
 capped_lt n = by (ltb n 18446744073709551616) refl
   where
-    by : (b : Bool) → ltb n 18446744073709551616 ≡ b → (if b then n else 18446744073709551615) < 18446744073709551616
+    by : (b : Bool) → ltb n 18446744073709551616 ≡ b → (when b then n else 18446744073709551615) < 18446744073709551616
     by true e = ltb-true n 18446744073709551616 e
     by false e = omega arith
 
@@ -36,7 +36,7 @@ capped_top : (n : ℕ) → 18446744073709551615 ≤ n → capped n ≡ 184467440
 unfolding capped
 capped_top n h = by (ltb n 18446744073709551616) refl
   where
-    by : (b : Bool) → ltb n 18446744073709551616 ≡ b → (if b then n else 18446744073709551615) ≡ 18446744073709551615
+    by : (b : Bool) → ltb n 18446744073709551616 ≡ b → (when b then n else 18446744073709551615) ≡ 18446744073709551615
     by true e = omega (arith, ltb-true n 18446744073709551616 e)
     by false e = refl
 
@@ -79,13 +79,13 @@ sum_same_where p q f g r e k [] h = refl
 sum_same_where p q f g r e k (w ∷ ws) h =
     let n : (r w ≡ false) × (any r ws ≡ false) = or_none (r w) (any r ws) h in
     ap₂ ◌+◌ (k w n.0)
-    (ap₂ (λ (b : Bool) (s : ℕ). if b then 0 else s) (e w n.0) (sum_same_where p q f g r e k ws n.1))
+    (ap₂ (λ (b : Bool) (s : ℕ). when b then 0 else s) (e w n.0) (sum_same_where p q f g r e k ws n.1))
 
 pub sum_same : (p q : List ℕ → Bool) (f g : List ℕ → ℕ) → ((w : List ℕ) → p w ≡ q w) → ((w : List ℕ) → f w ≡ g w) → (ws : List (List ℕ))
     → sum_until p f ws ≡ sum_until q g ws
 unfolding sum_until
 sum_same p q f g e k [] = refl
-sum_same p q f g e k (w ∷ ws) = ap₂ ◌+◌ (k w) (ap₂ (λ (b : Bool) (s : ℕ). if b then 0 else s) (e w) (sum_same p q f g e k ws))
+sum_same p q f g e k (w ∷ ws) = ap₂ ◌+◌ (k w) (ap₂ (λ (b : Bool) (s : ℕ). when b then 0 else s) (e w) (sum_same p q f g e k ws))
 
 pub within_same : (p q : List ℕ → Bool) (f g : List ℕ → ℕ) → ((w : List ℕ) → p w ≡ q w) → ((w : List ℕ) → capped (f w) ≡ capped (g w))
     → (n : ℕ) (ws : List (List ℕ)) → capped (sum_within n p f ws) ≡ capped (sum_within n q g ws)
@@ -93,12 +93,12 @@ unfolding sum_within
 within_same p q f g e k zero ws = refl
 within_same p q f g e k (suc n) [] = refl
 within_same p q f g e k (suc n) (w ∷ ws) =
-    ap (λ (b : Bool). capped (f w + (if b then 0 else sum_within n p f ws))) (e w)
-    ∙ capped_same (f w) (if q w then 0 else sum_within n p f ws) (g w) (if q w then 0 else sum_within n q g ws) (k w)
+    ap (λ (b : Bool). capped (f w + (when b then 0 else sum_within n p f ws))) (e w)
+    ∙ capped_same (f w) (when q w then 0 else sum_within n p f ws) (g w) (when q w then 0 else sum_within n q g ws) (k w)
     (by (q w) (within_same p q f g e k n ws))
   where
     by : (b : Bool) → capped (sum_within n p f ws) ≡ capped (sum_within n q g ws)
-        → capped (if b then 0 else sum_within n p f ws) ≡ capped (if b then 0 else sum_within n q g ws)
+        → capped (when b then 0 else sum_within n p f ws) ≡ capped (when b then 0 else sum_within n q g ws)
     by true h = refl
     by false h = h
 
@@ -113,13 +113,13 @@ unfolding sum_until sum_within
 sum_within_lem own p f [] = sym (within_none 0 p f)
 sum_within_lem own p f (w ∷ ws) = by (own w) (sum_within_lem own p f ws)
   where
-    if_none : (b : Bool) → ◌≡◌ {A = ℕ} 0 (if b then 0 else 0)
+    if_none : (b : Bool) → ◌≡◌ {A = ℕ} 0 (when b then 0 else 0)
     if_none true = refl
     if_none false = refl
 
     by : (b : Bool) → sum_until (λ v. own v || p v) f ws ≡ sum_within (sum_until own (λ v. 1) ws) p f ws
-        → f w + (if (b || p w) then 0 else sum_until (λ v. own v || p v) f ws) ≡ sum_within (1 + (if b then 0 else sum_until own (λ v. 1) ws)) p f (w ∷ ws)
+        → f w + (when (b || p w) then 0 else sum_until (λ v. own v || p v) f ws) ≡ sum_within (1 + (when b then 0 else sum_until own (λ v. 1) ws)) p f (w ∷ ws)
     by true ih = ap (λ (s : ℕ). f w + s) (if_none (p w))
     by false ih =
         let z : suc (sum_until own (λ v. 1) ws) ≡ 1 + sum_until own (λ v. 1) ws = omega arith in
-        ap (λ (s : ℕ). f w + (if p w then 0 else s)) ih ∙ ap (λ (n : ℕ). sum_within n p f (w ∷ ws)) z
+        ap (λ (s : ℕ). f w + (when p w then 0 else s)) ih ∙ ap (λ (n : ℕ). sum_within n p f (w ∷ ws)) z

@@ -12,7 +12,7 @@ use lib.Dec.{eqb, ltb}
 use lib.ListN.{length, drop, get_or, set, replicate, get_or-replicate, length-set, get_or-eq_default}
 use lib.Seq.{get_or-drop, get_or-set_same, get_or-set_other}
 use borrow.Author.Tests.{eqb-true, eqb-false, ltb-true, ltb-false, lt-ltb, le-ltb, eq-eqb, ne_eqb}
-use Rattle.text.specs.Basics.{if◌then◌else◌, ◌>>=◌, holds, any}
+use Rattle.text.specs.Basics.{when◌then◌else◌, ◌>>=◌, holds, any}
 use Rattle.text.specs.Text.{equal_fold}
 use Rattle.tables.specs.Table.{Table, table_name, read_table}
 use Rattle.tables.specs.Code.{table_count, entries, tables_in, followed, entry_span, entry_table, after_entry, place_named, words}
@@ -149,7 +149,7 @@ place_below [] n i e = let z : ◌≡◌ {A = ℕ} 0 1 = cc in absurd (omega ari
 place_below (t ∷ ts) n i e = by (equal_fold n t.name) (place_named ts n) refl (place_below ts n) e
   where
     by : (b : Bool) (o : Option ℕ) → place_named ts n ≡ o → ((k : ℕ) → place_named ts n ≡ some k → k < length ts)
-        → (if b then some 0 else (o >>= λ k. some (suc k))) ≡ some i → i < suc (length ts)
+        → (when b then some 0 else (o >>= λ k. some (suc k))) ≡ some i → i < suc (length ts)
     by true o f ih e = let z : 0 ≡ i = some_same 0 i e in omega arith
     by false none f ih e = absurd (none_some e)
     by false (some k) f ih e = let z : suc k ≡ i = some_same (suc k) i e in omega (arith, ih k f)

@@ -13,7 +13,7 @@ use lib.Dec.{eqb, ltb}
 use lib.ListN.{length, drop, get_or, set, length-set}
 use lib.Seq.{get_or-set_same, get_or-set_other}
 use borrow.Author.Tests.{eqb-true, eqb-false, ltb-true, ltb-false, ne_eqb, lt-ltb}
-use Rattle.text.specs.Basics.{if◌then◌else◌, ◌>>=◌, given, holds, any, sum_until}
+use Rattle.text.specs.Basics.{when◌then◌else◌, ◌>>=◌, given, holds, any, sum_until}
 use Rattle.text.specs.Text.{first_among}
 use Rattle.text.proofs.BasicLaws.{or_false as or_none}
 use Rattle.patterns.specs.Host.{Endpoint}
@@ -158,8 +158,8 @@ module _ (ts : List Table) (h : Endpoint) (d : ℕ) where
   word_matches_lem w = by (first_among "/" w) (given (is_table_name (drop 1 w)) (drop 1 w))
     where
       by : (b : Bool) (o : Option (List ℕ))
-          → holds (λ f. f h) (if b then ((if b then o else none) >>= λ n. some (in_table ts d n)) else host_pattern w)
-          ≡ (not b && matches_pattern (host_pattern w) h || holds (λ n. in_table ts d n h) (if b then o else none))
+          → holds (λ f. f h) (when b then ((when b then o else none) >>= λ n. some (in_table ts d n)) else host_pattern w)
+          ≡ (not b && matches_pattern (host_pattern w) h || holds (λ n. in_table ts d n h) (when b then o else none))
       by true none = refl
       by true (some n) = refl
       by false o = sym (or-false (matches_pattern (host_pattern w) h))
@@ -365,7 +365,7 @@ module _ (ts : List Table) (few : length ts ≤ 64) (h : Endpoint) (k d : ℕ) (
   above_right = by (bit_at i (get_or below 2 0)) refl
     where
       by : (b : Bool) → bit_at i (get_or below 2 0) ≡ b
-          → (if b then text_tried k ts below (get_or first (3 + 64 * k + i) 0) ws else get_or below (3 + 64 * k + i) 0) ≡ capped (tried_at ts h (suc d) i)
+          → (when b then text_tried k ts below (get_or first (3 + 64 * k + i) 0) ws else get_or below (3 + 64 * k + i) 0) ≡ capped (tried_at ts h (suc d) i)
       by true e = noted_sum
       by false e = level.level_tried i l ∙ ap capped (sym (tried_at_stays ts h d (name_stays ts h d) i (sym (deep i l) ∙ e)))
 

@@ -12,7 +12,7 @@ use borrow.Author.Tests.{eqb-true, eqb-false, ltb-true, ltb-false, leb-true, leb
 use lib.Dec.{eqb, ltb, leb}
 use lib.ListN.{length, take, drop, get_or, set, replicate, get_or-replicate, length-replicate, length-set, length-drop, drop_of_length-le}
 use lib.Seq.{take_all, drop-cons, drop-drop, get_or-drop, get_or-set_same, get_or-set_other}
-use Rattle.text.specs.Basics.{if◌then◌else◌, ◌>>=◌}
+use Rattle.text.specs.Basics.{when◌then◌else◌, ◌>>=◌}
 use Rattle.text.specs.Text.{lower, equal, equal_fold}
 use Rattle.text.proofs.BasicLaws.{or_false as or_none}
 use Rattle.text.proofs.ScanLaws.{eq_of_equal, equal_fold_lengths, take_rest}
@@ -133,7 +133,7 @@ module _ (s : List ℕ) (span : EntrySpan) (is-span : span ≡ entry_span s) (wh
           ap (λ (u : List ℕ). take (length (entry_table s).name) u) (sym (drop-drop 1 b t) ∙ ap (drop 1) (sym is-s)) ∙ w.name_is
 
       by : (x : Bool) → eqb (length (entry_table s).name) (length n) ≡ x
-          → (if x then equal_fold n (take (length n) (drop (b + 1) t)) else false) ≡ equal_fold n (entry_table s).name
+          → (when x then equal_fold n (take (length n) (drop (b + 1) t)) else false) ≡ equal_fold n (entry_table s).name
       by true e =
           let q : length n ≡ length (entry_table s).name = sym (eqb-true (length (entry_table s).name) (length n) e) in
           ap (equal_fold n) (ap (λ (k : ℕ). take k (drop (b + 1) t)) q ∙ named)
@@ -311,8 +311,8 @@ module _ (t notes n : List ℕ) (h : NamesNoted t notes) where
           (told (equal_fold n (get_or (tables_in t) i no_table).name))
         where
           told : (b : Bool)
-              → (if b then some i else hashed_from t notes n k (suc i))
-              ≡ shifted i (if b then some 0 else (place_named (drop (suc i) (tables_in t)) n >>= λ m. some (suc m)))
+              → (when b then some i else hashed_from t notes n k (suc i))
+              ≡ shifted i (when b then some 0 else (place_named (drop (suc i) (tables_in t)) n >>= λ m. some (suc m)))
           told true = let z : i ≡ i + 0 = omega arith in ap some z
           told false = ih ∙ shifted_more i (place_named (drop (suc i) (tables_in t)) n)
 
@@ -429,7 +429,7 @@ module _ (t notes n : List ℕ) (sought i : ℕ) (s : Seeking t notes n sought i
       sym (ap place_of e)
 
   module _ (more : i < 64) (x : Bool) (is_x : x ≡ is_named_at t n (get_or notes (195 + i) 0)) where
-    here_left : noted_place t notes n ≡ (if x then some i else hashed_from t notes n (64 - suc i) (suc i))
+    here_left : noted_place t notes n ≡ (when x then some i else hashed_from t notes n (64 - suc i) (suc i))
     unfolding hashed_from
     here_left =
         let z : 64 - i ≡ suc (64 - suc i) = omega arith in

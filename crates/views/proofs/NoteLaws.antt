@@ -9,7 +9,7 @@ use mathlib.Core.Path.{◌≡◌, refl, sym, ap, ap₂, ◌∙◌}
 use lib.Dec.{ltb}
 use lib.ListN.{length, take, drop, get_or, get_or-eq_default}
 use borrow.Author.Tests.{lt-ltb, le-ltb}
-use Rattle.text.specs.Basics.{if◌then◌else◌, given, is_some, is_empty, holds, any}
+use Rattle.text.specs.Basics.{when◌then◌else◌, given, is_some, is_empty, holds, any}
 use Rattle.text.specs.Text.{first_among}
 use Rattle.text.proofs.ScanLaws.{take_rest}
 use Rattle.tables.specs.Table.{Table, is_table_name, table_name}
@@ -83,7 +83,7 @@ pub no_count : (k : ℕ) (o : Option ℕ) → placed_count k [] o ≡ 0
 no_count k none = refl
 no_count k (some i) = let l : length {A = ℕ} [] ≤ 3 + 64 * k + i = omega arith in by (ltb i 64) (get_or [] (3 + 64 * k + i) 0) (get_or-eq_default [] 0 l)
   where
-    by : (b : Bool) (x : ℕ) → x ≡ 0 → (if b then x else 0) ≡ 0
+    by : (b : Bool) (x : ℕ) → x ≡ 0 → (when b then x else 0) ≡ 0
     by true x e = e
     by false x e = refl
 
@@ -110,7 +110,7 @@ module _ (k : ℕ) (t : List ℕ) (notes n : List ℕ) where
     where
       by : (l : List ℕ) → length l ≡ 0
           → reference Naming.Sound false 0
-          ≡ reference (if is_empty l then Naming.Sound else placed_naming l (noted_place t l n)) (holds (marked_at k l) (noted_place t l n))
+          ≡ reference (when is_empty l then Naming.Sound else placed_naming l (noted_place t l n)) (holds (marked_at k l) (noted_place t l n))
           (placed_count k l (noted_place t l n))
       by [] h = ap₂ (reference Naming.Sound) (sym (no_match k (noted_place t [] n))) (sym (no_count k (noted_place t [] n)))
       by (x ∷ l) h = absurd (omega arith)
@@ -137,7 +137,7 @@ pub named_word : (w : List ℕ) (x : Bool) → x ≡ is_some (table_name w) → 
 unfolding table_name
 named_word w x is_x e = rw (take_rest w 1) (by (first_among "/" w) (is_table_name (drop 1 w)) (sym is_x ∙ e))
   where
-    by : (a b : Bool) → is_some (if a then given b (drop 1 w) else none) ≡ true → (if a then given b (drop 1 w) else none) ≡ some (drop 1 w)
+    by : (a b : Bool) → is_some (when a then given b (drop 1 w) else none) ≡ true → (when a then given b (drop 1 w) else none) ≡ some (drop 1 w)
     by true true e = refl
     by true false e = absurd (true≢false (sym e))
     by false b e = absurd (true≢false (sym e))

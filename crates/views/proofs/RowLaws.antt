@@ -11,7 +11,7 @@ use lib.Dec.{eqb, ltb}
 use lib.ListN.{length, take, drop, get_or, set, replicate, length-set}
 use lib.Seq.{get_or-set_same, get_or-set_other}
 use borrow.Author.Tests.{eqb-true, eqb-false, lt-ltb, le-ltb, ne_eqb}
-use Rattle.text.specs.Basics.{if◌then◌else◌, is_some, holds, any, sum_until}
+use Rattle.text.specs.Basics.{when◌then◌else◌, is_some, holds, any, sum_until}
 use Rattle.text.specs.Text.{first_among, is_word}
 use Rattle.patterns.specs.Host.{Endpoint}
 use Rattle.patterns.specs.Pattern.{host_pattern}
@@ -77,7 +77,7 @@ one_word : (p : List ℕ → Bool) (w : List ℕ) → WordCount p (w ∷ []) 1
 unfolding sum_until
 one_word p w = record { count = by (p w); fits = omega arith }
   where
-    by : (b : Bool) → ◌≡◌ {A = ℕ} 1 (1 + (if b then 0 else 0))
+    by : (b : Bool) → ◌≡◌ {A = ℕ} 1 (1 + (when b then 0 else 0))
     by true = refl
     by false = refl
 
@@ -148,19 +148,19 @@ module _ (ts : List Table) (client server : Endpoint) (w : List ℕ) (x : Bool) 
 -- ## A text
 
 module _ (n : ℕ) (ended : Bool) where
-  pub count_ended : ended ≡ true → n ≡ n + (if ended then 0 else 1)
-  count_ended e = let z : n ≡ n + 0 = omega arith in z ∙ sym (ap (λ (b : Bool). n + (if b then 0 else 1)) e)
+  pub count_ended : ended ≡ true → n ≡ n + (when ended then 0 else 1)
+  count_ended e = let z : n ≡ n + 0 = omega arith in z ∙ sym (ap (λ (b : Bool). n + (when b then 0 else 1)) e)
 
-  pub count_more : ended ≡ false → n + 1 ≡ n + (if ended then 0 else 1)
-  count_more e = sym (ap (λ (b : Bool). n + (if b then 0 else 1)) e)
+  pub count_more : ended ≡ false → n + 1 ≡ n + (when ended then 0 else 1)
+  count_more e = sym (ap (λ (b : Bool). n + (when b then 0 else 1)) e)
 
-pub rows_joined : (r s : Row) (c : ℕ) → c ≡ r.client_tried + (if r.client then 0 else 1) → (d : ℕ) → d ≡ r.server_tried + (if r.server then 0 else 1)
+pub rows_joined : (r s : Row) (c : ℕ) → c ≡ r.client_tried + (when r.client then 0 else 1) → (d : ℕ) → d ≡ r.server_tried + (when r.server then 0 else 1)
     → row (bit_or r.names s.names) (r.client || s.client) (r.server || s.server) c d (r.clean && s.clean) ≡ joined_row r s
 rows_joined r s c is_c d is_d = rw (is_c, is_d)
 
 -- the words counted so far, and those of the rest unless the count has ended
 abbrev running : (List ℕ → Bool) → List (List ℕ) → Bool → ℕ → ℕ
-running p ws ended n = n + (if ended then 0 else sum_until p (λ w. 1) ws)
+running p ws ended n = n + (when ended then 0 else sum_until p (λ w. 1) ws)
 
 -- the loop over the words, at rest
 pub record Rowed (ts : List Table) (client server : Endpoint) (t rest : List ℕ) (r : Row) : Type 0 where
@@ -199,17 +199,17 @@ unfolding sum_until
 running_end p true n = omega arith
 running_end p false n = omega arith
 
-running_more : (p : List ℕ → Bool) (w : List ℕ) (ws : List (List ℕ)) (ended b : Bool) (n c : ℕ) → b ≡ any p (w ∷ []) → c ≡ n + (if ended then 0 else 1)
+running_more : (p : List ℕ → Bool) (w : List ℕ) (ws : List (List ℕ)) (ended b : Bool) (n c : ℕ) → b ≡ any p (w ∷ []) → c ≡ n + (when ended then 0 else 1)
     → running p (w ∷ ws) ended n ≡ running p ws (ended || b) c
 unfolding any sum_until
 running_more p w ws true b n c is_b is_c = omega arith
 running_more p w ws false b n c is_b is_c = rw (is_b, or-false (p w), is_c) (by (p w) (sum_until p (λ w. 1) ws))
   where
-    by : (b : Bool) (s : ℕ) → n + (1 + (if b then 0 else s)) ≡ n + 1 + (if b then 0 else s)
+    by : (b : Bool) (s : ℕ) → n + (1 + (when b then 0 else s)) ≡ n + 1 + (when b then 0 else s)
     by true s = omega arith
     by false s = omega arith
 
-room_more : (ended : Bool) (n c rest next t : ℕ) → c ≡ n + (if ended then 0 else 1) → n + rest ≤ t → next < rest → c + next ≤ t
+room_more : (ended : Bool) (n c rest next t : ℕ) → c ≡ n + (when ended then 0 else 1) → n + rest ≤ t → next < rest → c + next ≤ t
 room_more true n c rest next t e h l = omega arith
 room_more false n c rest next t e h l = omega arith
 
@@ -241,8 +241,8 @@ module _ (ts : List Table) (client server : Endpoint) (t rest : List ℕ) (r : R
     pub rowed_server_fits : r.server_tried < 18446744073709551615
     rowed_server_fits = omega (arith, so_far.rowed_server_room, so_far.rowed_short, rest_shorter rest w (after_word rest) is-w full refl (length rest) refl)
 
-    rowed_by : (s : Row) → RowOf ts client server (w ∷ []) s → (c : ℕ) → c ≡ r.client_tried + (if r.client then 0 else 1)
-        → (d : ℕ) → d ≡ r.server_tried + (if r.server then 0 else 1) → (next : List ℕ) → next ≡ after_word rest
+    rowed_by : (s : Row) → RowOf ts client server (w ∷ []) s → (c : ℕ) → c ≡ r.client_tried + (when r.client then 0 else 1)
+        → (d : ℕ) → d ≡ r.server_tried + (when r.server then 0 else 1) → (next : List ℕ) → next ≡ after_word rest
         → Rowed ts client server t next (row (bit_or r.names s.names) (r.client || s.client) (r.server || s.server) c d (r.clean && s.clean))
     unfolding Marks words_name CleanWords
     rowed_by s is-s c is_c d is_d next is-next =
@@ -269,7 +269,7 @@ module _ (ts : List Table) (client server : Endpoint) (t rest : List ℕ) (r : R
         → Rowed ts client server t next j
     rowed_more s is-s j is-j next is-next =
         subst (λ (x : Row). Rowed ts client server t next x) (sym is-j)
-        (rowed_by s is-s (r.client_tried + (if r.client then 0 else 1)) refl (r.server_tried + (if r.server then 0 else 1)) refl next is-next)
+        (rowed_by s is-s (r.client_tried + (when r.client then 0 else 1)) refl (r.server_tried + (when r.server then 0 else 1)) refl next is-next)
 
 -- ## All texts
 

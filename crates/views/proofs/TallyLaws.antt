@@ -12,7 +12,7 @@ use lib.Dec.{eqb}
 use lib.ListN.{length, take, drop, get_or, set, replicate, length-set}
 use lib.Seq.{get_or-set_same, get_or-set_other}
 use borrow.Author.Tests.{eqb-true, eqb-false, eq-eqb, ne_eqb}
-use Rattle.text.specs.Basics.{if◌then◌else◌, ◌>>=◌, is_some, holds}
+use Rattle.text.specs.Basics.{when◌then◌else◌, ◌>>=◌, is_some, holds}
 use Rattle.text.proofs.BasicLaws.{and_true as and_both}
 use Rattle.tables.specs.Table.{Table, table_name}
 use Rattle.tables.specs.Tried.{capped}
@@ -123,8 +123,8 @@ module _ (k : ℕ) (ts : List Table) (notes : List ℕ) (n : ℕ) (text : List �
         left_over : ℕ → ℕ
         left_over m = sum_within m (ends k ts notes) (tries k ts notes) (words next)
 
-        on : (m : ℕ) (b : Bool) (c : ℕ) → text_tried k ts notes n (words text) ≡ capped (t.tried + ((1 + c) + (if b then 0 else left_over m)))
-            → text_tried k ts notes n (words text) ≡ capped (capped (t.tried + capped (1 + c)) + left_over (if b then 0 else m))
+        on : (m : ℕ) (b : Bool) (c : ℕ) → text_tried k ts notes n (words text) ≡ capped (t.tried + ((1 + c) + (when b then 0 else left_over m)))
+            → text_tried k ts notes n (words text) ≡ capped (capped (t.tried + capped (1 + c)) + left_over (when b then 0 else m))
         on m true c e = e ∙ sym (capped_then t.tried (1 + c) 0)
         on m false c e = e ∙ sym (capped_then t.tried (1 + c) (left_over m))
 
@@ -138,7 +138,7 @@ module _ (k : ℕ) (ts : List Table) (notes : List ℕ) (n : ℕ) (text : List �
         by (suc m) e =
             let f : t.left ≡ 0 → ⊥ = λ z. omega arith in
             let y : t.left - 1 ≡ m = omega arith in
-            let q : r ≡ tally (if ends k ts notes w then 0 else m) (capped (t.tried + capped (1 + placed_count k notes (word_place ts w)))) =
+            let q : r ≡ tally (when ends k ts notes w then 0 else m) (capped (t.tried + capped (1 + placed_count k notes (word_place ts w)))) =
             told ∙ rw (ne_eqb t.left 0 f, y) in
             record {
               fits = rw q (capped_lt (t.tried + capped (1 + placed_count k notes (word_place ts w))));

@@ -13,7 +13,7 @@ use mathlib.Core.List.{List, [], ◌∷◌}
 use mathlib.Core.Option.{Option, none, some}
 use mathlib.Core.Path.{◌≡◌, refl, sym, ap, ◌∙◌}
 use lib.ListN.{length}
-use Rattle.text.specs.Basics.{if◌then◌else◌, ◌or_else◌, given, is_some, holds, any}
+use Rattle.text.specs.Basics.{when◌then◌else◌, ◌or_else◌, given, is_some, holds, any}
 use Rattle.text.proofs.BasicLaws.{or_false as or_none}
 use Rattle.patterns.specs.Host.{Endpoint}
 use Rattle.tables.specs.Table.{Table, table_name, is_missing, patterns, match_of, leads_past, first_table, is_misnamed, table_name_fault}
@@ -124,26 +124,26 @@ module _ (ts : List Table) (sound : Closed ts) where
 
     -- what the notes say of a name, where they find its place
     pub naming_right : (t : List ℕ) (n : List ℕ) → noted_place t notes n ≡ place_named ts n → (length notes ≡ 0 → ⊥)
-        → naming_of t notes n ≡ (if is_missing ts n then Naming.Missing else if leads_past ts 4 n then Naming.Deep else Naming.Sound)
+        → naming_of t notes n ≡ (when is_missing ts n then Naming.Missing else when leads_past ts 4 n then Naming.Deep else Naming.Sound)
     unfolding naming_of
     naming_right t n is-place full = rw (full_notes notes full, missing_place ts n, is-place) (by (place_named ts n) refl)
       where
         by : (o : Option ℕ) → place_named ts n ≡ o
-            → placed_naming notes o ≡ (if not (is_some o) then Naming.Missing else if leads_past ts 4 n then Naming.Deep else Naming.Sound)
+            → placed_naming notes o ≡ (when not (is_some o) then Naming.Missing else when leads_past ts 4 n then Naming.Deep else Naming.Sound)
         by none e = refl
-        by (some i) e = ap (λ (b : Bool). if b then Naming.Deep else Naming.Sound) (deep_right n i e)
+        by (some i) e = ap (λ (b : Bool). when b then Naming.Deep else Naming.Sound) (deep_right n i e)
 
 -- ## Where depth is not judged, and where nothing is
 
 module _ (t : List ℕ) (n : List ℕ) where
   -- notes of two words tell a missing name and no more
-  pub names_only : naming_of t (0 ∷ 0 ∷ []) n ≡ (if is_missing (tables_in t) n then Naming.Missing else Naming.Sound)
+  pub names_only : naming_of t (0 ∷ 0 ∷ []) n ≡ (when is_missing (tables_in t) n then Naming.Missing else Naming.Sound)
   unfolding naming_of
   names_only = rw (missing_place (tables_in t) n, other_place t (0 ∷ 0 ∷ []) n (λ e. omega arith)) (by (place_named (tables_in t) n))
     where
-      by : (o : Option ℕ) → placed_naming (0 ∷ 0 ∷ []) o ≡ (if not (is_some o) then Naming.Missing else Naming.Sound)
+      by : (o : Option ℕ) → placed_naming (0 ∷ 0 ∷ []) o ≡ (when not (is_some o) then Naming.Missing else Naming.Sound)
       by none = refl
-      by (some i) = ap (λ (b : Bool). if b then Naming.Deep else Naming.Sound) (sym (deep_outside (0 ∷ 0 ∷ []) i (i / 64 + 2) refl (omega arith)))
+      by (some i) = ap (λ (b : Bool). when b then Naming.Deep else Naming.Sound) (sym (deep_outside (0 ∷ 0 ∷ []) i (i / 64 + 2) refl (omega arith)))
 
   -- no notes say that a table may be named and matches nothing
   pub unjudged : naming_of t [] n ≡ Naming.Sound

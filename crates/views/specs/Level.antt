@@ -6,7 +6,7 @@
 -- Assumes nothing: these are definitions.
 use Rattle.std.specs.Prelude.{ℕ, zero, suc, ◌+◌, ◌-◌, ◌*◌, ◌<◌, Bool, true, false, List, [], ◌∷◌, ◌≡◌, length, get_or, eqb}
 use Rattle.std.proofs.Math.Option.{Option}
-use Rattle.text.specs.Basics.{if◌then◌else◌, ◌>>=◌, holds, any, sum_until}
+use Rattle.text.specs.Basics.{when◌then◌else◌, ◌>>=◌, holds, any, sum_until}
 use Rattle.patterns.specs.Host.{Endpoint}
 use Rattle.tables.specs.Table.{Table, table_name, pattern_with, in_table}
 use Rattle.tables.specs.Tried.{looked_with, tried_in, capped}
@@ -79,7 +79,7 @@ word_place ts w = table_name w >>= place_named ts
 unfoldable pub sum_within : ℕ → (List ℕ → Bool) → (List ℕ → ℕ) → List (List ℕ) → ℕ
 sum_within zero p f ws = 0
 sum_within (suc k) p f [] = 0
-sum_within (suc k) p f (w ∷ ws) = f w + (if p w then 0 else sum_within k p f ws)
+sum_within (suc k) p f (w ∷ ws) = f w + (when p w then 0 else sum_within k p f ws)
 
 -- what notes say of the table at a place
 abbrev pub marked_by : ℕ → List ℕ → Place → Bool
@@ -98,12 +98,12 @@ text_tried k ts notes n ws =
 -- a tally after a word that names a table, or none, of which m says whether it matches and c what is tried in it
 unfoldable pub tallied : Bool → ℕ → Tally → Tally
 tallied m c t =
-    if eqb t.left 0 then t else record { left = if m then 0 else t.left - 1; tried = capped (t.tried + capped (1 + c)) }
+    when eqb t.left 0 then t else record { left = when m then 0 else t.left - 1; tried = capped (t.tried + capped (1 + c)) }
 
 -- what is tried in the table at the place i, one deeper than the notes below tell: where it does not lead on, what they tell
 abbrev pub tried_above : ℕ → List Table → List ℕ → List ℕ → ℕ → List ℕ → ℕ
 tried_above k ts first below i text =
-    if bit_at i (get_or below 2 0) then text_tried k ts below (get_or first (3 + 64 * k + i) 0) (words text) else get_or below (3 + 64 * k + i) 0
+    when bit_at i (get_or below 2 0) then text_tried k ts below (get_or first (3 + 64 * k + i) 0) (words text) else get_or below (3 + 64 * k + i) 0
 
 unfoldable pub AllAbove : List Table → List ℕ → List ℕ → List ℕ → Type 0
 AllAbove ts first below r = (k i : ℕ) → k < 2 → i < length ts → get_or r (3 + 64 * k + i) 0 ≡ tried_above k ts first below i (table_at ts i).text

@@ -6,7 +6,7 @@
 -- Assumes nothing: these are definitions.
 use Rattle.std.specs.Prelude.{ℕ, zero, suc, ◌+◌, ◌*◌, ◌%◌, ◌≤◌, ◌<◌, Bool, true, false, ◌&&◌, ◌||◌, List, [], ◌∷◌, ◌≡◌, length, take, drop, get_or, eqb, leb}
 use Rattle.std.proofs.Math.Option.{Option, none, some}
-use Rattle.text.specs.Basics.{if◌then◌else◌}
+use Rattle.text.specs.Basics.{when◌then◌else◌}
 use Rattle.text.specs.Text.{lower, equal_fold}
 use Rattle.tables.specs.Table.{Table, table}
 use Rattle.tables.specs.Code.{tables_in, place_named}
@@ -22,8 +22,8 @@ hash_of n = hash_from 0 n
 -- the table that stands at the byte b of t has the name n; at 0 there is none
 unfoldable pub is_named_at : List ℕ → List ℕ → ℕ → Bool
 is_named_at t n b =
-    if eqb b 0 || leb (length t) b then false else
-    if eqb (get_or t b 0) (length n) then equal_fold n (take (length n) (drop (b + 1) t)) else false
+    when eqb b 0 || leb (length t) b then false else
+    when eqb (get_or t b 0) (length n) then equal_fold n (take (length n) (drop (b + 1) t)) else false
 
 -- the name of the table at the place i is n, as the notes tell
 abbrev pub is_hit : List ℕ → List ℕ → List ℕ → ℕ → Bool
@@ -32,10 +32,10 @@ is_hit t notes n i = eqb (get_or notes (131 + i) 0) (hash_of n) && is_named_at t
 -- the first such place of k from i on
 unfoldable pub hashed_from : List ℕ → List ℕ → List ℕ → ℕ → ℕ → Option ℕ
 hashed_from t notes n zero i = none
-hashed_from t notes n (suc k) i = if is_hit t notes n i then some i else hashed_from t notes n k (suc i)
+hashed_from t notes n (suc k) i = when is_hit t notes n i then some i else hashed_from t notes n k (suc i)
 
 unfoldable pub noted_place : List ℕ → List ℕ → List ℕ → Option ℕ
-noted_place t notes n = if eqb (length notes) 259 then hashed_from t notes n 64 0 else place_named (tables_in t) n
+noted_place t notes n = when eqb (length notes) 259 then hashed_from t notes n 64 0 else place_named (tables_in t) n
 
 -- one of four places from i on has the number h
 abbrev pub near_by : List ℕ → ℕ → ℕ → Bool

@@ -11,7 +11,7 @@
 use Rattle.std.specs.Prelude.{ℕ, zero, suc, ◌+◌, ◌*◌, ◌/◌, ◌%◌, ◌^◌, ◌<◌, Bool, true, false, not, ◌&&◌, ◌||◌, List, [], ◌≡◌, length, get_or, eqb, ltb}
 use Rattle.std.proofs.Math.Option.{Option, none, some}
 use Rattle.std.specs.Int.Bits.{bit_or}
-use Rattle.text.specs.Basics.{if◌then◌else◌, holds, is_empty, any, sum_until}
+use Rattle.text.specs.Basics.{when◌then◌else◌, holds, is_empty, any, sum_until}
 use Rattle.text.specs.Text.{first_among}
 use Rattle.patterns.specs.Host.{Endpoint}
 use Rattle.patterns.specs.Code.{host_matches}
@@ -86,8 +86,8 @@ joined_row r s = record {
   names = bit_or r.names s.names;
   client = r.client || s.client;
   server = r.server || s.server;
-  client_tried = r.client_tried + (if r.client then 0 else 1);
-  server_tried = r.server_tried + (if r.server then 0 else 1);
+  client_tried = r.client_tried + (when r.client then 0 else 1);
+  server_tried = r.server_tried + (when r.server then 0 else 1);
   clean = r.clean && s.clean;
 }
 
@@ -128,7 +128,7 @@ marked_at k notes i = ltb i 64 && bit_at i (get_or notes k 0)
 
 -- how many patterns the notes say are tried in the table at the place i
 abbrev pub counted_at : ℕ → List ℕ → ℕ → ℕ
-counted_at k notes i = if ltb i 64 then get_or notes (3 + 64 * k + i) 0 else 0
+counted_at k notes i = when ltb i 64 then get_or notes (3 + 64 * k + i) 0 else 0
 
 abbrev pub placed_count : ℕ → List ℕ → Option ℕ → ℕ
 placed_count k notes none = 0
@@ -150,14 +150,14 @@ Deep ts d notes = (i : ℕ) → i < length ts → is_deep notes i ≡ past_at ts
 
 -- what the notes say of the table at the place i
 abbrev pub naming_at : List ℕ → ℕ → Naming
-naming_at notes i = if is_deep notes i then Naming.Deep else Naming.Sound
+naming_at notes i = when is_deep notes i then Naming.Deep else Naming.Sound
 
 abbrev pub placed_naming : List ℕ → Option ℕ → Naming
 placed_naming notes none = Naming.Missing
 placed_naming notes (some i) = naming_at notes i
 
 unfoldable pub naming_of : List ℕ → List ℕ → List ℕ → Naming
-naming_of t notes n = if is_empty notes then Naming.Sound else placed_naming notes (noted_place t notes n)
+naming_of t notes n = when is_empty notes then Naming.Sound else placed_naming notes (noted_place t notes n)
 
 -- what the notes say of a named table: whether it matches
 unfoldable pub noted_match : ℕ → List ℕ → List ℕ → List ℕ → Bool

@@ -9,7 +9,7 @@
 ghost use Rattle.std.specs.Prelude.{◌≡◌, ◌&&◌, ◌||◌, [], ◌∷◌, ◌+◌, ◌≤◌, ◌<◌, eqb, length, get_or};
 ghost use Rattle.patterns.specs.Host.{endpoint};
 ghost use Rattle.tables.specs.Code.{tables_in, words};
-ghost use Rattle.text.specs.Basics.{if◌then◌else◌};
+ghost use Rattle.text.specs.Basics.{when◌then◌else◌};
 ghost use Rattle.views.specs.View.{bit_at, any_below, Marks, is_named, word_names, RowOf, RowsOf, joined_row};
 ghost use Rattle.views.specs.View.{is_deep, name_leads, word_leads, text_leads, Above, Deep};
 ghost use Rattle.views.specs.Names.{NamesNoted};
@@ -159,7 +159,7 @@ fn word_row(
 // A count, one more unless it has ended.
 fn count_on(count: u64, ended: bool) -> u64
     requires { count < 18446744073709551615 }
-    ensures { result ≡ count + (if ended then 0 else 1) }
+    ensures { result ≡ count + (when ended then 0 else 1) }
 {
     if ended {
         return count;
