@@ -150,7 +150,6 @@ COMPLAINTS = [
     "small/no_program: what it changes is no program",
     "small/proof_changed: proof_changed: it changes a proof",
     "small: small::is_end has one wrong program",
-    "small: small::raise_twice has one wrong program",
 ]
 
 
