@@ -14,12 +14,32 @@ from edits import Complaint, source_files
 
 TOP = rattle.TOP = pathlib.Path.cwd()
 TARGET = pathlib.Path('target/must-fail')
+# logs by the sum of all that the prover read, for another checkout on this machine, as rt keeps what `rt ci` proved
+KEPT = pathlib.Path(os.environ.get('XDG_CACHE_HOME') or pathlib.Path.home() / '.cache') / 'wrong-programs'
 
 
 def write(top, texts):
     for path, text in texts.items():
         (top / path).parent.mkdir(parents=True, exist_ok=True)
         (top / path).write_text(text, encoding='utf-8')
+
+
+def read(path):
+    try:
+        return path.read_text(encoding='utf-8')
+    except OSError:
+        return ''
+
+
+def keep(path, text):
+    """Writes a file whole or not at all; where it can't be written, nothing is kept."""
+    try:
+        path.parent.mkdir(parents=True, exist_ok=True)
+        part = path.with_name('%s.%d' % (path.name, threading.get_ident()))
+        part.write_text(text, encoding='utf-8')
+        part.replace(path)
+    except OSError:
+        pass
 
 
 def linked(one, other):
@@ -35,7 +55,8 @@ def linked_modules(one, other):
 
 
 class Tries:
-    """What the prover says of crates as they would stand. Each log stays in target/must-fail/, and is read again where nothing has changed."""
+    """What the prover says of crates as they would stand. Each log stays in target/must-fail/ and in the user's cache, and is read again where
+    nothing that the prover reads has changed."""
 
     def __init__(self):
         self.lock, self.locks, self.seeds, self.sums = threading.Lock(), {}, {}, {}
@@ -62,14 +83,14 @@ class Tries:
             return self.locks.setdefault(key, threading.Lock())
 
     def sum_below(self, name):
-        """A sum of the prover and of the proved libraries below."""
+        """A sum of the prover and of the crates below, whose libraries are proved."""
         with self.lock_of(('below', name)):
             if name not in self.sums:
                 lacking = [below for below in rattle.below(name) if not (rattle.rlib(below, TOP) / 'format').is_file()]
                 if lacking:
                     raise Complaint('there is no proved library of %s: run rt ci, or rt check in the folder of a crate above it' % ' '.join(lacking))
-                formats = [(below, (rattle.rlib(below, TOP) / 'format').read_text()) for below in rattle.below(name)]
-                self.sums[name] = hashlib.sha256(repr((self.kit, formats)).encode()).hexdigest()
+                texts = [(below, rattle.listed()[below], sorted(source_files(below).items())) for below in rattle.below(name)]
+                self.sums[name] = hashlib.sha256(repr((self.kit, rattle.listed()[name], texts)).encode()).hexdigest()
         return self.sums[name]
 
     def check(self, name, folder):
@@ -125,18 +146,26 @@ class Tries:
         """What the prover says of the crate with these files, under this label."""
         where = TARGET / name / label
         tried = hashlib.sha256(repr((self.sum_below(name), sorted(files.items()))).encode()).hexdigest()
-        try:
-            before, _, log = where.read_text(encoding='utf-8').partition('\n')
-        except OSError:
-            before = None
-        if before != tried:
-            room = self.new_room()
-            write(room, files)
-            shutil.copytree(self.seed_of(name), room / 'out', symlinks=True, copy_function=linked_modules)
-            status, log = self.check(name, room)
-            shutil.rmtree(room, ignore_errors=True)
-            if status not in (0, 1):
-                raise Complaint('the prover gave no verdict (status %d): %s' % (status, log[-300:]))
-            where.parent.mkdir(parents=True, exist_ok=True)
-            where.write_text(tried + '\n' + log, encoding='utf-8')
+        kept = KEPT / tried
+        for place in (where, kept):
+            before, _, log = read(place).partition('\n')
+            if before == tried:
+                break
+        else:
+            log = self.checked(name, files)
+            if not [*TOP.glob('crates/*/out/rlib/stamp')]:  # libraries that rt ci left
+                keep(kept, tried + '\n' + log)
+        where.parent.mkdir(parents=True, exist_ok=True)
+        where.write_text(tried + '\n' + log, encoding='utf-8')
+        return log
+
+    def checked(self, name, files):
+        """What the prover says now."""
+        room = self.new_room()
+        write(room, files)
+        shutil.copytree(self.seed_of(name), room / 'out', symlinks=True, copy_function=linked_modules)
+        status, log = self.check(name, room)
+        shutil.rmtree(room, ignore_errors=True)
+        if status not in (0, 1):
+            raise Complaint('the prover gave no verdict (status %d): %s' % (status, log[-300:]))
         return log
