@@ -1,10 +1,10 @@
 -- Reading addresses does not see the case of letters.
 -- Assumes nothing.
+use Rattle.std.specs.Prelude.{None, Option, Some}
 use Prim.Native.Nat.{ℕ, ◌-◌}
 use Prim.Native.Char.{code}
 use mathlib.Core.Bool.{Bool, true, false, ◌&&◌, ◌||◌, true≢false}
 use mathlib.Core.List.{List, [], ◌∷◌, ◌++◌, map}
-use mathlib.Core.Option.{Option, none, some}
 use mathlib.Core.Path.{◌≡◌, refl, sym, ap, ap₂, ◌∙◌}
 use native.Mathlib.Omega.{arith}
 use borrow.Author.Tests.{eqb-true}
@@ -109,7 +109,7 @@ alike_read_v6 xs ys a =
     )
   where
     double : (o u : Option (List ℕ × List ℕ)) → AlikePair o u → (o >>= read_compressed) ≡ (u >>= read_compressed)
-    double none none h = refl
-    double none (some q) h = absurd h
-    double (some p) none h = absurd h
-    double (some p) (some q) h = alike_read_compressed p q h.0 h.1
+    double None None h = refl
+    double None (Some q) h = absurd h
+    double (Some p) None h = absurd h
+    double (Some p) (Some q) h = alike_read_compressed p q h.0 h.1

@@ -1,12 +1,12 @@
 -- Fields read byte by byte are the fields that the definitions read; what a pass over them tells.
 -- Assumes nothing.
+use Rattle.std.specs.Prelude.{None, Option, Some}
 use Prim.Native.Nat.{ℕ, zero, suc, ◌+◌, ◌-◌, ◌*◌, ◌^◌, ◌<◌, ◌≤◌}
 use native.Mathlib.Nat.{pow-suc, pow-le-pow_right}
 use native.Mathlib.Numerals.{add-one}
 use native.Mathlib.Omega.{arith}
 use mathlib.Core.Bool.{Bool, true, false, not, ◌&&◌, true≢false}
 use mathlib.Core.List.{List, [], ◌∷◌, map}
-use mathlib.Core.Option.{Option, none, some}
 use mathlib.Core.Path.{◌≡◌, refl, sym, ap, subst, ◌∙◌}
 use borrow.Author.Tests.{eqb-true, eqb-false, eq-eqb, ne_eqb, le-leb, lt-leb, leb-true, leb-false, ltb-false, ltb-true}
 use lib.Dec.{leb, ltb, eqb}
@@ -16,8 +16,6 @@ use Rattle.text.specs.Basics.{when◌then◌else◌, ◌>>=◌, given, all, any,
 use Rattle.text.specs.Text.{among, equal, split, cons_head, is_digit}
 use Rattle.text.specs.Number.{from_digits, digit_value, numeral, read_decimal}
 use Rattle.text.specs.Scan.{as_number}
-use Rattle.text.specs.declared.NumberRead.{NumberRead}
-use Rattle.text.specs.declared.NumberRead.TheVariants as N
 use Rattle.text.proofs.BasicLaws.{and_true}
 use Rattle.text.proofs.Canonical.{Canonical, value, from_digits_le, read_decimal_some, read_decimal_over, read_decimal_not, digit_value_digit, digit_low, digit_high}
 use Rattle.address.specs.Address.{read_v4}
@@ -51,7 +49,7 @@ started v (b ∷ t) p h = by (is_digit b) (leb (field_more v b) 255) refl refl (
         let l : 255 < rest (field_more v b) t = omega (arith, leb-false (field_more v b) 255 f) in
         simp (e, f, lt-leb (rest (field_more v b) t) 255 l) (dead (all is_digit t) (not (eqb v 0)) (rest (field_more v b) t))
       where
-        dead : (x y : Bool) (n : ℕ) → (when y && false then digits_from (field_more v b) true t else none) ≡ given (x && false) n
+        dead : (x y : Bool) (n : ℕ) → (when y && false then digits_from (field_more v b) true t else None) ≡ given (x && false) n
         dead true true n = refl
         dead true false n = refl
         dead false true n = refl
@@ -63,7 +61,7 @@ zero_read [] = refl
 zero_read (c ∷ t) =
     read_decimal_not 255 (48 ∷ c ∷ t) (omega arith) (λ k. k.lead (omega arith) refl) ∙ sym (by (is_digit c) (leb (field_more 0 c) 255))
   where
-    by : (x y : Bool) → (when x && (not (true && true) && y) then digits_from (field_more 0 c) true t else none) ≡ none
+    by : (x y : Bool) → (when x && (not (true && true) && y) then digits_from (field_more 0 c) true t else None) ≡ None
     by true y = refl
     by false y = refl
 
@@ -80,7 +78,7 @@ digit_read b t e n =
     by true true f g =
         let c : Canonical (b ∷ t) = record { some = omega arith; digits = rw (e, f); lead = λ l z. n z } in
         let h : value (b ∷ t) ≤ 255 = omega (arith, is_value, leb-true (rest (field_more 0 b) t) 255 g) in
-        sym (read_decimal_some 255 (b ∷ t) c h (omega arith) ∙ ap some is_value)
+        sym (read_decimal_some 255 (b ∷ t) c h (omega arith) ∙ ap Some is_value)
     by true false f g = sym (read_decimal_over 255 (b ∷ t) (omega (arith, is_value, leb-false (rest (field_more 0 b) t) 255 g)))
     by false y f g = sym (read_decimal_not 255 (b ∷ t) (omega arith) (λ c. clash (sym (and_true (is_digit b) (all is_digit t) c.digits).1 ∙ f)))
 
@@ -101,8 +99,8 @@ field_read (b ∷ t) = by (is_digit b) (eqb b 48) refl refl
 
 -- the parts ws, of the first of which digits that write v were read before
 abbrev pub each_from : ℕ → Bool → List (List ℕ) → Option (List ℕ)
-each_from v d [] = none
-each_from v d (w ∷ ws) = digits_from v d w >>= λ y. each (read_decimal 255) ws >>= λ ys. some (y ∷ ys)
+each_from v d [] = None
+each_from v d (w ∷ ws) = digits_from v d w >>= λ y. each (read_decimal 255) ws >>= λ ys. Some (y ∷ ys)
 
 each_from_lem : (w : List ℕ) (ws : List (List ℕ)) → each (read_decimal 255) (w ∷ ws) ≡ each_from 0 false (w ∷ ws)
 unfolding each
@@ -124,12 +122,12 @@ each_split t = let q = split_cons t in rw q.2 (sym (each_from_lem q.0 q.1))
 module _ (v : ℕ) (d : Bool) where
   -- one part, and what follows a dot
   pub dot_after : (o p : Option (List ℕ)) → o ≡ p → (x : Bool)
-      → (when x then (o >>= λ fs. some (v ∷ fs)) else none) ≡ (given x v >>= λ y. p >>= λ ys. some (y ∷ ys))
+      → (when x then (o >>= λ fs. Some (v ∷ fs)) else None) ≡ (given x v >>= λ y. p >>= λ ys. Some (y ∷ ys))
   dot_after o p e true = rw e
   dot_after o p e false = refl
 
   pub digit_after : (o : Option (List ℕ)) (w : List ℕ) (ws : List (List ℕ)) → o ≡ each_from v d (w ∷ ws) → (x : Bool)
-      → (when x then o else none) ≡ ((when x then digits_from v d w else none) >>= λ y. each (read_decimal 255) ws >>= λ ys. some (y ∷ ys))
+      → (when x then o else None) ≡ ((when x then digits_from v d w else None) >>= λ y. each (read_decimal 255) ws >>= λ ys. Some (y ∷ ys))
   digit_after o w ws e true = e
   digit_after o w ws e false = refl
 
@@ -155,40 +153,40 @@ fields_run t = sym (run_fields_lem 0 false t ∙ each_split t)
 -- ## One byte, by the state of the pass
 
 -- a field more
-address_cons : (k n v : ℕ) (o : Option (List ℕ)) → ((o >>= λ fs. some (v ∷ fs)) >>= λ fs. given (eqb (k + length fs) 4) (from_digits 256 n fs))
+address_cons : (k n v : ℕ) (o : Option (List ℕ)) → ((o >>= λ fs. Some (v ∷ fs)) >>= λ fs. given (eqb (k + length fs) 4) (from_digits 256 n fs))
     ≡ (o >>= λ fs. given (eqb (k + 1 + length fs) 4) (from_digits 256 (n * 256 + v) fs))
 unfolding from_digits
-address_cons k n v none = refl
-address_cons k n v (some fs) =
+address_cons k n v None = refl
+address_cons k n v (Some fs) =
     let e : k + suc (length fs) ≡ k + 1 + length fs = omega arith in
     ap (λ (j : ℕ). given (eqb j 4) (from_digits 256 (n * 256 + v) fs)) e
 
 -- a text has at least one field
-pub each_pos : (v : ℕ) (d : Bool) (l : List (List ℕ)) (fs : List ℕ) → each_from v d l ≡ some fs → 0 < length fs
+pub each_pos : (v : ℕ) (d : Bool) (l : List (List ℕ)) (fs : List ℕ) → each_from v d l ≡ Some fs → 0 < length fs
 each_pos v d [] fs e = let z : ◌≡◌ {A = ℕ} 0 1 = cc in absurd (omega arith)
 each_pos v d (w ∷ ws) fs e = by (digits_from v d w) (each (read_decimal 255) ws) fs e
   where
-    by : (o : Option ℕ) (r : Option (List ℕ)) (fs : List ℕ) → (o >>= λ y. r >>= λ ys. some (y ∷ ys)) ≡ some fs → 0 < length fs
-    by none r fs e = let z : ◌≡◌ {A = ℕ} 0 1 = cc in absurd (omega arith)
-    by (some y) none fs e = let z : ◌≡◌ {A = ℕ} 0 1 = cc in absurd (omega arith)
-    by (some y) (some ys) [] e = let z : ◌≡◌ {A = ℕ} 0 1 = cc in absurd (omega arith)
-    by (some y) (some ys) (v ∷ fs) e = omega arith
+    by : (o : Option ℕ) (r : Option (List ℕ)) (fs : List ℕ) → (o >>= λ y. r >>= λ ys. Some (y ∷ ys)) ≡ Some fs → 0 < length fs
+    by None r fs e = let z : ◌≡◌ {A = ℕ} 0 1 = cc in absurd (omega arith)
+    by (Some y) None fs e = let z : ◌≡◌ {A = ℕ} 0 1 = cc in absurd (omega arith)
+    by (Some y) (Some ys) [] e = let z : ◌≡◌ {A = ℕ} 0 1 = cc in absurd (omega arith)
+    by (Some y) (Some ys) (v ∷ fs) e = omega arith
 
 -- no field more after three that a dot ended
 address_full : (k n v : ℕ) (t : List ℕ) → 3 ≤ k
-    → ((run_fields 0 false t >>= λ fs. some (v ∷ fs)) >>= λ fs. given (eqb (k + length fs) 4) (from_digits 256 n fs)) ≡ none
+    → ((run_fields 0 false t >>= λ fs. Some (v ∷ fs)) >>= λ fs. given (eqb (k + length fs) 4) (from_digits 256 n fs)) ≡ None
 address_full k n v t h = by (run_fields 0 false t) refl
   where
-    by : (o : Option (List ℕ)) → run_fields 0 false t ≡ o → ((o >>= λ fs. some (v ∷ fs)) >>= λ fs. given (eqb (k + length fs) 4) (from_digits 256 n fs)) ≡ none
-    by none e = refl
-    by (some fs) e =
+    by : (o : Option (List ℕ)) → run_fields 0 false t ≡ o → ((o >>= λ fs. Some (v ∷ fs)) >>= λ fs. given (eqb (k + length fs) 4) (from_digits 256 n fs)) ≡ None
+    by None e = refl
+    by (Some fs) e =
         let p : 0 < length fs = each_pos 0 false (split "." t) fs (sym (run_fields_lem 0 false t) ∙ e) in
         rw (ne_eqb (k + suc (length fs)) 4 (λ z. omega arith))
 
 module _ (n k v : ℕ) (d : Bool) (b : ℕ) (t : List ℕ) where
   abbrev AddressSteps : Step → Type 0
-  AddressSteps S.Nothing = address_from n k v d (b ∷ t) ≡ none
-  AddressSteps S.Stop = address_from n k v d (b ∷ t) ≡ none
+  AddressSteps S.Nothing = address_from n k v d (b ∷ t) ≡ None
+  AddressSteps S.Stop = address_from n k v d (b ∷ t) ≡ None
   AddressSteps (S.Go m j u x) = address_from n k v d (b ∷ t) ≡ address_from m j u x t
 
   dead : (g : Bool) → eqb b 46 ≡ false → field_fits v d b ≡ false → AddressSteps (when g then S.Nothing else S.Stop)
@@ -207,7 +205,7 @@ module _ (n k v : ℕ) (d : Bool) (b : ℕ) (t : List ℕ) where
       by false x l true e1 e2 e3 e4 = simp (e1, e4)
       by false x l false e1 e2 e3 e4 = simp (e1, e4) (dead (is_digit b) e1 e4)
 
-  pub address_stops : step_of n k v d b ≡ S.Stop → address_from n k v d (b ∷ t) ≡ none
+  pub address_stops : step_of n k v d b ≡ S.Stop → address_from n k v d (b ∷ t) ≡ None
   address_stops q = subst AddressSteps q address_step
 
 pub address_end_lem : (n k v : ℕ) (d : Bool) → address_from n k v d [] ≡ ended_address n k v d
@@ -225,8 +223,8 @@ address_start t = rw (fields_run t) (by (run_fields 0 false t))
   where
     by : (o : Option (List ℕ))
         → (o >>= λ fs. given (eqb (length fs) 4) (from_digits 256 0 fs)) ≡ (o >>= λ fs. given (eqb (0 + length fs) 4) (from_digits 256 0 fs))
-    by none = refl
-    by (some fs) = let e : length fs ≡ 0 + length fs = omega arith in ap (λ (k : ℕ). given (eqb k 4) (from_digits 256 0 fs)) e
+    by None = refl
+    by (Some fs) = let e : length fs ≡ 0 + length fs = omega arith in ap (λ (k : ℕ). given (eqb k 4) (from_digits 256 0 fs)) e
 
 -- ## The code's tests of one byte
 
@@ -410,19 +408,19 @@ module _ {X : Type 0} (f : ℕ → ℕ → ℕ → Bool → List ℕ → X) (bad
 
 -- ## An address, by a pass over the whole text
 
-pub follows_address : Follows address_from none
+pub follows_address : Follows address_from None
 follows_address = record {
   fails = λ n k v d b t q. subst (AddressSteps n k v d b t) q (address_step n k v d b t);
   goes = λ n k v d b t m l u x q. subst (AddressSteps n k v d b t) q (address_step n k v d b t);
 }
 
 module _ (s : List ℕ) (r : Run) (is-r : r ≡ run_from 0 0 0 0 false s) where
-  pub v4_failed : r ≡ R.Failed → N.Nothing ≡ as_number (read_v4 s)
-  v4_failed q = sym (ap as_number (address_start s ∙ run_failed address_from none follows_address s r is-r q))
+  pub v4_failed : r ≡ R.Failed → None ≡ as_number (read_v4 s)
+  v4_failed q = sym (ap as_number (address_start s ∙ run_failed address_from None follows_address s r is-r q))
 
   module _ (i n k v : ℕ) (d : Bool) (q : r ≡ R.At i n k v d) where
     at : (address_from 0 0 0 false s ≡ address_from n k v d (drop i s)) × Landed s i n k v d
-    at = run_at address_from none follows_address s r is-r i n k v d q
+    at = run_at address_from None follows_address s r is-r i n k v d q
 
     pub landed : Landed s i n k v d
     landed = at.1
@@ -434,11 +432,11 @@ module _ (s : List ℕ) (r : Run) (is-r : r ≡ run_from 0 0 0 0 false s) where
     landed_field = landed.field
 
     -- what address_from finds where the pass stopped before the end
-    pub v4_stopped : i < length s → N.Nothing ≡ as_number (read_v4 s)
+    pub v4_stopped : i < length s → None ≡ as_number (read_v4 s)
     v4_stopped h =
-        let g : address_from n k v d (drop i s) ≡ none = rw (drop-cons s i 0 h) (address_stops n k v d (get_or s i 0) (drop (suc i) s) (landed.stops h)) in
+        let g : address_from n k v d (drop i s) ≡ None = rw (drop-cons s i 0 h) (address_stops n k v d (get_or s i 0) (drop (suc i) s) (landed.stops h)) in
         sym (ap as_number (address_start s ∙ at.0 ∙ g))
 
-    pub v4_ended : length s ≤ i → (x : NumberRead) → x ≡ as_number (ended_address n k v d) → x ≡ as_number (read_v4 s)
+    pub v4_ended : length s ≤ i → (x : Option ℕ) → x ≡ as_number (ended_address n k v d) → x ≡ as_number (read_v4 s)
     v4_ended h x e =
         e ∙ sym (ap as_number (address_start s ∙ at.0 ∙ ap (address_from n k v d) (drop_of_length-le s h) ∙ address_end_lem n k v d))

@@ -1,10 +1,10 @@
 -- Laws of reading one group of hex digits.
 -- Assumes nothing.
+use Rattle.std.specs.Prelude.{None, Some}
 use Prim.Native.Nat.{ℕ, ◌+◌, ◌-◌, ◌*◌, ◌^◌, ◌<◌, ◌≤◌}
 use mathlib.Core.Bool.{Bool, true, false, ◌&&◌, true≢false}
 use mathlib.Core.List.{List, [], ◌∷◌, map}
 use mathlib.Core.Logic.{◌⊎◌, inl, inr, ⊎_elim}
-use mathlib.Core.Option.{some}
 use mathlib.Core.Path.{◌≡◌, refl, sym, ◌∙◌}
 use native.Mathlib.Nat.{pow-suc, pow-le-pow_right}
 use native.Mathlib.Numerals.{add-one}
@@ -17,7 +17,6 @@ use Rattle.text.specs.Basics.{◌>>=◌, given, all}
 use Rattle.text.specs.Text.{in_range, char_range, is_digit, lower}
 use Rattle.text.specs.Number.{from_digits, digit_value}
 use Rattle.text.specs.Scan.{as_number}
-use Rattle.text.specs.declared.NumberRead.TheVariants as N
 use Rattle.text.proofs.BasicLaws.{and_true}
 use Rattle.text.proofs.Canonical.{from_digits_lt}
 use Rattle.address.specs.Address.{read_group}
@@ -143,18 +142,18 @@ digit_value_lt b e = rw (hex_value_is b e) at (⊎_elim (λ p. p.1) (λ p. absur
 
 -- the answers before the loop
 module _ (s : List ℕ) where
-  no_group : in_range 1 4 (length s) ≡ false → N.Nothing ≡ as_number (group_value s)
+  no_group : in_range 1 4 (length s) ≡ false → None ≡ as_number (group_value s)
   unfolding group_value
   no_group e = sym (rw e (by (all is_hex s)))
     where
-      by : (t : Bool) → as_number (given (t && false) (from_digits 16 0 (map digit_value s))) ≡ N.Nothing
+      by : (t : Bool) → as_number (given (t && false) (from_digits 16 0 (map digit_value s))) ≡ None
       by true = refl
       by false = refl
 
-  pub group_empty : length s ≡ 0 → N.Nothing ≡ as_number (group_value s)
+  pub group_empty : length s ≡ 0 → None ≡ as_number (group_value s)
   group_empty e = no_group (in_range_below 1 4 (length s) (omega arith))
 
-  pub group_long : 4 < length s → N.Nothing ≡ as_number (group_value s)
+  pub group_long : 4 < length s → None ≡ as_number (group_value s)
   group_long h = no_group (in_range_above 1 4 (length s) h)
 
 -- the loop that reads a group, at i, where the digits passed make n
@@ -172,7 +171,7 @@ module _ (s : List ℕ) (n i : ℕ) (r : HexDigits s n i) where
   hex_mul h l = omega (arith, r.small, pow-le-pow_right {n = 16} (omega arith) {i = i} {j = 3} (omega arith))
 
   module _ (h : i < length s) (d : ℕ) (is_d : d ≡ hex_value (get_or s i 0)) where
-    pub hex_none : d ≡ 16 → N.Nothing ≡ as_number (group_value s)
+    pub hex_none : d ≡ 16 → None ≡ as_number (group_value s)
     unfolding group_value all
     hex_none e =
         let f : all is_hex s ≡ false = r.digits ∙ rw (drop-cons s i 0, hex_value_none (get_or s i 0) (sym is_d ∙ e)) in
@@ -192,7 +191,7 @@ module _ (s : List ℕ) (n i : ℕ) (r : HexDigits s n i) where
           rest = r.rest ∙ rw (add-one, drop-cons s i 0, is_d, hex_value_is (get_or s i 0) p.0);
         }
 
-  pub hex_done : length s ≤ i → (length s ≡ 0 → ⊥) → length s ≤ 4 → N.Value n ≡ as_number (group_value s)
+  pub hex_done : length s ≤ i → (length s ≡ 0 → ⊥) → length s ≤ 4 → Some n ≡ as_number (group_value s)
   unfolding group_value all from_digits
   hex_done h m l =
       let e : all is_hex s ≡ true = r.digits ∙ rw (drop_of_length-le s h) in
@@ -207,11 +206,11 @@ digits_below (x ∷ t) e =
     let p : (is_hex x ≡ true) × (all is_hex t ≡ true) = and_true (is_hex x) (all is_hex t) e in
     rw (lt-ltb (digit_value x) 16 (digit_value_lt x p.0)) (digits_below t p.1)
 
-pub group_value_lt : (t : List ℕ) (g : ℕ) → group_value t ≡ some g → g < 65536
+pub group_value_lt : (t : List ℕ) (g : ℕ) → group_value t ≡ Some g → g < 65536
 unfolding group_value
 group_value_lt t g e = by (all is_hex t) (in_range 1 4 (length t)) refl refl e
   where
-    by : (a b : Bool) → all is_hex t ≡ a → in_range 1 4 (length t) ≡ b → given (a && b) (from_digits 16 0 (map digit_value t)) ≡ some g → g < 65536
+    by : (a b : Bool) → all is_hex t ≡ a → in_range 1 4 (length t) ≡ b → given (a && b) (from_digits 16 0 (map digit_value t)) ≡ Some g → g < 65536
     by true true p q r =
         let v : from_digits 16 0 (map digit_value t) ≡ g = cc in
         let l : length (map digit_value t) ≤ 4 = rw (length-map t digit_value) (leb-true (length t) 4 (and_true (leb 1 (length t)) (leb (length t) 4) q).1) in
@@ -224,10 +223,10 @@ group_value_lt t g e = by (all is_hex t) (in_range 1 4 (length t)) refl refl e
     by false b p q r = let z : ◌≡◌ {A = ℕ} 0 1 = cc in absurd (omega arith)
 
 -- the definition's group is the code's
-pub read_group_value : (t : List ℕ) → read_group t ≡ (group_value t >>= λ g. some (g ∷ []))
+pub read_group_value : (t : List ℕ) → read_group t ≡ (group_value t >>= λ g. Some (g ∷ []))
 unfolding read_group group_value
 read_group_value t = by (all is_hex t && in_range 1 4 (length t))
   where
-    by : (b : Bool) → given b (from_digits 16 0 (map digit_value t) ∷ []) ≡ (given b (from_digits 16 0 (map digit_value t)) >>= λ g. some (g ∷ []))
+    by : (b : Bool) → given b (from_digits 16 0 (map digit_value t) ∷ []) ≡ (given b (from_digits 16 0 (map digit_value t)) >>= λ g. Some (g ∷ []))
     by true = refl
     by false = refl

@@ -1,9 +1,9 @@
 -- Laws of reading groups in a row: what the code has read so far, and what each answer follows from.
 -- Assumes nothing.
+use Rattle.std.specs.Prelude.{None, Option, Some}
 use Prim.Native.Nat.{ℕ, ◌+◌, ◌-◌, ◌*◌, ◌/◌, ◌%◌, ◌^◌, ◌<◌, ◌≤◌, suc}
 use mathlib.Core.Bool.{Bool, true, false}
 use mathlib.Core.List.{List, [], ◌∷◌, ◌++◌}
-use mathlib.Core.Option.{some, Option, none}
 use mathlib.Core.Path.{◌≡◌, refl, sym, ap, ap₂, ◌∙◌}
 use native.Mathlib.Nat.{pow-suc, pow-le-pow_right}
 use native.Mathlib.Numerals.{add-one}
@@ -16,17 +16,13 @@ use Rattle.text.specs.Basics.{◌>>=◌, all, when◌then◌else◌, ◌or_else�
 use Rattle.text.specs.Text.{among, cons_head, split}
 use Rattle.text.specs.Number.{from_digits, to_digits}
 use Rattle.text.specs.Scan.{as_number, index_of}
-use Rattle.text.specs.declared.NumberRead.TheVariants as N
 use Rattle.text.proofs.BasicLaws.{all_append}
 use Rattle.address.specs.Address.{read_group, read_v4, read_last_group, read_groups}
 use Rattle.address.specs.Code.{number_of, words, words_of, group_value, group_at, first_group, groups_from, read_tail, reads_last, side_parts}
-use Rattle.text.specs.declared.NumberRead.{NumberRead}
 use Rattle.text.proofs.Digits.{length_to_digits, to_digits_below}
 use Rattle.text.proofs.ScanLaws.{take_rest, split_mark, split_no_mark}
 use Rattle.address.specs.declared.read.Group.{Group}
 use Rattle.address.specs.declared.read.Group.TheVariants as G
-use Rattle.address.specs.declared.read.GroupsRead.{GroupsRead}
-use Rattle.address.specs.declared.read.GroupsRead.TheVariants as R
 use Rattle.address.specs.declared.read.Words.{Words}
 use Rattle.address.proofs.ReadLaws.{as_number_none, as_number_some}
 use Rattle.address.proofs.WordLaws.{number_of_words_of}
@@ -39,16 +35,16 @@ module _ (t : List ℕ) (i : ℕ) (is-i : i ≡ index_of 58 t) where
   unfolding first_group
   group_last e = sym (rw (← is-i, le-ltb i (length t) (omega arith)))
 
-  module _ (more : i ≡ length t → ⊥) (within : i ≤ length t) (v : NumberRead) (is_v : v ≡ as_number (group_value (take i t))) where
-    pub group_nothing : v ≡ N.Nothing → G.Nothing ≡ first_group t
+  module _ (more : i ≡ length t → ⊥) (within : i ≤ length t) (v : Option ℕ) (is_v : v ≡ as_number (group_value (take i t))) where
+    pub group_nothing : v ≡ None → G.Nothing ≡ first_group t
     unfolding first_group
     group_nothing e = sym (rw (← is-i, lt-ltb i (length t) (omega (arith, more)), as_number_none (group_value (take i t)) (sym is_v ∙ e)))
 
-    pub group_more : (n : ℕ) → v ≡ N.Value n → G.More n (i + 1) ≡ first_group t
+    pub group_more : (n : ℕ) → v ≡ Some n → G.More n (i + 1) ≡ first_group t
     unfolding first_group
     group_more n e = sym (rw (← is-i, lt-ltb i (length t) (omega (arith, more)), as_number_some (group_value (take i t)) n (sym is_v ∙ e)))
 
-pub group_lt : (t : List ℕ) (v : NumberRead) (g : ℕ) → v ≡ as_number (group_value t) → v ≡ N.Value g → g < 65536
+pub group_lt : (t : List ℕ) (v : Option ℕ) (g : ℕ) → v ≡ as_number (group_value t) → v ≡ Some g → g < 65536
 group_lt t v g is_v e = group_value_lt t g (as_number_some (group_value t) g (sym is_v ∙ e))
 
 -- ## Groups in a row
@@ -65,23 +61,23 @@ split_some (x ∷ t) e = by (among ":" x) (split ":" t) e
 
 -- a group before others
 module _ (f : List ℕ → Option (List ℕ)) (w t : List ℕ) where
-  pub read_groups_more : read_groups f (w ∷ split ":" t) ≡ (read_group w >>= λ g. read_groups f (split ":" t) >>= λ gs. some (g ++ gs))
+  pub read_groups_more : read_groups f (w ∷ split ":" t) ≡ (read_group w >>= λ g. read_groups f (split ":" t) >>= λ gs. Some (g ++ gs))
   unfolding read_groups
   read_groups_more = by (split ":" t) refl
     where
-      by : (ws : List (List ℕ)) → split ":" t ≡ ws → read_groups f (w ∷ ws) ≡ (read_group w >>= λ g. read_groups f ws >>= λ gs. some (g ++ gs))
+      by : (ws : List (List ℕ)) → split ":" t ≡ ws → read_groups f (w ∷ ws) ≡ (read_group w >>= λ g. read_groups f ws >>= λ gs. Some (g ++ gs))
       by [] e = absurd (split_some t e)
       by (v ∷ ws) e = refl
 
-groups_from_cons : (k n g : ℕ) (o : Option (List ℕ)) → groups_from k n (o >>= λ gs. some ((g ∷ []) ++ gs)) ≡ groups_from (k + 1) (n * 65536 + g) o
+groups_from_cons : (k n g : ℕ) (o : Option (List ℕ)) → groups_from k n (o >>= λ gs. Some ((g ∷ []) ++ gs)) ≡ groups_from (k + 1) (n * 65536 + g) o
 unfolding from_digits
-groups_from_cons k n g none = refl
-groups_from_cons k n g (some gs) =
+groups_from_cons k n g None = refl
+groups_from_cons k n g (Some gs) =
     let e : k + suc (length gs) ≡ (k + 1) + length gs = omega arith in
-    ap (λ (j : ℕ). when leb j 8 then R.Groups j (words_of (from_digits 65536 (n * 65536 + g) gs)) else R.Nothing) e
+    ap (λ (j : ℕ). when leb j 8 then Some (j, (words_of (from_digits 65536 (n * 65536 + g) gs))) else None) e
 
 -- the groups of t after k groups that make n
-unfoldable pub row_from : Bool → ℕ → ℕ → List ℕ → GroupsRead
+unfoldable pub row_from : Bool → ℕ → ℕ → List ℕ → Option (ℕ × Words)
 row_from tail k n t = groups_from k n (read_groups (reads_last tail) (split ":" t))
 
 -- what a group found says
@@ -96,7 +92,7 @@ module _ (tail : Bool) (k n : ℕ) (t : List ℕ) where
 
   row_parts : ltb colon (length t) ≡ true
       → row_from tail k n t
-      ≡ groups_from k n (read_group (take colon t) >>= λ g. read_groups (reads_last tail) (split ":" (drop (colon + 1) t)) >>= λ gs. some (g ++ gs))
+      ≡ groups_from k n (read_group (take colon t) >>= λ g. read_groups (reads_last tail) (split ":" (drop (colon + 1) t)) >>= λ gs. Some (g ++ gs))
   unfolding row_from
   row_parts p =
       ap (groups_from k n)
@@ -109,17 +105,17 @@ module _ (tail : Bool) (k n : ℕ) (t : List ℕ) where
     where
       by : (b : Bool) (o : Option ℕ) → ltb colon (length t) ≡ b → group_value (take colon t) ≡ o → group_at colon b o ≡ G.Last
           → row_from tail k n t ≡ groups_from k n (reads_last tail t)
-      by true none p q e = let z : ◌≡◌ {A = ℕ} 0 1 = cc in absurd (omega arith)
-      by true (some g) p q e = let z : ◌≡◌ {A = ℕ} 0 1 = cc in absurd (omega arith)
+      by true None p q e = let z : ◌≡◌ {A = ℕ} 0 1 = cc in absurd (omega arith)
+      by true (Some g) p q e = let z : ◌≡◌ {A = ℕ} 0 1 = cc in absurd (omega arith)
       by false o p q e = rw (split_no_mark ":" 58 refl t colon refl (ltb-false colon (length t) p))
 
-  pub row_nothing : first_group t ≡ G.Nothing → row_from tail k n t ≡ R.Nothing
-  row_nothing = by_group (λ g. g ≡ G.Nothing → row_from tail k n t ≡ R.Nothing) by
+  pub row_nothing : first_group t ≡ G.Nothing → row_from tail k n t ≡ None
+  row_nothing = by_group (λ g. g ≡ G.Nothing → row_from tail k n t ≡ None) by
     where
-      by : (b : Bool) (o : Option ℕ) → ltb colon (length t) ≡ b → group_value (take colon t) ≡ o → group_at colon b o ≡ G.Nothing → row_from tail k n t ≡ R.Nothing
+      by : (b : Bool) (o : Option ℕ) → ltb colon (length t) ≡ b → group_value (take colon t) ≡ o → group_at colon b o ≡ G.Nothing → row_from tail k n t ≡ None
       by false o p q e = let z : ◌≡◌ {A = ℕ} 0 1 = cc in absurd (omega arith)
-      by true (some g) p q e = let z : ◌≡◌ {A = ℕ} 0 1 = cc in absurd (omega arith)
-      by true none p q e = row_parts p ∙ rw (read_group_value (take colon t), q)
+      by true (Some g) p q e = let z : ◌≡◌ {A = ℕ} 0 1 = cc in absurd (omega arith)
+      by true None p q e = row_parts p ∙ rw (read_group_value (take colon t), q)
 
   pub row_more : (g j : ℕ) → first_group t ≡ G.More g j → (row_from tail k n t ≡ row_from tail (k + 1) (n * 65536 + g) (drop j t)) × ((g < 65536) × (j ≤ length t))
   unfolding row_from
@@ -128,11 +124,11 @@ module _ (tail : Bool) (k n : ℕ) (t : List ℕ) where
       by : (b : Bool) (o : Option ℕ) → ltb colon (length t) ≡ b → group_value (take colon t) ≡ o → group_at colon b o ≡ G.More g j
           → (row_from tail k n t ≡ row_from tail (k + 1) (n * 65536 + g) (drop j t)) × ((g < 65536) × (j ≤ length t))
       by false o p q e = let z : ◌≡◌ {A = ℕ} 0 1 = cc in absurd (omega arith)
-      by true none p q e = let z : ◌≡◌ {A = ℕ} 0 1 = cc in absurd (omega arith)
-      by true (some h) p q e =
+      by true None p q e = let z : ◌≡◌ {A = ℕ} 0 1 = cc in absurd (omega arith)
+      by true (Some h) p q e =
           let same : h ≡ g = cc in
           let at : colon + 1 ≡ j = cc in
-          let r : group_value (take colon t) ≡ some g = q ∙ ap some same in (
+          let r : group_value (take colon t) ≡ Some g = q ∙ ap Some same in (
             row_parts p ∙ rw (read_group_value (take colon t), r, at) (groups_from_cons k n g (read_groups (reads_last tail) (split ":" (drop j t)))),
             (group_value_lt (take colon t) g r, omega (arith, ltb-true colon (length t) p)),
           )
@@ -140,63 +136,63 @@ module _ (tail : Bool) (k n : ℕ) (t : List ℕ) where
 -- what holds of every group and of every IPv4 text, and of two rows together, holds of whatever is read
 module _ (P : List ℕ → Type 0) (one : (g : ℕ) → g < 65536 → P (g ∷ [])) (two : (n : ℕ) → P (to_digits 65536 2 n))
     (both : (gs hs : List ℕ) → P gs → P hs → P (gs ++ hs)) where
-  read_group_all : (t gs : List ℕ) → read_group t ≡ some gs → P gs
+  read_group_all : (t gs : List ℕ) → read_group t ≡ Some gs → P gs
   read_group_all t gs e = by (group_value t) refl (sym (read_group_value t) ∙ e)
     where
-      by : (o : Option ℕ) → group_value t ≡ o → (o >>= λ g. some (g ∷ [])) ≡ some gs → P gs
-      by none v p = let z : ◌≡◌ {A = ℕ} 0 1 = cc in absurd (omega arith)
-      by (some g) v p = let q : g ∷ [] ≡ gs = cc in rw (← q) (one g (group_value_lt t g v))
+      by : (o : Option ℕ) → group_value t ≡ o → (o >>= λ g. Some (g ∷ [])) ≡ Some gs → P gs
+      by None v p = let z : ◌≡◌ {A = ℕ} 0 1 = cc in absurd (omega arith)
+      by (Some g) v p = let q : g ∷ [] ≡ gs = cc in rw (← q) (one g (group_value_lt t g v))
 
-  read_tail_all : (t gs : List ℕ) → read_tail t ≡ some gs → P gs
+  read_tail_all : (t gs : List ℕ) → read_tail t ≡ Some gs → P gs
   read_tail_all t gs = by (read_v4 t)
     where
-      by : (o : Option ℕ) → (o >>= λ n. some (to_digits 65536 2 n)) ≡ some gs → P gs
-      by none p = let z : ◌≡◌ {A = ℕ} 0 1 = cc in absurd (omega arith)
-      by (some n) p = let q : to_digits 65536 2 n ≡ gs = cc in rw (← q) (two n)
+      by : (o : Option ℕ) → (o >>= λ n. Some (to_digits 65536 2 n)) ≡ Some gs → P gs
+      by None p = let z : ◌≡◌ {A = ℕ} 0 1 = cc in absurd (omega arith)
+      by (Some n) p = let q : to_digits 65536 2 n ≡ gs = cc in rw (← q) (two n)
 
-  reads_last_all : (tail : Bool) (t gs : List ℕ) → reads_last tail t ≡ some gs → P gs
+  reads_last_all : (tail : Bool) (t gs : List ℕ) → reads_last tail t ≡ Some gs → P gs
   unfolding read_last_group
   reads_last_all true t gs = by (read_group t) (read_group_all t gs)
     where
-      by : (o : Option (List ℕ)) → (o ≡ some gs → P gs) → (o or_else read_tail t) ≡ some gs → P gs
-      by none f e = read_tail_all t gs e
-      by (some hs) f e = f e
+      by : (o : Option (List ℕ)) → (o ≡ Some gs → P gs) → (o or_else read_tail t) ≡ Some gs → P gs
+      by None f e = read_tail_all t gs e
+      by (Some hs) f e = f e
   reads_last_all false t gs = read_group_all t gs
 
-  read_groups_all : (tail : Bool) (w : List ℕ) (ws : List (List ℕ)) (gs : List ℕ) → read_groups (reads_last tail) (w ∷ ws) ≡ some gs → P gs
+  read_groups_all : (tail : Bool) (w : List ℕ) (ws : List (List ℕ)) (gs : List ℕ) → read_groups (reads_last tail) (w ∷ ws) ≡ Some gs → P gs
   unfolding read_groups
   read_groups_all tail w [] gs e = reads_last_all tail w gs e
   read_groups_all tail w (v ∷ ws) gs e =
       by (read_group w) (read_group_all w) (read_groups (reads_last tail) (v ∷ ws)) (read_groups_all tail v ws) e
     where
-      by : (o : Option (List ℕ)) → ((hs : List ℕ) → o ≡ some hs → P hs) → (p : Option (List ℕ)) → ((hs : List ℕ) → p ≡ some hs → P hs)
-          → (o >>= λ g. p >>= λ hs. some (g ++ hs)) ≡ some gs → P gs
-      by none f p k e = let z : ◌≡◌ {A = ℕ} 0 1 = cc in absurd (omega arith)
-      by (some g) f none k e = let z : ◌≡◌ {A = ℕ} 0 1 = cc in absurd (omega arith)
-      by (some g) f (some hs) k e = let q : g ++ hs ≡ gs = cc in rw (← q) (both g hs (f g refl) (k hs refl))
+      by : (o : Option (List ℕ)) → ((hs : List ℕ) → o ≡ Some hs → P hs) → (p : Option (List ℕ)) → ((hs : List ℕ) → p ≡ Some hs → P hs)
+          → (o >>= λ g. p >>= λ hs. Some (g ++ hs)) ≡ Some gs → P gs
+      by None f p k e = let z : ◌≡◌ {A = ℕ} 0 1 = cc in absurd (omega arith)
+      by (Some g) f None k e = let z : ◌≡◌ {A = ℕ} 0 1 = cc in absurd (omega arith)
+      by (Some g) f (Some hs) k e = let q : g ++ hs ≡ gs = cc in rw (← q) (both g hs (f g refl) (k hs refl))
 
 -- one group at least, so none fits after eight
-read_groups_some : (tail : Bool) (w : List ℕ) (ws : List (List ℕ)) (gs : List ℕ) → read_groups (reads_last tail) (w ∷ ws) ≡ some gs → 0 < length gs
+read_groups_some : (tail : Bool) (w : List ℕ) (ws : List (List ℕ)) (gs : List ℕ) → read_groups (reads_last tail) (w ∷ ws) ≡ Some gs → 0 < length gs
 read_groups_some = read_groups_all (λ gs. 0 < length gs) (λ g h. omega arith) (λ n. rw (length_to_digits 65536 2 n) (omega arith))
     (λ gs hs h k. rw (length-append gs hs) (omega arith))
 
 -- every group is below 65536
-pub read_groups_below : (tail : Bool) (ws : List (List ℕ)) (gs : List ℕ) → read_groups (reads_last tail) ws ≡ some gs → all (λ g. ltb g 65536) gs ≡ true
+pub read_groups_below : (tail : Bool) (ws : List (List ℕ)) (gs : List ℕ) → read_groups (reads_last tail) ws ≡ Some gs → all (λ g. ltb g 65536) gs ≡ true
 unfolding read_groups all
 read_groups_below tail [] gs e = let q : [] ≡ gs = cc in rw (← q)
 read_groups_below tail (w ∷ ws) gs e =
     read_groups_all (λ gs. all (λ g. ltb g 65536) gs ≡ true) (λ g h. rw (lt-ltb g 65536 h)) (λ n. to_digits_below 65536 2 n (omega arith))
     (all_append (λ g. ltb g 65536)) tail w ws gs e
 
-groups_from_over : (n : ℕ) (o : Option (List ℕ)) → ((gs : List ℕ) → o ≡ some gs → 0 < length gs) → groups_from 8 n o ≡ R.Nothing
-groups_from_over n none f = refl
-groups_from_over n (some gs) f = rw (lt-leb (8 + length gs) 8 (omega (arith, f gs refl)))
+groups_from_over : (n : ℕ) (o : Option (List ℕ)) → ((gs : List ℕ) → o ≡ Some gs → 0 < length gs) → groups_from 8 n o ≡ None
+groups_from_over n None f = refl
+groups_from_over n (Some gs) f = rw (lt-leb (8 + length gs) 8 (omega (arith, f gs refl)))
 
-row_over : (tail : Bool) (n : ℕ) (t : List ℕ) → row_from tail 8 n t ≡ R.Nothing
+row_over : (tail : Bool) (n : ℕ) (t : List ℕ) → row_from tail 8 n t ≡ None
 unfolding row_from
 row_over tail n t = by (split ":" t) refl
   where
-    by : (ws : List (List ℕ)) → split ":" t ≡ ws → groups_from 8 n (read_groups (reads_last tail) ws) ≡ R.Nothing
+    by : (ws : List (List ℕ)) → split ":" t ≡ ws → groups_from 8 n (read_groups (reads_last tail) ws) ≡ None
     by [] e = absurd (split_some t e)
     by (w ∷ ws) e = groups_from_over n (read_groups (reads_last tail) (w ∷ ws)) (read_groups_some tail w ws)
 
@@ -209,48 +205,48 @@ module _ (w : Words) (k : ℕ) (few : k < 8) (small : number_of w < 65536 ^ k) w
   pub row_room_v4 : (k ≡ 7 → ⊥) → number_of w < 79228162514264337593543950336
   row_room_v4 m = omega (arith, pow-le-pow_right {n = 65536} (omega arith) {i = k} {j = 6} (omega (arith, m)))
 
-  module _ (t : List ℕ) (v : NumberRead) (u : Words) where
+  module _ (t : List ℕ) (v : Option ℕ) (u : Words) where
     module _ (is_v : v ≡ as_number (read_v4 t)) where
-      pub tail_nothing : v ≡ N.Nothing → R.Nothing ≡ groups_from k (number_of w) (read_tail t)
+      pub tail_nothing : v ≡ None → None ≡ groups_from k (number_of w) (read_tail t)
       tail_nothing e = sym (rw (as_number_none (read_v4 t) (sym is_v ∙ e)))
 
-      module _ (n : ℕ) (e : v ≡ N.Value n) where
-        tail_is : groups_from k (number_of w) (read_tail t) ≡ groups_from k (number_of w) (some (to_digits 65536 2 n))
+      module _ (n : ℕ) (e : v ≡ Some n) where
+        tail_is : groups_from k (number_of w) (read_tail t) ≡ groups_from k (number_of w) (Some (to_digits 65536 2 n))
         tail_is = rw (as_number_some (read_v4 t) n (sym is_v ∙ e))
 
-        pub tail_full : k ≡ 7 → R.Nothing ≡ groups_from k (number_of w) (read_tail t)
+        pub tail_full : k ≡ 7 → None ≡ groups_from k (number_of w) (read_tail t)
         tail_full h = sym (tail_is ∙ rw (length_to_digits 65536 2 n, lt-leb (k + 2) 8 (omega arith)))
 
-        pub tail_value : (k ≡ 7 → ⊥) → n < 4294967296 → u ≡ words_of (number_of w * 4294967296 + n) → R.Groups (k + 2) u ≡ groups_from k (number_of w) (read_tail t)
+        pub tail_value : (k ≡ 7 → ⊥) → n < 4294967296 → u ≡ words_of (number_of w * 4294967296 + n) → Some ((k + 2), u) ≡ groups_from k (number_of w) (read_tail t)
         unfolding to_digits from_digits
         tail_value m l is-u =
             let x : number_of w * 4294967296 + n ≡ (number_of w * 65536 + n / 65536 % 65536) * 65536 + n % 65536 = omega arith in
             sym (tail_is ∙ rw (le-leb (k + 2) 8 (omega (arith, m)), is-u, x))
 
     module _ (tail : Bool) (is_v : v ≡ as_number (group_value t)) where
-      reads_last_value : (g : ℕ) → group_value t ≡ some g → reads_last tail t ≡ some (g ∷ [])
+      reads_last_value : (g : ℕ) → group_value t ≡ Some g → reads_last tail t ≡ Some (g ∷ [])
       unfolding read_last_group
       reads_last_value g e = by tail
         where
-          by : (b : Bool) → reads_last b t ≡ some (g ∷ [])
+          by : (b : Bool) → reads_last b t ≡ Some (g ∷ [])
           by true = rw (read_group_value t, e)
           by false = read_group_value t ∙ rw e
 
-      pub last_value : (g : ℕ) → v ≡ N.Value g → u ≡ words_of (number_of w * 65536 + g) → R.Groups (k + 1) u ≡ groups_from k (number_of w) (reads_last tail t)
+      pub last_value : (g : ℕ) → v ≡ Some g → u ≡ words_of (number_of w * 65536 + g) → Some ((k + 1), u) ≡ groups_from k (number_of w) (reads_last tail t)
       unfolding from_digits
       last_value g e is-u = sym (rw (reads_last_value g (as_number_some (group_value t) g (sym is_v ∙ e)), le-leb (k + 1) 8 (omega arith), is-u))
 
-      pub last_nothing : v ≡ N.Nothing → tail ≡ false → R.Nothing ≡ groups_from k (number_of w) (reads_last tail t)
+      pub last_nothing : v ≡ None → tail ≡ false → None ≡ groups_from k (number_of w) (reads_last tail t)
       last_nothing e f = sym (rw (f, read_group_value t, as_number_none (group_value t) (sym is_v ∙ e)))
 
-      pub last_tail : v ≡ N.Nothing → tail ≡ true → (r : GroupsRead) → r ≡ groups_from k (number_of w) (read_tail t) → r
+      pub last_tail : v ≡ None → tail ≡ true → (r : Option (ℕ × Words)) → r ≡ groups_from k (number_of w) (read_tail t) → r
           ≡ groups_from k (number_of w) (reads_last tail t)
       unfolding read_last_group
       last_tail e f r h = h ∙ sym (rw (f, read_group_value t, as_number_none (group_value t) (sym is_v ∙ e)))
 
 -- ## The loop over the groups
 
-pub no_groups : (s : List ℕ) (tail : Bool) → length s ≡ 0 → R.Groups 0 (words 0 0) ≡ groups_from 0 0 (read_groups (reads_last tail) (side_parts s))
+pub no_groups : (s : List ℕ) (tail : Bool) → length s ≡ 0 → Some (0, (words 0 0)) ≡ groups_from 0 0 (read_groups (reads_last tail) (side_parts s))
 unfolding read_groups from_digits
 no_groups [] tail e = refl
 no_groups (x ∷ s) tail e = absurd (omega arith)
@@ -271,7 +267,7 @@ row_start s tail n = record { within = omega arith; few = omega arith; small = o
     by (x ∷ s) n = refl
 
 module _ (s : List ℕ) (tail : Bool) (w : Words) (count at : ℕ) (r : Row s tail w count at) where
-  pub row_many : 8 ≤ count → R.Nothing ≡ groups_from 0 0 (read_groups (reads_last tail) (side_parts s))
+  pub row_many : 8 ≤ count → None ≡ groups_from 0 0 (read_groups (reads_last tail) (side_parts s))
   row_many h =
       let e : count ≡ 8 = omega (arith, r.few) in
       sym (r.rest ∙ ap (λ (k : ℕ). row_from tail k (number_of w) (drop at s)) e ∙ row_over tail (number_of w) (drop at s))
@@ -280,10 +276,10 @@ module _ (s : List ℕ) (tail : Bool) (w : Words) (count at : ℕ) (r : Row s ta
     is_first : first_group (drop at s) ≡ g
     is_first = ap first_group (sym (take_rest s at)) ∙ sym is-g
 
-    pub row_bad : g ≡ G.Nothing → R.Nothing ≡ groups_from 0 0 (read_groups (reads_last tail) (side_parts s))
+    pub row_bad : g ≡ G.Nothing → None ≡ groups_from 0 0 (read_groups (reads_last tail) (side_parts s))
     row_bad e = sym (r.rest ∙ row_nothing tail count (number_of w) (drop at s) (is_first ∙ e))
 
-    pub row_ends : g ≡ G.Last → (a : GroupsRead) → a ≡ groups_from count (number_of w) (reads_last tail (take (length s - at) (drop at s)))
+    pub row_ends : g ≡ G.Last → (a : Option (ℕ × Words)) → a ≡ groups_from count (number_of w) (reads_last tail (take (length s - at) (drop at s)))
         → a ≡ groups_from 0 0 (read_groups (reads_last tail) (side_parts s))
     row_ends e a h = h ∙ ap (λ (t : List ℕ). groups_from count (number_of w) (reads_last tail t)) (take_rest s at)
         ∙ sym (r.rest ∙ row_last tail count (number_of w) (drop at s) (is_first ∙ e))

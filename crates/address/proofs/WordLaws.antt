@@ -1,5 +1,6 @@
 -- Laws of numbers of two words: bits pushed in at the low end, zero groups up to eight, and two numbers whose bits lie apart.
 -- Assumes nothing.
+use Rattle.std.specs.Prelude.{None, Some}
 use Prim.Native.Nat.{ℕ, ◌+◌, ◌-◌, ◌*◌, ◌/◌, ◌%◌, ◌^◌, ◌<◌, ◌≤◌, suc}
 use mathlib.Core.Bool.{Bool, true, false}
 use mathlib.Core.Path.{◌≡◌, refl, sym, ap, ap₂, ◌∙◌}
@@ -14,7 +15,6 @@ use lib.Pow.{pow_pos, pow-add, split, high, low, shl_exact, shl-shr, shr_lt, mod
 use Rattle.text.specs.Basics.{given}
 use Rattle.address.specs.Code.{number_of, words, words_of, as_v6}
 use Rattle.address.specs.declared.read.Words.{Words}
-use Rattle.address.specs.declared.read.V6Read.TheVariants as S
 
 -- ## Numbers of two words
 
@@ -137,7 +137,7 @@ module _ (l : Words) (a : ℕ) (r : Words) (b : ℕ) (ha : a ≤ 8) (hl : number
   abbrev joined : ℕ
   joined = number_of l * 65536 ^ (8 - a) + number_of r
 
-  pub join_over : 8 ≤ a + b → S.Nothing ≡ as_v6 (given (ltb (a + b) 8) joined)
+  pub join_over : 8 ≤ a + b → None ≡ as_v6 (given (ltb (a + b) 8) joined)
   join_over h = sym (rw (le-ltb (a + b) 8 h))
 
   module _ (h : a + b < 8) (w : Words) (is-w : w ≡ words_of (number_of l * 65536 ^ (8 - a))) (fits : r.low < 18446744073709551616) where
@@ -166,5 +166,5 @@ module _ (l : Words) (a : ℕ) (r : Words) (b : ℕ) (ha : a ≤ 8) (hl : number
     pub join_low : w.low + r.low < 18446744073709551616
     join_low = rw is_low (mod-lt joined {m = 2 ^ 64} (omega arith))
 
-    pub join_value : S.Value (w.high + r.high) (w.low + r.low) ≡ as_v6 (given (ltb (a + b) 8) joined)
-    join_value = ap₂ S.Value is_high is_low ∙ sym (rw (lt-ltb (a + b) 8 h))
+    pub join_value : Some ((w.high + r.high), (w.low + r.low)) ≡ as_v6 (given (ltb (a + b) 8) joined)
+    join_value = ap₂ Some (is_high, is_low) ∙ sym (rw (lt-ltb (a + b) 8 h))

@@ -7,8 +7,7 @@
 --   groups_from k n gs == the code's answer about k groups that make n, with the groups gs after them, at most eight
 --   as_v6 o            == o as the code answers it
 -- Assumes nothing: these are definitions.
-use Rattle.std.specs.Prelude.{ℕ, suc, ◌+◌, ◌*◌, ◌/◌, ◌%◌, ◌^◌, Bool, true, false, ◌&&◌, ◌||◌, List, [], ◌∷◌, map, length, take, leb, ltb, eqb}
-use Rattle.std.proofs.Math.Option.{Option, none, some}
+use Rattle.std.specs.Prelude.{ℕ, suc, ◌+◌, ◌*◌, ◌/◌, ◌%◌, ◌^◌, Bool, true, false, ◌&&◌, ◌||◌, List, [], ◌∷◌, map, length, take, leb, ltb, eqb, None, Option, Some}
 use Rattle.text.specs.Basics.{when◌then◌else◌, ◌>>=◌, given, is_empty, all}
 use Rattle.text.specs.Text.{starts_with, in_range, char_range, is_digit, split}
 use Rattle.text.specs.Number.{from_digits, to_digits, digit_value, read_decimal}
@@ -16,11 +15,7 @@ use Rattle.text.specs.Scan.{index_of}
 use Rattle.address.specs.Address.{read_v4, read_group, read_last_group}
 use Rattle.address.specs.declared.read.Group.{Group}
 use Rattle.address.specs.declared.read.Group.TheVariants as G
-use Rattle.address.specs.declared.read.GroupsRead.{GroupsRead}
-use Rattle.address.specs.declared.read.GroupsRead.TheVariants as R
 use Rattle.address.specs.declared.read.Words.{Words}
-use Rattle.address.specs.declared.read.V6Read.{V6Read}
-use Rattle.address.specs.declared.read.V6Read.TheVariants as S
 
 abbrev pub number_of : Words → ℕ
 number_of w = w.high * 2 ^ 64 + w.low
@@ -43,19 +38,19 @@ group_value t = given (all is_hex t && in_range 1 4 (length t)) (from_digits 16 
 -- a group that ends at i, before the end or at it
 abbrev pub group_at : ℕ → Bool → Option ℕ → Group
 group_at i false o = G.Last
-group_at i true none = G.Nothing
-group_at i true (some n) = G.More n (i + 1)
+group_at i true None = G.Nothing
+group_at i true (Some n) = G.More n (i + 1)
 
 unfoldable pub first_group : List ℕ → Group
 first_group t = group_at (index_of 58 t) (ltb (index_of 58 t) (length t)) (group_value (take (index_of 58 t) t))
 
-abbrev pub groups_from : ℕ → ℕ → Option (List ℕ) → GroupsRead
-groups_from k n none = R.Nothing
-groups_from k n (some gs) = when leb (k + length gs) 8 then R.Groups (k + length gs) (words_of (from_digits 65536 n gs)) else R.Nothing
+abbrev pub groups_from : ℕ → ℕ → Option (List ℕ) → Option (ℕ × Words)
+groups_from k n None = None
+groups_from k n (Some gs) = when leb (k + length gs) 8 then Some ((k + length gs), (words_of (from_digits 65536 n gs))) else None
 
 -- IPv4 text as two groups
 abbrev pub read_tail : List ℕ → Option (List ℕ)
-read_tail t = read_v4 t >>= λ n. some (to_digits 65536 2 n)
+read_tail t = read_v4 t >>= λ n. Some (to_digits 65536 2 n)
 
 -- what reads the last of several groups: with IPv4 text among them, or without
 abbrev pub reads_last : Bool → List ℕ → Option (List ℕ)
@@ -75,6 +70,6 @@ place_of m (x ∷ t) = when starts_with m (x ∷ t) then 0 else suc (place_of m 
 abbrev pub of_groups : Option (List ℕ) → Option ℕ
 of_groups o = o >>= λ gs. given (eqb (length gs) 8) (from_digits 65536 0 gs)
 
-abbrev pub as_v6 : Option ℕ → V6Read
-as_v6 none = S.Nothing
-as_v6 (some n) = S.Value (n / 2 ^ 64) (n % 2 ^ 64)
+abbrev pub as_v6 : Option ℕ → Option (ℕ × ℕ)
+as_v6 None = None
+as_v6 (Some n) = Some ((n / 2 ^ 64), (n % 2 ^ 64))

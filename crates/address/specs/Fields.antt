@@ -7,8 +7,7 @@
 --   step_of n k v d b == what one byte does to that state
 --   run_from j n k v d t == the pass over t from the place j on, up to a byte that is neither digit nor dot
 -- Assumes nothing: these are definitions.
-use Rattle.std.specs.Prelude.{ℕ, suc, ◌+◌, ◌-◌, ◌*◌, Bool, true, false, not, ◌&&◌, List, [], ◌∷◌, leb, ltb, eqb, length}
-use Rattle.std.proofs.Math.Option.{Option, none, some}
+use Rattle.std.specs.Prelude.{ℕ, suc, ◌+◌, ◌-◌, ◌*◌, Bool, true, false, not, ◌&&◌, List, [], ◌∷◌, leb, ltb, eqb, length, None, Option, Some}
 use Rattle.text.specs.Basics.{when◌then◌else◌, ◌>>=◌, given}
 use Rattle.text.specs.Text.{is_digit}
 use Rattle.text.specs.Number.{from_digits}
@@ -26,14 +25,14 @@ field_fits v d b = is_digit b && (not (d && eqb v 0) && leb (field_more v b) 255
 
 unfoldable pub digits_from : ℕ → Bool → List ℕ → Option ℕ
 digits_from v d [] = given d v
-digits_from v d (b ∷ t) = when field_fits v d b then digits_from (field_more v b) true t else none
+digits_from v d (b ∷ t) = when field_fits v d b then digits_from (field_more v b) true t else None
 
 unfoldable pub run_fields : ℕ → Bool → List ℕ → Option (List ℕ)
 run_fields v d [] = given d (v ∷ [])
 run_fields v d (b ∷ t) =
-    when eqb b 46 then (when d then (run_fields 0 false t >>= λ fs. some (v ∷ fs)) else none)
+    when eqb b 46 then (when d then (run_fields 0 false t >>= λ fs. Some (v ∷ fs)) else None)
     else when field_fits v d b then run_fields (field_more v b) true t
-    else none
+    else None
 
 abbrev pub address_from : ℕ → ℕ → ℕ → Bool → List ℕ → Option ℕ
 address_from n k v d t = run_fields v d t >>= λ fs. given (eqb (k + length fs) 4) (from_digits 256 n fs)

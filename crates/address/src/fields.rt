@@ -6,7 +6,6 @@ ghost use Rattle.std.specs.Prelude.{◌≡◌, false, ◌<◌, ◌≤◌, length
 ghost use Rattle.text.specs.Scan.{as_number};
 ghost use Rattle.address.specs.Fields.{ended_address, step_of, run_from};
 
-use text::NumberRead;
 
 // What one byte does: the pass fails, stops before it, or goes on in another state.
 #[derive(Clone, Copy)]
@@ -84,13 +83,13 @@ pub fn run_over(e: &[u8], i: usize) -> Run
 }
 
 // The address that a pass over a whole text makes: three fields with a dot after them, and one more.
-pub fn ended_address(n: u32, k: u32, v: u32, begun: bool) -> NumberRead
+pub fn ended_address(n: u32, k: u32, v: u32, begun: bool) -> Option<u32>
     requires n_bound { n < 16777216 }
     requires v_bound { v ≤ 255 }
     ensures { result ≡ as_number (ended_address n k v begun) }
 {
     if begun & (k == 3) {
-        return NumberRead::Value(n * 256 + v);
+        return Some(n * 256 + v);
     }
-    NumberRead::Nothing
+    None
 }

@@ -13,21 +13,6 @@ ghost use Rattle.address.specs.Code.{side_parts, place_of, of_groups, as_v6};
 use crate::Addr;
 use crate::fields::{Run, ended_address, run_over};
 use section::{Fault, Refusal};
-use text::NumberRead;
-
-// An IPv6 address that was read, by its two words, or none.
-#[derive(Clone, Copy)]
-pub enum V6Read {
-    Nothing,
-    Value(u64, u64),
-}
-
-// What reading an address answers: a refusal, or the address.
-#[derive(Clone, Copy)]
-pub enum AddressRead {
-    Refused(Refusal),
-    Address(Addr),
-}
 
 // The group at the front of a text with colons: one that is none, the last one, or one with the place after its colon.
 #[derive(Clone, Copy)]
@@ -44,23 +29,16 @@ struct Words {
     low: u64,
 }
 
-// Groups that were read: how many, at most eight, and the number that they make.
-#[derive(Clone, Copy)]
-enum GroupsRead {
-    Nothing,
-    Groups(u32, Words),
-}
-
 // The number of the IPv4 address that s writes: four fields, parted by dots.
-pub fn read_v4(s: &[u8]) -> NumberRead
+pub fn read_v4(s: &[u8]) -> Option<u32>
     ensures { result ≡ as_number (read_v4 s.now) }
 {
     let run = run_over(s, 0);
     match run {
-        Run::Failed => NumberRead::Nothing,
+        Run::Failed => None,
         Run::At(j, n, k, v, begun) => {
             if j < s.len() {
-                return NumberRead::Nothing;
+                return None;
             }
             ended_address(n, k, v, begun)
         }
@@ -85,26 +63,26 @@ fn hex_digit(b: u8) -> u32
 }
 
 // The number of a group of one to four hex digits.
-fn read_group(s: &[u8]) -> NumberRead
+fn read_group(s: &[u8]) -> Option<u32>
     ensures { result ≡ as_number (group_value s.now) }
 {
     if s.len() == 0 {
-        return NumberRead::Nothing;
+        return None;
     }
     if 4 < s.len() {
-        return NumberRead::Nothing;
+        return None;
     }
     let mut n: u32 = 0;
     let mut i = 0;
     while i < s.len() {
         let d = hex_digit(s[i]);
         if d == 16 {
-            return NumberRead::Nothing;
+            return None;
         }
         n = n * 16 + d;
         i += 1;
     }
-    NumberRead::Value(n)
+    Some(n)
 }
 
 // w with 16 bits more.
@@ -139,54 +117,54 @@ fn first_group(s: &[u8]) -> Group
     }
     let v = read_group(&s[..i]);
     match v {
-        NumberRead::Nothing => Group::Nothing,
-        NumberRead::Value(n) => Group::More(n, i + 1),
+        None => Group::Nothing,
+        Some(n) => Group::More(n, i + 1),
     }
 }
 
 // The groups so far, and IPv4 text as the last two.
-fn last_v4(s: &[u8], count: u32, w: Words) -> GroupsRead
+fn last_v4(s: &[u8], count: u32, w: Words) -> Option<(u32, Words)>
     requires { (count < 8) × (number_of w < 65536 ^ count) }
     ensures { result ≡ groups_from count (number_of w) (read_tail s.now) }
 {
     let v = read_v4(s);
     match v {
-        NumberRead::Nothing => GroupsRead::Nothing,
-        NumberRead::Value(n) => {
+        None => None,
+        Some(n) => {
             if count == 7 {
-                GroupsRead::Nothing
+                None
             } else {
-                GroupsRead::Groups(count + 2, push_v4(w, n))
+                Some((count + 2, push_v4(w, n)))
             }
         }
     }
 }
 
 // The groups so far, and the last one, or where tail holds IPv4 text as the last two.
-fn last_group(s: &[u8], tail: bool, count: u32, w: Words) -> GroupsRead
+fn last_group(s: &[u8], tail: bool, count: u32, w: Words) -> Option<(u32, Words)>
     requires { (count < 8) × (number_of w < 65536 ^ count) }
     ensures { result ≡ groups_from count (number_of w) (reads_last tail s.now) }
 {
     let v = read_group(s);
     match v {
-        NumberRead::Nothing => {
+        None => {
             if tail {
                 last_v4(s, count, w)
             } else {
-                GroupsRead::Nothing
+                None
             }
         }
-        NumberRead::Value(g) => GroupsRead::Groups(count + 1, push_group(w, g)),
+        Some(g) => Some((count + 1, push_group(w, g))),
     }
 }
 
 // The groups of s, parted by colons; where tail holds the last two may be IPv4 text.
-fn read_groups(s: &[u8], tail: bool) -> GroupsRead
+fn read_groups(s: &[u8], tail: bool) -> Option<(u32, Words)>
     ensures { result ≡ groups_from 0 0 (read_groups (reads_last tail) (side_parts s.now)) }
 {
     let mut w = Words { high: 0, low: 0 };
     if s.len() == 0 {
-        return GroupsRead::Groups(0, w);
+        return Some((0, w));
     }
     let mut count: u32 = 0;
     let mut at = 0;
@@ -194,7 +172,7 @@ fn read_groups(s: &[u8], tail: bool) -> GroupsRead
         let g = first_group(&s[at..]);
         match g {
             Group::Nothing => {
-                return GroupsRead::Nothing;
+                return None;
             }
             Group::Last => {
                 return last_group(&s[at..], tail, count, w);
@@ -206,7 +184,7 @@ fn read_groups(s: &[u8], tail: bool) -> GroupsRead
             }
         }
     }
-    GroupsRead::Nothing
+    None
 }
 
 // The first place of `::` in s, the length where there is none.
@@ -239,20 +217,20 @@ fn pad(w: Words, count: u32) -> Words
 }
 
 // The address of a groups on the left of `::` and b on its right.
-fn join(left: Words, a: u32, right: Words, b: u32) -> V6Read
+fn join(left: Words, a: u32, right: Words, b: u32) -> Option<(u64, u64)>
     requires { (a ≤ 8) × ((number_of left < 65536 ^ a) × ((b ≤ 8) × (number_of right < 65536 ^ b))) }
     ensures { result ≡ as_v6 (given (ltb (a + b) 8) (number_of left * 65536 ^ (8 - a) + number_of right)) }
 {
     if a + b < 8 {
         let w = pad(left, a);
-        V6Read::Value(w.high + right.high, w.low + right.low)
+        Some((w.high + right.high, w.low + right.low))
     } else {
-        V6Read::Nothing
+        None
     }
 }
 
 // The address that s writes with `::` at the place i.
-fn read_compressed(s: &[u8], i: usize) -> V6Read
+fn read_compressed(s: &[u8], i: usize) -> Option<(u64, u64)>
     requires { i + 2 ≤ length s.now }
     ensures { result ≡ as_v6 (of_groups (read_compressed (take i s.now, drop (i + 2) s.now))) }
 {
@@ -260,16 +238,16 @@ fn read_compressed(s: &[u8], i: usize) -> V6Read
     let j = i + 2;
     let right = read_groups(&s[j..], true);
     match left {
-        GroupsRead::Nothing => V6Read::Nothing,
-        GroupsRead::Groups(a, l) => match right {
-            GroupsRead::Nothing => V6Read::Nothing,
-            GroupsRead::Groups(b, r) => join(l, a, r, b),
+        None => None,
+        Some((a, l)) => match right {
+            None => None,
+            Some((b, r)) => join(l, a, r, b),
         },
     }
 }
 
 // The two words of the IPv6 address that s writes: eight groups, parted by colons, or fewer about one `::`.
-pub fn read_v6(s: &[u8]) -> V6Read
+pub fn read_v6(s: &[u8]) -> Option<(u64, u64)>
     ensures { result ≡ as_v6 (read_v6 s.now) }
 {
     let i = double_colon(s);
@@ -278,30 +256,30 @@ pub fn read_v6(s: &[u8]) -> V6Read
     }
     let g = read_groups(s, true);
     match g {
-        GroupsRead::Nothing => V6Read::Nothing,
-        GroupsRead::Groups(count, w) => {
+        None => None,
+        Some((count, w)) => {
             if count == 8 {
-                V6Read::Value(w.high, w.low)
+                Some((w.high, w.low))
             } else {
-                V6Read::Nothing
+                None
             }
         }
     }
 }
 
 // The address that s writes, of either kind.
-pub fn read_address(s: &[u8]) -> AddressRead
+pub fn read_address(s: &[u8]) -> Result<Addr, Refusal>
     ensures { result ≡ as_read (read_address s.now) }
 {
     let v = read_v4(s);
     match v {
-        NumberRead::Nothing => {
+        None => {
             let w = read_v6(s);
             match w {
-                V6Read::Nothing => AddressRead::Refused(section::placeless(Fault::BadRequest)),
-                V6Read::Value(high, low) => AddressRead::Address(Addr::V6(high, low)),
+                None => Err(section::placeless(Fault::BadRequest)),
+                Some((high, low)) => Ok(Addr::V6(high, low)),
             }
         }
-        NumberRead::Value(n) => AddressRead::Address(Addr::V4(n)),
+        Some(n) => Ok(Addr::V4(n)),
     }
 }

@@ -1,5 +1,6 @@
 -- Laws of writing addresses: hex groups in fewest digits, groups and fields one after the other, and how long a text can be.
 -- Assumes nothing.
+use Rattle.std.specs.Prelude.{Err, Ok}
 use Prim.Native.Nat.{ℕ, zero, suc, ◌+◌, ◌-◌, ◌*◌, ◌/◌, ◌%◌, ◌^◌, ◌<◌, ◌≤◌}
 use mathlib.Core.Bool.{Bool, true, false, not}
 use mathlib.Core.List.{List, [], ◌∷◌, ◌++◌, append_assoc, append-nil}
@@ -21,7 +22,6 @@ use Rattle.text.proofs.PasteLaws.{length_put_at, put_first}
 use Rattle.text.proofs.ScanLaws.{equal_refl, equal_lengths, take_rest}
 use Rattle.section.specs.declared.Fault.TheVariants as F
 use Rattle.section.specs.declared.Refusal.{Refusal}
-use Rattle.section.specs.declared.Written.TheVariants as W
 use Rattle.section.specs.Refusal.{placeless, written_of, lent_after}
 use Rattle.address.specs.declared.Addr.{Addr}
 use Rattle.address.specs.declared.Addr.TheVariants as A
@@ -426,15 +426,15 @@ module _ (a : Addr) (b o : List ℕ) (n : ℕ) (w : Wrote b o (addr_text a) 0 n)
 
   module _ (d : List ℕ) where
     pub write_refused : length d < n → (r : Refusal) → r ≡ placeless F.NoRoom
-        → (W.Refused r ≡ written_of (write_address a (length d))) × (d ≡ lent_after d (write_address a (length d)))
+        → (Err r ≡ written_of (write_address a (length d))) × (d ≡ lent_after d (write_address a (length d)))
     unfolding write_address
     write_refused h r e = let l : length d < length (addr_text a) = omega (arith, w.0) in
         (rw (e, lt-ltb (length d) (length (addr_text a)) l), rw (lt-ltb (length d) (length (addr_text a)) l))
 
     pub write_count : n ≤ length d → (p : List ℕ) (k : ℕ) → Wrote d p (take n o) 0 k
-        → (W.Count k ≡ written_of (write_address a (length d))) × (p ≡ lent_after d (write_address a (length d)))
+        → (Ok k ≡ written_of (write_address a (length d))) × (p ≡ lent_after d (write_address a (length d)))
     unfolding write_address after
     write_count h p k v = let l : length (addr_text a) ≤ length d = omega (arith, w.0) in
         let c : k ≡ length (addr_text a) = v.0 ∙ rw buffer_text (omega arith) in
         let f : p ≡ addr_text a ++ drop (length (addr_text a)) d = rw buffer_text at (put_first d p (take n o) v.1) in
-        (rw (le-ltb (length d) (length (addr_text a)) l) (ap (λ (m : ℕ). W.Count m) c), rw (le-ltb (length d) (length (addr_text a)) l) f)
+        (rw (le-ltb (length d) (length (addr_text a)) l) (ap (λ (m : ℕ). Ok m) c), rw (le-ltb (length d) (length (addr_text a)) l) f)

@@ -1,10 +1,10 @@
 -- Laws of the longest run of zeros among the groups of an IPv6 address. The first of the longest runs is what split_once finds at the largest
 -- number of zeros for which it finds any, so compress writes `::` for it where it has two zeros or more.
 -- Assumes nothing.
+use Rattle.std.specs.Prelude.{None, Some}
 use Prim.Native.Nat.{ℕ, zero, suc, ◌+◌, ◌-◌, ◌^◌, ◌<◌, ◌≤◌}
 use mathlib.Core.Bool.{Bool, true, false, ◌&&◌}
 use mathlib.Core.List.{List, [], ◌∷◌, ◌++◌}
-use mathlib.Core.Option.{none, some}
 use mathlib.Core.Path.{◌≡◌, refl, sym, ap, ◌∙◌}
 use native.Mathlib.Omega.{arith}
 use native.Mathlib.Nat.{zero-add}
@@ -53,11 +53,11 @@ record Longest (p : ℕ) (gs : List ℕ) (r : Run) : Type 0 where
   ahead : ℕ
   pub at : r.place ≡ p + ahead
   pub within : ahead + r.len ≤ length gs
-  pub found : 0 < r.len → split_once (replicate r.len 0) gs ≡ some (take ahead gs, drop (ahead + r.len) gs)
-  pub longer : (k : ℕ) → r.len < k → split_once (replicate k 0) gs ≡ none
+  pub found : 0 < r.len → split_once (replicate r.len 0) gs ≡ Some (take ahead gs, drop (ahead + r.len) gs)
+  pub longer : (k : ℕ) → r.len < k → split_once (replicate k 0) gs ≡ None
 
 module _ (p g : ℕ) (gs : List ℕ) (r : Run) (l : Longest (suc p) gs r) (z : ℕ) (is-z : z ≡ leading_zeros (g ∷ gs)) where
-  starts : (k : ℕ) → k ≤ z → split_once (replicate k 0) (g ∷ gs) ≡ some ([], drop k (g ∷ gs))
+  starts : (k : ℕ) → k ≤ z → split_once (replicate k 0) (g ∷ gs) ≡ Some ([], drop k (g ∷ gs))
   unfolding split_once
   starts k h = rw (length-replicate {A = ℕ} k 0, zeros_start k (g ∷ gs) (omega arith))
 
@@ -160,7 +160,7 @@ module _ (gs : List ℕ) (r : Run) (is-r : r ≡ longest_run gs) where
       by true q ih = let m : r.len < suc (suc k) = ltb-true r.len (suc (suc k)) q in rw (longest.longer (suc (suc k)) m) (ih (omega arith))
       by false q ih =
           let n : suc (suc k) ≡ r.len = omega (arith, ltb-false r.len (suc (suc k)) q) in
-          let f : split_once (replicate (suc (suc k)) 0) gs ≡ some (take r.place gs, drop (r.place + r.len) gs) =
+          let f : split_once (replicate (suc (suc k)) 0) gs ≡ Some (take r.place gs, drop (r.place + r.len) gs) =
           ap (λ (m : ℕ). split_once (replicate m 0) gs) n ∙ rw e (longest.found (omega arith)) in
           rw f
 

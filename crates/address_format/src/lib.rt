@@ -15,7 +15,7 @@ ghost use Rattle.address.specs.Address.{hex_groups, compress, text_v4, text_v6, 
 ghost use Rattle.address_format.specs.WriteCode.{colon_groups, longer_zeros, longer_run, longest_run};
 
 use address::Addr;
-use section::{Fault, Written};
+use section::Fault;
 
 // A run of zeros among the groups of an IPv6 address.
 #[derive(Clone, Copy)]
@@ -244,15 +244,15 @@ pub fn address_len(a: Addr) -> usize
 }
 
 // Writes the text of an address at the front of out; where it is longer than out, that is refused and out is as it was.
-pub fn write_address(out: &mut [u8], a: Addr) -> Written
+pub fn write_address(out: &mut [u8], a: Addr) -> Result<usize, Refusal>
     ensures answer { result ≡ written_of (write_address a (length out.old)) }
     ensures holds { out.new ≡ lent_after out.old (write_address a (length out.old)) }
 {
     let mut buffer = [0u8; 39];
     let n = put_address(&mut buffer, 0, a);
     if out.len() < n {
-        return Written::Refused(section::placeless(Fault::NoRoom));
+        return Err(section::placeless(Fault::NoRoom));
     }
     let count = text::put(out, 0, &buffer[..n]);
-    Written::Count(count)
+    Ok(count)
 }

@@ -1,9 +1,9 @@
 -- Laws of the answers: their kinds, and where they lead.
 -- Assumes nothing.
+use Rattle.std.specs.Prelude.{Some}
 use Prim.Native.Nat.{ℕ, zero, suc, ◌+◌, ◌-◌, ◌<◌, ◌≤◌}
 use mathlib.Core.Bool.{Bool, true, false, ◌&&◌}
 use mathlib.Core.List.{List, [], ◌∷◌, map}
-use mathlib.Core.Option.{some}
 use mathlib.Core.Path.{◌≡◌, refl, sym, ap, ◌∙◌}
 use native.Mathlib.Numerals.{add-one}
 use native.Mathlib.Omega.{arith}
@@ -36,7 +36,7 @@ unfolding each all
 each_access [] = refl
 each_access (b ∷ s) = rw (access_of_lem b, each_access s) (by (is_access b) (all is_access s))
   where
-    by : (t u : Bool) → (given t (access_by b) >>= λ y. given u (map access_by s) >>= λ ys. some (y ∷ ys)) ≡ given (t && u) (access_by b ∷ map access_by s)
+    by : (t u : Bool) → (given t (access_by b) >>= λ y. given u (map access_by s) >>= λ ys. Some (y ∷ ys)) ≡ given (t && u) (access_by b ∷ map access_by s)
     by true true = refl
     by true false = refl
     by false u = refl

@@ -1,5 +1,6 @@
 -- Laws of the names: their parts one after the other, how long they are, and which test has which.
 -- Assumes nothing.
+use Rattle.std.specs.Prelude.{Err, Ok}
 use Prim.Native.Nat.{ℕ, zero, suc, ◌+◌, ◌*◌, ◌/◌, ◌^◌, ◌<◌, ◌≤◌}
 use mathlib.Core.Bool.{Bool, true, false, not, ◌&&◌, ◌||◌}
 use mathlib.Core.List.{List, [], ◌∷◌, ◌++◌}
@@ -18,7 +19,6 @@ use Rattle.text.proofs.Numeral.{length_numeral}
 use Rattle.text.proofs.PasteLaws.{length_put_at, put_first}
 use Rattle.section.specs.declared.Fault.TheVariants as F
 use Rattle.section.specs.declared.Refusal.{Refusal}
-use Rattle.section.specs.declared.Written.TheVariants as W
 use Rattle.section.specs.Refusal.{placeless, within_room, written_of, lent_after}
 use Rattle.address.specs.declared.Addr.{Addr}
 use Rattle.address.specs.declared.Addr.TheVariants as A
@@ -256,14 +256,14 @@ module _ (t b o : List ℕ) (n : ℕ) (w : Wrote b o t 0 n) where
 
   module _ (d : List ℕ) where
     pub name_refused : length d < n → (r : Refusal) → r ≡ placeless F.NoRoom
-        → (W.Refused r ≡ written_of (within_room (length d) t)) × (d ≡ lent_after d (within_room (length d) t))
+        → (Err r ≡ written_of (within_room (length d) t)) × (d ≡ lent_after d (within_room (length d) t))
     name_refused h r e = let l : length d < length t = omega (arith, w.0) in (rw (e, lt-ltb (length d) (length t) l), rw (lt-ltb (length d) (length t) l))
 
     pub name_count : n ≤ length d → (p : List ℕ) (k : ℕ) → Wrote d p (take n o) 0 k
-        → (W.Count k ≡ written_of (within_room (length d) t)) × (p ≡ lent_after d (within_room (length d) t))
+        → (Ok k ≡ written_of (within_room (length d) t)) × (p ≡ lent_after d (within_room (length d) t))
     unfolding after
     name_count h p k v =
         let l : length t ≤ length d = omega (arith, w.0) in
         let c : k ≡ length t = v.0 ∙ rw buffer_text (omega arith) in
         let f : p ≡ t ++ drop (length t) d = rw buffer_text at (put_first d p (take n o) v.1) in
-        (rw (le-ltb (length d) (length t) l) (ap (λ (m : ℕ). W.Count m) c), rw (le-ltb (length d) (length t) l) f)
+        (rw (le-ltb (length d) (length t) l) (ap (λ (m : ℕ). Ok m) c), rw (le-ltb (length d) (length t) l) f)

@@ -1,9 +1,9 @@
 -- Laws of the call: where the answers lead along the tests, and what each check follows from.
 -- Assumes nothing.
+use Rattle.std.specs.Prelude.{Err, Ok, Result, Some}
 use Prim.Native.Nat.{ℕ, zero, suc, ◌+◌, ◌*◌, ◌/◌, ◌^◌, ◌<◌, ◌≤◌}
 use mathlib.Core.Bool.{Bool, true, false, not, ◌&&◌, ◌||◌}
 use mathlib.Core.List.{List, [], ◌∷◌, map}
-use mathlib.Core.Option.{some}
 use mathlib.Core.Path.{◌≡◌, refl, sym, ap, ◌∙◌}
 use native.Mathlib.Omega.{arith}
 use native.Mathlib.Nat.{zero-add}
@@ -15,9 +15,7 @@ use Rattle.text.specs.Basics.{when◌then◌else◌, given, all}
 use Rattle.text.specs.Basics.{◌>>=◌ as ◌and_then◌}
 use Rattle.section.specs.declared.Fault.TheVariants as F
 use Rattle.section.specs.declared.Refusal.{Refusal}
-use Rattle.section.specs.declared.Written.{Written}
-use Rattle.section.specs.declared.Written.TheVariants as W
-use Rattle.section.specs.Refusal.{Outcome, refused, answered, placeless, ◌>>=◌, fitting, within_room, written_of, lent_after}
+use Rattle.section.specs.Refusal.{Outcome, placeless, ◌>>=◌, fitting, within_room, written_of, lent_after}
 use Rattle.address.specs.declared.Addr.{Addr}
 use Rattle.address.specs.declared.Addr.TheVariants as A
 use Rattle.address.specs.Address.{addr_case}
@@ -63,10 +61,10 @@ more_left y s = ne_eqb (length (y ∷ s)) 0 (λ e. omega (arith, e))
 
 module _ (p : ℕ) (a : Addr) (uid room : ℕ) where
   -- an outcome fits any room
-  granted_fits : with_room room granted ≡ answered granted
+  granted_fits : with_room room granted ≡ Ok granted
   granted_fits = rw (le-ltb room 0 (omega arith))
 
-  denied_fits : with_room room denied ≡ answered denied
+  denied_fits : with_room room denied ≡ Ok denied
   denied_fits = rw (le-ltb room 0 (omega arith))
 
   -- the answers s, from the test i on
@@ -105,20 +103,20 @@ module _ (p : ℕ) (a : Addr) (uid room : ℕ) where
 
 -- ## What a name becomes
 
-pub is_test : (w : Written) (r : Refusal) → w ≡ W.Refused r → N.Refused r ≡ test_of w
+pub is_test : (w : Result ℕ Refusal) (r : Refusal) → w ≡ Err r → N.Refused r ≡ test_of w
 is_test w r e = rw e
 
-pub is_test_count : (w : Written) (n : ℕ) → w ≡ W.Count n → N.Test n ≡ test_of w
+pub is_test_count : (w : Result ℕ Refusal) (n : ℕ) → w ≡ Ok n → N.Test n ≡ test_of w
 is_test_count w n e = rw e
 
-pub is_read : (w : Written) (r : Refusal) → w ≡ W.Refused r → N.Refused r ≡ read_of w
+pub is_read : (w : Result ℕ Refusal) (r : Refusal) → w ≡ Err r → N.Refused r ≡ read_of w
 is_read w r e = rw e
 
-pub is_read_count : (w : Written) (n : ℕ) → w ≡ W.Count n → N.Read n ≡ read_of w
+pub is_read_count : (w : Result ℕ Refusal) (n : ℕ) → w ≡ Ok n → N.Read n ≡ read_of w
 is_read_count w n e = rw e
 
 -- a name t that was written into d, as the test and as the byuid file
-module _ (d d' t : List ℕ) (w : Written) (is-w : w ≡ written_of (within_room (length d) t)) (holds : d' ≡ lent_after d (within_room (length d) t)) (x : Next) where
+module _ (d d' t : List ℕ) (w : Result ℕ Refusal) (is-w : w ≡ written_of (within_room (length d) t)) (holds : d' ≡ lent_after d (within_room (length d) t)) (x : Next) where
   abbrev Becomes : Outcome Step → Type 0
   Becomes o = (x ≡ next_of o) × (d' ≡ lent_after d (name_written o))
 
@@ -142,13 +140,13 @@ module _ (t : Turn) (p : ℕ) (a : Addr) (uid : ℕ) (d : List ℕ) where
   abbrev Next_is : Next → List ℕ → Type 0
   Next_is x d' = (x ≡ next_of (step_at t p a uid (length d))) × (d' ≡ lent_after d (name_written (step_at t p a uid (length d))))
 
-  pub step_test : (k : ℕ) → t ≡ T.Test k → (f : File) → f ≡ file_of k → (d' : List ℕ) (w : Written)
+  pub step_test : (k : ℕ) → t ≡ T.Test k → (f : File) → f ≡ file_of k → (d' : List ℕ) (w : Result ℕ Refusal)
       → (w ≡ written_of (within_room (length d) (name_for f p a uid))) × (d' ≡ lent_after d (within_room (length d) (name_for f p a uid)))
       → (x : Next) → x ≡ test_of w → Next_is x d'
   unfolding step_at
   step_test k e f is_f d' w h x is_x = rw (e, ← is_f) (becomes_test d d' (name_for f p a uid) w h.0 h.1 x is_x)
 
-  pub step_read : t ≡ T.Byuid → (d' : List ℕ) (w : Written)
+  pub step_read : t ≡ T.Byuid → (d' : List ℕ) (w : Result ℕ Refusal)
       → (w ≡ written_of (within_room (length d) (name_for File.Uid p a uid))) × (d' ≡ lent_after d (within_room (length d) (name_for File.Uid p a uid)))
       → (x : Next) → x ≡ read_of w → Next_is x d'
   unfolding step_at
@@ -183,22 +181,22 @@ module _ (s : List ℕ) (p : ℕ) (a : Addr) (uid : ℕ) where
   -- what follows the checks of 13
   abbrev further : ℕ → Outcome Step
   further room =
-      when not (is_ruled p uid) then answered not_ruled
-      else when left_out a then refused (placeless F.DottedAddress)
+      when not (is_ruled p uid) then Ok not_ruled
+      else when left_out a then Err (placeless F.DottedAddress)
       else (walk (by_uid p uid) (map access_by s) (tests p a) >>= with_room room)
 
   abbrev after_fit : ℕ → Asked → Outcome Step
   after_fit room q =
-      when not (is_ruled q.wanted.port q.wanted.uid) then answered not_ruled
-      else when left_out q.wanted.address then refused (placeless F.DottedAddress)
+      when not (is_ruled q.wanted.port q.wanted.uid) then Ok not_ruled
+      else when left_out q.wanted.address then Err (placeless F.DottedAddress)
       else (walk (by_uid q.wanted.port q.wanted.uid) q.answers (tests q.wanted.port q.wanted.address) >>= with_room room)
 
-  checked : (room : ℕ) → next_step (asking s (bind p a uid)) room ≡ (when all is_access s && known then further room else refused (placeless F.BadRequest))
+  checked : (room : ℕ) → next_step (asking s (bind p a uid)) room ≡ (when all is_access s && known then further room else Err (placeless F.BadRequest))
   unfolding next_step
   checked room = rw (each_access s) (by (all is_access s))
     where
-      by : (t : Bool) → fitting address_known (given t (map access_by s) and_then λ xs. some (asked (bind p a uid) xs)) (after_fit room)
-          ≡ (when t && known then further room else refused (placeless F.BadRequest))
+      by : (t : Bool) → fitting address_known (given t (map access_by s) and_then λ xs. Some (asked (bind p a uid) xs)) (after_fit room)
+          ≡ (when t && known then further room else Err (placeless F.BadRequest))
       by true = refl
       by false = refl
 

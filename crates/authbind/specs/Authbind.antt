@@ -5,14 +5,13 @@
 --   next_step o room    == the call: every check, then what comes next for what is asked in o
 --   next_of o           == the same as the code answers it
 -- Assumes nothing: these are definitions.
-use Rattle.std.specs.Prelude.{ℕ, ◌/◌, ◌^◌, Bool, true, false, not, ◌&&◌, ◌||◌, List, [], ◌∷◌, ◌++◌, length, ltb, eqb}
+use Rattle.std.specs.Prelude.{ℕ, ◌/◌, ◌^◌, Bool, true, false, not, ◌&&◌, ◌||◌, List, [], ◌∷◌, ◌++◌, length, ltb, eqb, Err, Ok, Option, Some}
 use Prim.Native.String.{String}
-use Rattle.std.proofs.Math.Option.{Option, some}
 use Rattle.text.specs.Basics.{when◌then◌else◌, ◌>>=◌, given, each}
 use Rattle.text.specs.Text.{bytes, equal, in_range}
 use Rattle.text.specs.Number.{to_digits, decimal}
 use Rattle.section.specs.declared.Fault.TheVariants as F
-use Rattle.section.specs.Refusal.{Outcome, refused, answered, placeless, refusing, fitting, ◌>>=◌ as ◌then◌}
+use Rattle.section.specs.Refusal.{Outcome, placeless, refusing, fitting, ◌>>=◌ as ◌then◌}
 use Rattle.address.specs.declared.Addr.{Addr}
 use Rattle.address.specs.Address.{addr_case, hex_groups, text_v4, text_v6, addr_text}
 use Rattle.byuid.specs.Byuid.{Bind, is_ruled}
@@ -67,14 +66,14 @@ name_of not_ruled = []
 -- ""Allowed" grants, "other" refuses, "absent" goes on." 19: "any answer after the one that settles the matter or after the last test
 -- before byuid"
 unfoldable pub walk : List ℕ → List Access → List (List ℕ) → Outcome Step
-walk byuid [] [] = answered (read byuid)
-walk byuid [] (n ∷ ns) = answered (test n)
-walk byuid (x ∷ xs) [] = refused (placeless F.LateAnswer)
+walk byuid [] [] = Ok (read byuid)
+walk byuid [] (n ∷ ns) = Ok (test n)
+walk byuid (x ∷ xs) [] = Err (placeless F.LateAnswer)
 walk byuid (Absent ∷ xs) (n ∷ ns) = walk byuid xs ns
-walk byuid (Allowed ∷ []) (n ∷ ns) = answered granted
-walk byuid (Allowed ∷ x ∷ xs) (n ∷ ns) = refused (placeless F.LateAnswer)
-walk byuid (Other ∷ []) (n ∷ ns) = answered denied
-walk byuid (Other ∷ x ∷ xs) (n ∷ ns) = refused (placeless F.LateAnswer)
+walk byuid (Allowed ∷ []) (n ∷ ns) = Ok granted
+walk byuid (Allowed ∷ x ∷ xs) (n ∷ ns) = Err (placeless F.LateAnswer)
+walk byuid (Other ∷ []) (n ∷ ns) = Ok denied
+walk byuid (Other ∷ x ∷ xs) (n ∷ ns) = Err (placeless F.LateAnswer)
 
 -- ## The call
 
@@ -88,10 +87,10 @@ asked b xs = record { wanted = b; answers = xs }
 
 -- "(allowed, absent, other)": a byte for each; none where one is outside these kinds
 abbrev pub access_of : ℕ → Option Access
-access_of n = when eqb n 0 then some Absent else when eqb n 1 then some Allowed else given (eqb n 2) Other
+access_of n = when eqb n 0 then Some Absent else when eqb n 1 then Some Allowed else given (eqb n 2) Other
 
 abbrev pub asking : List ℕ → Bind → Option Asked
-asking answers b = each access_of answers >>= λ xs. some (asked b xs)
+asking answers b = each access_of answers >>= λ xs. Some (asked b xs)
 
 -- an unknown address is 13, as it is for byuid
 abbrev pub address_known : Asked → Bool
@@ -112,20 +111,20 @@ with_room room s = refusing (given (ltb room (length (name_of s))) (placeless F.
 unfoldable pub next_step : Option Asked → ℕ → Outcome Step
 next_step o room = fitting address_known o λ q.
     let b : Bind = q.wanted in
-    when not (is_ruled b.port b.uid) then answered not_ruled
-    else when left_out b.address then refused (placeless F.DottedAddress)
+    when not (is_ruled b.port b.uid) then Ok not_ruled
+    else when left_out b.address then Err (placeless F.DottedAddress)
     else (walk (by_uid b.port b.uid) q.answers (tests b.port b.address) then with_room room)
 
 -- what the lent output gets: the name, or nothing
 abbrev pub name_written : Outcome Step → Outcome (List ℕ)
-name_written (refused r) = refused r
-name_written (answered s) = answered (name_of s)
+name_written (Err r) = Err r
+name_written (Ok s) = Ok (name_of s)
 
 -- the outcome as the call answers it
 abbrev pub next_of : Outcome Step → Next
-next_of (refused r) = N.Refused r
-next_of (answered (test name)) = N.Test (length name)
-next_of (answered (read name)) = N.Read (length name)
-next_of (answered granted) = N.Granted
-next_of (answered denied) = N.Denied
-next_of (answered not_ruled) = N.NotRuled
+next_of (Err r) = N.Refused r
+next_of (Ok (test name)) = N.Test (length name)
+next_of (Ok (read name)) = N.Read (length name)
+next_of (Ok granted) = N.Granted
+next_of (Ok denied) = N.Denied
+next_of (Ok not_ruled) = N.NotRuled

@@ -6,14 +6,12 @@
 --   name_for f p a uid      == the name of the file f
 --   step_at t p a uid room  == what comes next, where the answers lead to t
 -- Assumes nothing: these are definitions.
-use Rattle.std.specs.Prelude.{ℕ, suc, Bool, true, false, not, List, [], ◌∷◌, ◌++◌, length, leb, ltb, eqb}
+use Rattle.std.specs.Prelude.{ℕ, suc, Bool, true, false, not, List, [], ◌∷◌, ◌++◌, length, leb, ltb, eqb, Err, Ok, Result}
 use Rattle.text.specs.Basics.{when◌then◌else◌}
 use Rattle.text.specs.Text.{bytes, equal, in_range}
 use Rattle.text.specs.Number.{decimal}
 use Rattle.section.specs.declared.Fault.TheVariants as F
-use Rattle.section.specs.declared.Written.{Written}
-use Rattle.section.specs.declared.Written.TheVariants as W
-use Rattle.section.specs.Refusal.{Outcome, refused, answered, placeless}
+use Rattle.section.specs.Refusal.{Outcome, placeless}
 use Rattle.address.specs.declared.Addr.{Addr}
 use Rattle.address.specs.Address.{addr_case, text_v4, text_v6, addr_text}
 use Rattle.authbind.specs.declared.Access.{Access}
@@ -84,17 +82,17 @@ name_for f p a uid = folder_of f ++ (mark_for p ++ (address_in f a ++ decimal (n
 -- ## What comes next
 
 -- a name that was written, of a file to test and of the byuid file
-abbrev pub test_of : Written → Next
-test_of (W.Refused r) = N.Refused r
-test_of (W.Count n) = N.Test n
+abbrev pub test_of : Result ℕ Refusal → Next
+test_of (Err r) = N.Refused r
+test_of (Ok n) = N.Test n
 
-abbrev pub read_of : Written → Next
-read_of (W.Refused r) = N.Refused r
-read_of (W.Count n) = N.Read n
+abbrev pub read_of : Result ℕ Refusal → Next
+read_of (Err r) = N.Refused r
+read_of (Ok n) = N.Read n
 
 unfoldable pub step_at : Turn → ℕ → Addr → ℕ → ℕ → Outcome Step
 step_at (T.Test k) p a uid room = with_room room (test (name_for (file_of k) p a uid))
 step_at T.Byuid p a uid room = with_room room (read (name_for File.Uid p a uid))
-step_at T.Allowed p a uid room = answered granted
-step_at T.Other p a uid room = answered denied
-step_at T.Late p a uid room = refused (placeless F.LateAnswer)
+step_at T.Allowed p a uid room = Ok granted
+step_at T.Other p a uid room = Ok denied
+step_at T.Late p a uid room = Err (placeless F.LateAnswer)

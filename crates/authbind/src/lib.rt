@@ -13,7 +13,8 @@ ghost use Rattle.authbind.specs.Code.{is_access, settled_by, turn_at, count_test
 ghost use Rattle.authbind.specs.Code.{test_of, read_of, step_at};
 
 use address::Addr;
-use section::{Fault, Refusal, Written};
+use section::Fault;
+use section::Refusal;
 
 // What an access test found; a byte for each, in this order from 0 on.
 #[derive(Clone, Copy)]
@@ -231,7 +232,7 @@ fn put_name(out: &mut [u8], file: File, port: u16, addr: Addr, uid: u32) -> usiz
 }
 
 // Writes the name of a file at the front of out; where it is longer than out, that is refused and out is as it was.
-fn write_name(out: &mut [u8], file: File, port: u16, addr: Addr, uid: u32) -> Written
+fn write_name(out: &mut [u8], file: File, port: u16, addr: Addr, uid: u32) -> Result<usize, Refusal>
     ensures answer { result ≡ written_of (within_room (length out.old) (name_for file port addr uid)) }
     ensures holds { out.new
         ≡ lent_after out.old (within_room (length out.old) (name_for file port addr uid)) }
@@ -239,27 +240,27 @@ fn write_name(out: &mut [u8], file: File, port: u16, addr: Addr, uid: u32) -> Wr
     let mut buffer = [0u8; 72];
     let n = put_name(&mut buffer, file, port, addr, uid);
     if out.len() < n {
-        return Written::Refused(section::placeless(Fault::NoRoom));
+        return Err(section::placeless(Fault::NoRoom));
     }
     let count = text::put(out, 0, &buffer[..n]);
-    Written::Count(count)
+    Ok(count)
 }
 
-fn as_test(name: Written) -> Next
+fn as_test(name: Result<usize, Refusal>) -> Next
     ensures { result ≡ test_of name }
 {
     match name {
-        Written::Refused(refusal) => Next::Refused(refusal),
-        Written::Count(n) => Next::Test(n),
+        Err(refusal) => Next::Refused(refusal),
+        Ok(n) => Next::Test(n),
     }
 }
 
-fn as_read(name: Written) -> Next
+fn as_read(name: Result<usize, Refusal>) -> Next
     ensures { result ≡ read_of name }
 {
     match name {
-        Written::Refused(refusal) => Next::Refused(refusal),
-        Written::Count(n) => Next::Read(n),
+        Err(refusal) => Next::Refused(refusal),
+        Ok(n) => Next::Read(n),
     }
 }
 

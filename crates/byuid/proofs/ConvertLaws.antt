@@ -5,10 +5,10 @@
 --   split_convert_text, convert_line_kept == its lines are those of the text, and only the retired ones are changed
 --   convert_text_same, convert_text_again == a text without such lines stays, and so does a converted one
 -- Assumes nothing.
+use Rattle.std.specs.Prelude.{Err, None, Ok, Option, Some}
 use Prim.Native.Nat.{ℕ, suc, ◌+◌, ◌-◌, ◌*◌, ◌^◌, ◌<◌, ◌≤◌}
 use mathlib.Core.Bool.{Bool, true, false, not, ◌&&◌, ◌||◌, true≢false, and-false}
 use mathlib.Core.List.{List, [], ◌∷◌, ◌++◌, map, append_assoc, append-nil}
-use mathlib.Core.Option.{Option, none, some}
 use mathlib.Core.Path.{◌≡◌, refl, sym, ap, ap₂, ◌∙◌}
 use native.Mathlib.Omega.{arith}
 use native.Mathlib.Numerals.{add-one}
@@ -25,8 +25,7 @@ use Rattle.text.proofs.PasteLaws.{length_put_at, after_nil, length_after, text_m
 use Rattle.text.proofs.ScanLaws.{take_rest, split_mark, split_no_mark, split_once_mark, split_once_no_mark}
 use Rattle.section.specs.declared.Fault.TheVariants as F
 use Rattle.section.specs.declared.Refusal.{Refusal}
-use Rattle.section.specs.declared.Written.TheVariants as W
-use Rattle.section.specs.Refusal.{Outcome, refused, answered, refusal, placeless, ◌before◌, fitting, written_of, lent_after}
+use Rattle.section.specs.Refusal.{Outcome, refusal, placeless, ◌before◌, fitting, written_of, lent_after}
 use Rattle.section.specs.Section as S
 use Rattle.section.specs.Section.{over_limit}
 use Rattle.address.specs.declared.Addr.{Addr}
@@ -126,12 +125,12 @@ module _ (p : ℕ) (l : List ℕ) where
   ignored e n = by (read_colon_form l) e
     where
       by : (o : Option (Range × Range)) → holds (λ g. leb g.1.0 g.1.1) o ≡ false → within p o n ≡ false
-      by none k = refl
-      by (some g) k = rw (over_max g.1.0 g.1.1 p k) (and-false (in_range g.0.0 g.0.1 n))
+      by None k = refl
+      by (Some g) k = rw (over_max g.1.0 g.1.1 p k) (and-false (in_range g.0.0 g.0.1 n))
 
   or_colon : (o : Option (Range × Range)) (n : ℕ) → within p (read_colon_form l) n ≡ false → within p o n ≡ within p (o or_else read_colon_form l) n
-  or_colon none n e = sym e
-  or_colon (some g) n e = refl
+  or_colon None n e = sym e
+  or_colon (Some g) n e = refl
 
   granted_kept : is_retired l ≡ false → (a : Addr) → line_grants a p l ≡ line_granted a p l
   unfolding line_grants line_granted
@@ -164,28 +163,28 @@ pub split_convert_text : (t : List ℕ) → split "\n" (convert_text t) ≡ map 
 unfolding convert_text
 split_convert_text t =
     let some : 0 < length (map convert_line (split "\n" t)) = omega (arith, length-map (split "\n" t) convert_line, split_some "\n" t) in
-    split_intercalate "\n" (map convert_line (split "\n" t)) some (all_converted (split "\n" t) (split_all_free "\n" t))
+    split_intercalate "\n" (map convert_line (split "\n" t)) Some (all_converted (split "\n" t) (split_all_free "\n" t))
 
-none_retired : (n : ℕ) (ls : List (List ℕ)) → retired_fault n (map convert_line ls) ≡ none
+none_retired : (n : ℕ) (ls : List (List ℕ)) → retired_fault n (map convert_line ls) ≡ None
 unfolding retired_fault
 none_retired n [] = refl
 none_retired n (l ∷ ls) = rw (is_retired_convert_line l) (none_retired (n + 1) ls)
 
-pub byuid_fault_convert_text : (t : List ℕ) → byuid_fault (convert_text t) ≡ none
+pub byuid_fault_convert_text : (t : List ℕ) → byuid_fault (convert_text t) ≡ None
 unfolding byuid_fault
 byuid_fault_convert_text t = rw (split_convert_text t) (none_retired 1 (split "\n" t))
 
-unretired_same : (n : ℕ) (ls : List (List ℕ)) → retired_fault n ls ≡ none → map convert_line ls ≡ ls
+unretired_same : (n : ℕ) (ls : List (List ℕ)) → retired_fault n ls ≡ None → map convert_line ls ≡ ls
 unfolding retired_fault
 unretired_same n [] e = refl
 unretired_same n (l ∷ ls) e = by (is_retired l) refl e (λ h. unretired_same (n + 1) ls h)
   where
-    by : (b : Bool) → is_retired l ≡ b → (when b then some (refusal F.RetiredForm (S.byuid).order n) else retired_fault (n + 1) ls) ≡ none
-        → (retired_fault (n + 1) ls ≡ none → map convert_line ls ≡ ls) → convert_line l ∷ map convert_line ls ≡ l ∷ ls
+    by : (b : Bool) → is_retired l ≡ b → (when b then Some (refusal F.RetiredForm (S.byuid).order n) else retired_fault (n + 1) ls) ≡ None
+        → (retired_fault (n + 1) ls ≡ None → map convert_line ls ≡ ls) → convert_line l ∷ map convert_line ls ≡ l ∷ ls
     by true q h ih = let z : ◌≡◌ {A = ℕ} 0 1 = cc in absurd (omega arith)
     by false q h ih = rw (convert_line_kept l q, ih h)
 
-pub convert_text_same : (t : List ℕ) → byuid_fault t ≡ none → convert_text t ≡ t
+pub convert_text_same : (t : List ℕ) → byuid_fault t ≡ None → convert_text t ≡ t
 unfolding byuid_fault convert_text
 convert_text_same t e = rw (unretired_same 1 (split "\n" t) e) (intercalate_split "\n" t)
 
@@ -220,16 +219,16 @@ unfolding byuid_decision
 decided t m p a uid = rw (split_convert_text t, any_converted a p (split "\n" t))
 
 fitted : (t : List ℕ) (o : Option FileBind)
-    → fitting address_known o (λ b. answered (byuid_decision (convert_text t) b.mark b.asked.port b.asked.address b.asked.uid))
-    ≡ fitting address_known o (λ b. answered (decision_before t b.mark b.asked.port b.asked.address b.asked.uid))
-fitted t none = refl
-fitted t (some b) =
-    ap (λ (d : Decision). when address_known b then answered d else refused (placeless F.BadRequest))
+    → fitting address_known o (λ b. Ok (byuid_decision (convert_text t) b.mark b.asked.port b.asked.address b.asked.uid))
+    ≡ fitting address_known o (λ b. Ok (decision_before t b.mark b.asked.port b.asked.address b.asked.uid))
+fitted t None = refl
+fitted t (Some b) =
+    ap (λ (d : Decision). when address_known b then Ok d else Err (placeless F.BadRequest))
     (decided t b.mark b.asked.port b.asked.address b.asked.uid)
 
-alone : (g : Option Refusal) (c : Outcome Decision) → ((g or_else none) before c) ≡ (g before c)
-alone none c = refl
-alone (some r) c = refl
+alone : (g : Option Refusal) (c : Outcome Decision) → ((g or_else None) before c) ≡ (g before c)
+alone None c = refl
+alone (Some r) c = refl
 
 -- the decision on a converted text is the one on the text before request 11
 pub decide_byuid_convert_text : (t : List ℕ) (o : Option FileBind) → decide_byuid (convert_text t) o ≡ decided_before t o
@@ -258,18 +257,18 @@ byte_exchanged d x y at k b c h e =
         shape b = simp append_assoc
 
 -- the parts around a mark are one pair
-parts_same : (o : Option (List ℕ × List ℕ)) (a b c d : List ℕ) → o ≡ some (a, b) → o ≡ some (c, d) → (a ≡ c) × (b ≡ d)
-parts_same none a b c d e k = let z : ◌≡◌ {A = ℕ} 0 1 = cc in absurd (omega arith)
-parts_same (some p) a b c d e k =
+parts_same : (o : Option (List ℕ × List ℕ)) (a b c d : List ℕ) → o ≡ Some (a, b) → o ≡ Some (c, d) → (a ≡ c) × (b ≡ d)
+parts_same None a b c d e k = let z : ◌≡◌ {A = ℕ} 0 1 = cc in absurd (omega arith)
+parts_same (Some p) a b c d e k =
     let q : p ≡ (a, b) = cc e in
     let r : p ≡ (c, d) = cc k in (
       sym (ap (λ (p : List ℕ × List ℕ). p.0) q) ∙ ap (λ (p : List ℕ × List ℕ). p.0) r,
       sym (ap (λ (p : List ℕ × List ℕ). p.1) q) ∙ ap (λ (p : List ℕ × List ℕ). p.1) r,
     )
 
-not_none : (o : Option (List ℕ × List ℕ)) (p : List ℕ × List ℕ) → o ≡ none → o ≡ some p → ⊥
-not_none none p e k = let z : ◌≡◌ {A = ℕ} 0 1 = cc in omega arith
-not_none (some q) p e k = let z : ◌≡◌ {A = ℕ} 0 1 = cc in omega arith
+not_none : (o : Option (List ℕ × List ℕ)) (p : List ℕ × List ℕ) → o ≡ None → o ≡ Some p → ⊥
+not_none None p e k = let z : ◌≡◌ {A = ℕ} 0 1 = cc in omega arith
+not_none (Some q) p e k = let z : ◌≡◌ {A = ℕ} 0 1 = cc in omega arith
 
 -- the places of the two marks
 module _ (l : List ℕ) (x : Bool) (is_x : x ≡ is_retired l) (e : x ≡ true) (i : ℕ) (is-i : i ≡ index_of 58 l) where
@@ -440,17 +439,17 @@ module _ (d t o : List ℕ) (at : ℕ) (w : Converting d t o at) where
 
 module _ (t out : List ℕ) (x : Bool) (is_x : x ≡ ltb 8192 (length t)) where
   pub convert_over : x ≡ true → (r : Refusal) → r ≡ refusal F.OverLimit 3 0
-      → (W.Refused r ≡ written_of (convert t (length out))) × (out ≡ lent_after out (convert t (length out)))
+      → (Err r ≡ written_of (convert t (length out))) × (out ≡ lent_after out (convert t (length out)))
   unfolding convert
   convert_over e r is-r = rw (← is_x, e, is-r) (refl, refl)
 
   module _ (e : x ≡ false) where
     pub convert_no_room : length out < length t → (r : Refusal) → r ≡ placeless F.NoRoom
-        → (W.Refused r ≡ written_of (convert t (length out))) × (out ≡ lent_after out (convert t (length out)))
+        → (Err r ≡ written_of (convert t (length out))) × (out ≡ lent_after out (convert t (length out)))
     unfolding convert
     convert_no_room h r is-r = rw (← is_x, e, length_convert_text t, lt-ltb (length out) (length t) h, is-r) (refl, refl)
 
     pub convert_count : length t ≤ length out → (o : List ℕ) → o ≡ after (convert_text t) out
-        → (W.Count (length t) ≡ written_of (convert t (length out))) × (o ≡ lent_after out (convert t (length out)))
+        → (Ok (length t) ≡ written_of (convert t (length out))) × (o ≡ lent_after out (convert t (length out)))
     unfolding convert after
-    convert_count h o is-o = rw (← is_x, e, length_convert_text t, le-ltb (length out) (length t) h) (ap W.Count (sym (length_convert_text t)), is-o)
+    convert_count h o is-o = rw (← is_x, e, length_convert_text t, le-ltb (length out) (length t) h) (ap Ok (sym (length_convert_text t)), is-o)

@@ -1,9 +1,9 @@
 -- Laws of a line's forms: what is found at its first mark, and what each answer follows from.
 -- Assumes nothing.
+use Rattle.std.specs.Prelude.{None, Option, Some}
 use Prim.Native.Nat.{ℕ, ◌+◌, ◌-◌, ◌*◌, ◌^◌, ◌<◌, ◌≤◌}
 use mathlib.Core.Bool.{Bool, true, false, ◌&&◌}
 use mathlib.Core.List.{List, [], ◌∷◌}
-use mathlib.Core.Option.{Option, none, some}
 use mathlib.Core.Path.{◌≡◌, refl, sym, ap, ◌∙◌}
 use native.Mathlib.Omega.{arith}
 use borrow.Author.Tests.{lt-ltb, le-ltb, ltb-false}
@@ -13,22 +13,14 @@ use Rattle.text.specs.Basics.{when◌then◌else◌, ◌>>=◌, ◌or_else◌, h
 use Rattle.text.specs.Text.{bytes, split_once}
 use Rattle.text.specs.Number.{read_decimal}
 use Rattle.text.specs.Scan.{index_of, as_number}
-use Rattle.text.specs.declared.NumberRead.{NumberRead}
-use Rattle.text.specs.declared.NumberRead.TheVariants as N
 use Rattle.text.proofs.ScanLaws.{take_rest, split_once_mark, split_once_no_mark}
 use Rattle.address.specs.Address.{read_v4, read_v6}
 use Rattle.address.proofs.ReadLaws.{as_number_none, as_number_some}
 use Rattle.address.specs.Code.{as_v6}
 use Rattle.address.specs.declared.Addr.{Addr}
 use Rattle.address.specs.declared.Addr.TheVariants as A
-use Rattle.address.specs.declared.read.V6Read.{V6Read}
-use Rattle.address.specs.declared.read.V6Read.TheVariants as W
 use Rattle.byuid.specs.Byuid.{Range, read_range, read_net, read_port, read_comma_form, read_colon_form, within, line_grants, is_retired}
 use Rattle.byuid.specs.Code.{inside, inside_both, membership, both_of, between_of, ends_of, net_from, ports_of, in_order, form_of, held_v6, held_of, look_of}
-use Rattle.byuid.specs.declared.line.Looked.{Looked}
-use Rattle.byuid.specs.declared.line.Looked.TheVariants as L
-use Rattle.byuid.specs.declared.line.Membership.{Membership}
-use Rattle.byuid.specs.declared.line.Membership.TheVariants as H
 use Rattle.byuid.proofs.FormLaws.{v6_none, slash_range, index_free, colon_comma_form, retired_no_comma_v4, retired_no_comma_v6}
 use Rattle.byuid.proofs.NumberLaws.{as_v6_none, as_v6_some, range, alone_held, inside_one}
 
@@ -38,85 +30,85 @@ rest s i = take (length s - (i + 1)) (drop (i + 1) s)
 
 -- ## Answers
 
-pub both_is : (x y : Membership) (a b : Bool) → x ≡ H.Is a → y ≡ H.Is b → H.Is (a && b) ≡ both_of x y
+pub both_is : (x y : Option Bool) (a b : Bool) → x ≡ Some a → y ≡ Some b → Some (a && b) ≡ both_of x y
 both_is x y a b e f = rw (e, f)
 
 abbrev ranges : Range → Range → Option (Range × Range)
-ranges x y = some (x, y)
+ranges x y = Some (x, y)
 
 -- two ranges, both read
 pub both_held : (a p : ℕ) (o q : Option Range) → both_of (membership (inside a) o) (membership (inside p) q)
     ≡ membership (inside_both a p) (o >>= λ x. q >>= λ y. ranges x y)
 unfolding membership inside_both
-both_held a p none q = refl
-both_held a p (some x) none = refl
-both_held a p (some x) (some y) = refl
+both_held a p None q = refl
+both_held a p (Some x) None = refl
+both_held a p (Some x) (Some y) = refl
 
 -- ## Ranges and nets
 
-module _ (f : List ℕ → Option ℕ) (s : List ℕ) (i : ℕ) (is-i : i ≡ index_of 45 s) (n : ℕ) (r : Membership) where
+module _ (f : List ℕ → Option ℕ) (s : List ℕ) (i : ℕ) (is-i : i ≡ index_of 45 s) (n : ℕ) (r : Option Bool) where
   pub range_mark : i < length s → r ≡ membership (inside n) (ends_of f (take i s) (rest s i)) → r ≡ membership (inside n) (read_range f s)
   unfolding read_range ends_of
   range_mark h e = e ∙ rw (take_rest s (i + 1), split_once_mark 45 s i is-i h)
 
-  pub range_alone : length s ≤ i → (v : V6Read) → v ≡ as_v6 (f s) → r ≡ between_of v v n → r ≡ membership (inside n) (read_range f s)
+  pub range_alone : length s ≤ i → (v : Option (ℕ × ℕ)) → v ≡ as_v6 (f s) → r ≡ between_of v v n → r ≡ membership (inside n) (read_range f s)
   unfolding read_range
   range_alone h v is_v e = rw (split_once_no_mark 45 s i is-i h) (alone_held f s n v r is_v e)
 
 -- one number of one word
-module _ (f : List ℕ → Option ℕ) (s : List ℕ) (i : ℕ) (is-i : i ≡ index_of 45 s) (n : ℕ) (h : length s ≤ i) (v : NumberRead) (is_v : v ≡ as_number (f s)) where
-  pub one_nothing : v ≡ N.Nothing → H.Nothing ≡ membership (inside n) (read_range f s)
+module _ (f : List ℕ → Option ℕ) (s : List ℕ) (i : ℕ) (is-i : i ≡ index_of 45 s) (n : ℕ) (h : length s ≤ i) (v : Option ℕ) (is_v : v ≡ as_number (f s)) where
+  pub one_nothing : v ≡ None → None ≡ membership (inside n) (read_range f s)
   unfolding read_range membership
   one_nothing e = rw (split_once_no_mark 45 s i is-i h, as_number_none (f s) (sym is_v ∙ e))
 
-  pub one_value : (m : ℕ) → v ≡ N.Value m → H.Is (eqb m n) ≡ membership (inside n) (read_range f s)
+  pub one_value : (m : ℕ) → v ≡ Some m → Some (eqb m n) ≡ membership (inside n) (read_range f s)
   unfolding read_range
   one_value m e = rw (split_once_no_mark 45 s i is-i h, as_number_some (f s) m (sym is_v ∙ e)) (inside_one m n)
 
 module _ (w : ℕ) (f : List ℕ → Option ℕ) (s : List ℕ) (i : ℕ) (is-i : i ≡ index_of 47 s) (n : ℕ) where
-  pub net_no_mark : length s ≤ i → H.Nothing ≡ membership (inside n) (read_net w f s)
+  pub net_no_mark : length s ≤ i → None ≡ membership (inside n) (read_net w f s)
   unfolding read_net membership
   net_no_mark h = rw (split_once_no_mark 47 s i is-i h)
 
-  module _ (h : i < length s) (v : V6Read) (is_v : v ≡ as_v6 (f (take i s))) where
-    pub net_nothing : v ≡ W.Nothing → H.Nothing ≡ membership (inside n) (read_net w f s)
+  module _ (h : i < length s) (v : Option (ℕ × ℕ)) (is_v : v ≡ as_v6 (f (take i s))) where
+    pub net_nothing : v ≡ None → None ≡ membership (inside n) (read_net w f s)
     unfolding read_net membership
     net_nothing e = rw (split_once_mark 47 s i is-i h, as_v6_none (f (take i s)) (sym is_v ∙ e))
 
-    pub net_mark : (a b : ℕ) → v ≡ W.Value a b → (r : Membership) → r ≡ membership (inside n) (net_from w (a * 2 ^ 64 + b) (rest s i)) → r
+    pub net_mark : (a b : ℕ) → v ≡ Some (a, b) → (r : Option Bool) → r ≡ membership (inside n) (net_from w (a * 2 ^ 64 + b) (rest s i)) → r
         ≡ membership (inside n) (read_net w f s)
     unfolding read_net net_from
     net_mark a b e r q = q ∙ rw (take_rest s (i + 1), split_once_mark 47 s i is-i h, as_v6_some (f (take i s)) a b (sym is_v ∙ e))
 
   -- the same where the address was read as one word
-  module _ (h : i < length s) (v : NumberRead) (is_v : v ≡ as_number (f (take i s))) where
-    pub word_nothing : v ≡ N.Nothing → H.Nothing ≡ membership (inside n) (read_net w f s)
+  module _ (h : i < length s) (v : Option ℕ) (is_v : v ≡ as_number (f (take i s))) where
+    pub word_nothing : v ≡ None → None ≡ membership (inside n) (read_net w f s)
     unfolding read_net membership
     word_nothing e = rw (split_once_mark 47 s i is-i h, as_number_none (f (take i s)) (sym is_v ∙ e))
 
-    pub word_mark : (a : ℕ) → v ≡ N.Value a → (r : Membership) → r ≡ membership (inside n) (net_from w a (rest s i)) → r ≡ membership (inside n) (read_net w f s)
+    pub word_mark : (a : ℕ) → v ≡ Some a → (r : Option Bool) → r ≡ membership (inside n) (net_from w a (rest s i)) → r ≡ membership (inside n) (read_net w f s)
     unfolding read_net net_from
     word_mark a e r q = q ∙ rw (take_rest s (i + 1), split_once_mark 47 s i is-i h, as_number_some (f (take i s)) a (sym is_v ∙ e))
 
 -- of addresses with a slash only a net is read, and of others only a range
 module _ (s : List ℕ) (i : ℕ) (is-i : i ≡ index_of 47 s) (n : ℕ) where
-  pub range_v6 : length s ≤ i → (r : Membership) → r ≡ membership (inside n) (read_range read_v6 s)
+  pub range_v6 : length s ≤ i → (r : Option Bool) → r ≡ membership (inside n) (read_range read_v6 s)
       → r ≡ membership (inside n) (read_range read_v6 s or_else read_net 128 read_v6 s)
   unfolding read_net
   range_v6 h r e = e ∙ rw (split_once_no_mark 47 s i is-i h) (by (read_range read_v6 s))
     where
-      by : (o : Option Range) → membership (inside n) o ≡ membership (inside n) (o or_else none)
-      by none = refl
-      by (some g) = refl
+      by : (o : Option Range) → membership (inside n) o ≡ membership (inside n) (o or_else None)
+      by None = refl
+      by (Some g) = refl
 
-  module _ (h : i < length s) (v : V6Read) (is_v : v ≡ as_v6 (read_v6 (take i s))) where
-    only_net : read_range read_v6 s ≡ none
+  module _ (h : i < length s) (v : Option (ℕ × ℕ)) (is_v : v ≡ as_v6 (read_v6 (take i s))) where
+    only_net : read_range read_v6 s ≡ None
     only_net = slash_range read_v6 v6_none s (take i s) (drop (i + 1) s) (split_once_mark 47 s i is-i h)
 
-    pub net_v6_nothing : v ≡ W.Nothing → H.Nothing ≡ membership (inside n) (read_range read_v6 s or_else read_net 128 read_v6 s)
+    pub net_v6_nothing : v ≡ None → None ≡ membership (inside n) (read_range read_v6 s or_else read_net 128 read_v6 s)
     net_v6_nothing e = rw only_net (net_nothing 128 read_v6 s i is-i n h v is_v e)
 
-    pub net_v6 : (a b : ℕ) → v ≡ W.Value a b → (r : Membership) → r ≡ membership (inside n) (net_from 128 (a * 2 ^ 64 + b) (rest s i))
+    pub net_v6 : (a b : ℕ) → v ≡ Some (a, b) → (r : Option Bool) → r ≡ membership (inside n) (net_from 128 (a * 2 ^ 64 + b) (rest s i))
         → r ≡ membership (inside n) (read_range read_v6 s or_else read_net 128 read_v6 s)
     net_v6 a b e r q = rw only_net (net_mark 128 read_v6 s i is-i n h v is_v a b e r q)
 
@@ -131,21 +123,21 @@ comma_form w f l = refl
 
 module _ (l : List ℕ) (i : ℕ) (is-i : i ≡ index_of 44 l) (a p : ℕ) where
   module _ (f : List ℕ → Option Range) where
-    pub form_no_mark : length l ≤ i → H.Nothing ≡ membership (inside_both a p) (form_of f l)
+    pub form_no_mark : length l ≤ i → None ≡ membership (inside_both a p) (form_of f l)
     unfolding form_of membership
     form_no_mark h = rw (split_once_no_mark 44 l i is-i h)
 
-    pub form_mark : i < length l → (x y r : Membership) → x ≡ membership (inside a) (f (take i l))
+    pub form_mark : i < length l → (x y r : Option Bool) → x ≡ membership (inside a) (f (take i l))
         → y ≡ membership (inside p) (read_range read_port (rest l i)) → r ≡ both_of x y → r ≡ membership (inside_both a p) (form_of f l)
     unfolding form_of
     form_mark h x y r is_x is_y e =
         e ∙ rw (is_x, is_y, take_rest l (i + 1), split_once_mark 44 l i is-i h) (both_held a p (f (take i l)) (read_range read_port (drop (i + 1) l)))
 
   module _ (w : ℕ) (f : List ℕ → Option ℕ) where
-    pub comma_no_mark : length l ≤ i → H.Nothing ≡ membership (inside_both a p) (read_comma_form w f l)
+    pub comma_no_mark : length l ≤ i → None ≡ membership (inside_both a p) (read_comma_form w f l)
     comma_no_mark h = form_no_mark (addresses_of w f) h ∙ ap (membership (inside_both a p)) (comma_form w f l)
 
-    pub comma_mark : i < length l → (x y r : Membership) → x ≡ membership (inside a) (read_range f (take i l) or_else read_net w f (take i l))
+    pub comma_mark : i < length l → (x y r : Option Bool) → x ≡ membership (inside a) (read_range f (take i l) or_else read_net w f (take i l))
         → y ≡ membership (inside p) (read_range read_port (rest l i)) → r ≡ both_of x y → r
         ≡ membership (inside_both a p) (read_comma_form w f l)
     comma_mark h x y r is_x is_y e = form_mark (addresses_of w f) h x y r is_x is_y e ∙ ap (membership (inside_both a p)) (comma_form w f l)
@@ -158,16 +150,16 @@ module _ (s : List ℕ) (i : ℕ) (is-i : i ≡ index_of 44 s) where
   unfolding ports_of
   ports_no_mark h = rw (split_once_no_mark 44 s i is-i h)
 
-  module _ (h : i < length s) (x : NumberRead) (is_x : x ≡ as_number (read_decimal 65535 (take i s))) where
-    pub ports_no_min : x ≡ N.Nothing → false ≡ holds in_order (ports_of s)
+  module _ (h : i < length s) (x : Option ℕ) (is_x : x ≡ as_number (read_decimal 65535 (take i s))) where
+    pub ports_no_min : x ≡ None → false ≡ holds in_order (ports_of s)
     unfolding ports_of ends_of
     ports_no_min e = rw (split_once_mark 44 s i is-i h, as_number_none (read_port (take i s)) (sym is_x ∙ e))
 
-    module _ (low : ℕ) (e : x ≡ N.Value low) (y : NumberRead) (is_y : y ≡ as_number (read_decimal 65535 (rest s i))) where
+    module _ (low : ℕ) (e : x ≡ Some low) (y : Option ℕ) (is_y : y ≡ as_number (read_decimal 65535 (rest s i))) where
       after_mark : y ≡ as_number (read_port (drop (i + 1) s))
       after_mark = is_y ∙ rw (take_rest s (i + 1))
 
-      pub ports_no_max : y ≡ N.Nothing → false ≡ holds in_order (ports_of s)
+      pub ports_no_max : y ≡ None → false ≡ holds in_order (ports_of s)
       unfolding ports_of ends_of
       ports_no_max f =
           rw (
@@ -176,7 +168,7 @@ module _ (s : List ℕ) (i : ℕ) (is-i : i ≡ index_of 44 s) where
             as_number_none (read_port (drop (i + 1) s)) (sym after_mark ∙ f),
           )
 
-      pub ports_two : (high : ℕ) → y ≡ N.Value high → leb low high ≡ holds in_order (ports_of s)
+      pub ports_two : (high : ℕ) → y ≡ Some high → leb low high ≡ holds in_order (ports_of s)
       unfolding ports_of ends_of in_order
       ports_two high f =
           rw (
@@ -191,56 +183,56 @@ in_order_lem : (o : Option Range) (s : List ℕ)
     (o >>= λ a. split_once (bytes ",") s >>= λ q. read_port q.0 >>= λ low. read_port q.1 >>= λ high. ranges a (low, high))
     ≡ (is_some o && holds in_order (ports_of s))
 unfolding ports_of ends_of in_order
-in_order_lem none s = refl
-in_order_lem (some a) s = by (split_once (bytes ",") s)
+in_order_lem None s = refl
+in_order_lem (Some a) s = by (split_once (bytes ",") s)
   where
     ends : (o p : Option ℕ) → holds (λ (g : Range × Range). leb g.1.0 g.1.1) (o >>= λ low. p >>= λ high. ranges a (low, high))
         ≡ holds (λ (g : Range). leb g.0 g.1) (o >>= λ low. p >>= λ high. range low high)
-    ends none p = refl
-    ends (some low) none = refl
-    ends (some low) (some high) = refl
+    ends None p = refl
+    ends (Some low) None = refl
+    ends (Some low) (Some high) = refl
 
     by : (m : Option (List ℕ × List ℕ))
         → holds (λ (g : Range × Range). leb g.1.0 g.1.1) (m >>= λ q. read_port q.0 >>= λ low. read_port q.1 >>= λ high. ranges a (low, high))
         ≡ holds (λ (g : Range). leb g.0 g.1) (m >>= λ q. read_port q.0 >>= λ low. read_port q.1 >>= λ high. range low high)
-    by none = refl
-    by (some q) = ends (read_port q.0) (read_port q.1)
+    by None = refl
+    by (Some q) = ends (read_port q.0) (read_port q.1)
 
 module _ (l : List ℕ) (i : ℕ) (is-i : i ≡ index_of 58 l) where
   pub retired_no_mark : length l ≤ i → false ≡ is_retired l
   unfolding is_retired read_colon_form
   retired_no_mark h = rw (split_once_no_mark 58 l i is-i h)
 
-  module _ (h : i < length l) (x : Membership) (is_x : x ≡ membership (inside 0) (read_net 32 read_v4 (take i l))) where
+  module _ (h : i < length l) (x : Option Bool) (is_x : x ≡ membership (inside 0) (read_net 32 read_v4 (take i l))) where
     by_parts : is_retired l ≡ (is_some (read_net 32 read_v4 (take i l)) && holds in_order (ports_of (drop (i + 1) l)))
     unfolding is_retired read_colon_form
     by_parts = rw (split_once_mark 58 l i is-i h) (in_order_lem (read_net 32 read_v4 (take i l)) (drop (i + 1) l))
 
-    pub retired_no_net : x ≡ H.Nothing → false ≡ is_retired l
+    pub retired_no_net : x ≡ None → false ≡ is_retired l
     unfolding membership
     retired_no_net e = sym (by_parts ∙ by (read_net 32 read_v4 (take i l)) (sym is_x ∙ e))
       where
-        by : (o : Option Range) → membership (inside 0) o ≡ H.Nothing → (is_some o && holds in_order (ports_of (drop (i + 1) l))) ≡ false
-        by none k = refl
-        by (some g) k = let z : ◌≡◌ {A = ℕ} 0 1 = cc in absurd (omega arith)
+        by : (o : Option Range) → membership (inside 0) o ≡ None → (is_some o && holds in_order (ports_of (drop (i + 1) l))) ≡ false
+        by None k = refl
+        by (Some g) k = let z : ◌≡◌ {A = ℕ} 0 1 = cc in absurd (omega arith)
 
-    pub retired_ports : (b : Bool) → x ≡ H.Is b → (y : Bool) → y ≡ holds in_order (ports_of (rest l i)) → y ≡ is_retired l
+    pub retired_ports : (b : Bool) → x ≡ Some b → (y : Bool) → y ≡ holds in_order (ports_of (rest l i)) → y ≡ is_retired l
     unfolding membership
     retired_ports b e y is_y = is_y ∙ rw (take_rest l (i + 1)) (sym (by_parts ∙ by (read_net 32 read_v4 (take i l)) (sym is_x ∙ e)))
       where
-        by : (o : Option Range) → membership (inside 0) o ≡ H.Is b
+        by : (o : Option Range) → membership (inside 0) o ≡ Some b
             → (is_some o && holds in_order (ports_of (drop (i + 1) l))) ≡ holds in_order (ports_of (drop (i + 1) l))
-        by none k = let z : ◌≡◌ {A = ℕ} 0 1 = cc in absurd (omega arith)
-        by (some g) k = refl
+        by None k = let z : ◌≡◌ {A = ℕ} 0 1 = cc in absurd (omega arith)
+        by (Some g) k = refl
 
 -- ## Lines
 
 module _ (addr : Addr) (p : ℕ) (l : List ℕ) where
-  pub held_unknown : addr ≡ A.Unknown → H.Nothing ≡ held_of addr p l
+  pub held_unknown : addr ≡ A.Unknown → None ≡ held_of addr p l
   unfolding held_of
   held_unknown e = rw e
 
-  module _ (r : Membership) where
+  module _ (r : Option Bool) where
     pub held_v4 : (n : ℕ) → addr ≡ A.V4 n → r ≡ membership (inside_both n p) (read_comma_form 32 read_v4 l) → r ≡ held_of addr p l
     unfolding held_of
     held_v4 n e f = f ∙ rw e
@@ -250,19 +242,19 @@ module _ (addr : Addr) (p : ℕ) (l : List ℕ) where
     held_v6_lem a b e f = f ∙ rw e
 
 module _ (n p : ℕ) (l : List ℕ) (i : ℕ) (is-i : i ≡ index_of 58 l) where
-  pub held_colon : i < length l → (r : Membership) → r ≡ membership (inside_both n p) (read_comma_form 128 read_v6 l) → r ≡ held_v6 n p l
+  pub held_colon : i < length l → (r : Option Bool) → r ≡ membership (inside_both n p) (read_comma_form 128 read_v6 l) → r ≡ held_v6 n p l
   unfolding held_v6
   held_colon h r e = e ∙ rw (lt-ltb (index_of 58 l) (length l) (rw is-i at h))
 
-  pub held_no_colon : length l ≤ i → H.Is false ≡ held_v6 n p l
+  pub held_no_colon : length l ≤ i → Some false ≡ held_v6 n p l
   unfolding held_v6
   held_no_colon h = rw (le-ltb (index_of 58 l) (length l) (rw is-i at h))
 
 -- what a form that was read says of the request
-within_is : (p n : ℕ) (o : Option (Range × Range)) (b : Bool) → membership (inside_both n p) o ≡ H.Is b → b ≡ within p o n
+within_is : (p n : ℕ) (o : Option (Range × Range)) (b : Bool) → membership (inside_both n p) o ≡ Some b → b ≡ within p o n
 unfolding membership inside_both inside
-within_is p n none b e = let z : ◌≡◌ {A = ℕ} 0 1 = cc in absurd (omega arith)
-within_is p n (some g) b e = cc
+within_is p n None b e = let z : ◌≡◌ {A = ℕ} 0 1 = cc in absurd (omega arith)
+within_is p n (Some g) b e = cc
 
 not_retired : (l : List ℕ) → (is_retired l ≡ true → ⊥) → is_retired l ≡ false
 not_retired l n = by (is_retired l) n
@@ -272,17 +264,17 @@ not_retired l n = by (is_retired l) n
     by false n = refl
 
 -- what a line says, by what it holds as one of a form that grants
-abbrev said : Membership → List ℕ → Looked
-said (H.Is b) l = L.Grants b
-said H.Nothing l = when is_retired l then L.Retired else L.Grants false
+abbrev said : Option Bool → List ℕ → Option Bool
+said (Some b) l = Some b
+said None l = when is_retired l then None else Some false
 
 -- a line of such a form is not of the retired one
-said_read : (p n : ℕ) (l : List ℕ) (o : Option (Range × Range)) → (is_retired l ≡ true → o ≡ none)
-    → said (membership (inside_both n p) o) l ≡ (when is_retired l then L.Retired else L.Grants (within p o n))
+said_read : (p n : ℕ) (l : List ℕ) (o : Option (Range × Range)) → (is_retired l ≡ true → o ≡ None)
+    → said (membership (inside_both n p) o) l ≡ (when is_retired l then None else Some (within p o n))
 unfolding membership
-said_read p n l none f = refl
-said_read p n l (some g) f =
-    rw (not_retired l (λ t. let z : ◌≡◌ {A = ℕ} 0 1 = cc (f t) in omega arith)) (ap L.Grants (within_is p n (some g) (inside_both n p g) refl))
+said_read p n l None f = refl
+said_read p n l (Some g) f =
+    rw (not_retired l (λ t. let z : ◌≡◌ {A = ℕ} 0 1 = cc (f t) in omega arith)) (ap Some (within_is p n (Some g) (inside_both n p g) refl))
 
 said_held : (a : Addr) (p : ℕ) (l : List ℕ) → said (held_of a p l) l ≡ look_of a p l
 unfolding held_of held_v6 look_of line_grants
@@ -291,24 +283,24 @@ said_held (A.V4 n) p l = said_read p n l (read_comma_form 32 read_v4 l) (retired
 said_held (A.V6 x y) p l = by (ltb (index_of 58 l) (length l)) refl
   where
     by : (b : Bool) → ltb (index_of 58 l) (length l) ≡ b
-        → said (held_v6 (x * 2 ^ 64 + y) p l) l ≡ (when is_retired l then L.Retired else L.Grants (within p (read_comma_form 128 read_v6 l) (x * 2 ^ 64 + y)))
+        → said (held_v6 (x * 2 ^ 64 + y) p l) l ≡ (when is_retired l then None else Some (within p (read_comma_form 128 read_v6 l) (x * 2 ^ 64 + y)))
     by true e = simp e (said_read p (x * 2 ^ 64 + y) l (read_comma_form 128 read_v6 l) (retired_no_comma_v6 l))
     by false e =
         let h : length l ≤ index_of 58 l = ltb-false (index_of 58 l) (length l) e in
         simp e (rw (← (retired_no_mark l (index_of 58 l) refl h), colon_comma_form l (index_free 58 l h)))
 
-module _ (a : Addr) (p : ℕ) (l : List ℕ) (h : Membership) (is-h : h ≡ held_of a p l) where
-  pub look_is : (b : Bool) → h ≡ H.Is b → L.Grants b ≡ look_of a p l
-  look_is b e = ap (λ (m : Membership). said m l) (sym e ∙ is-h) ∙ said_held a p l
+module _ (a : Addr) (p : ℕ) (l : List ℕ) (h : Option Bool) (is-h : h ≡ held_of a p l) where
+  pub look_is : (b : Bool) → h ≡ Some b → Some b ≡ look_of a p l
+  look_is b e = ap (λ (m : Option Bool). said m l) (sym e ∙ is-h) ∙ said_held a p l
 
-  module _ (e : h ≡ H.Nothing) (x : Bool) (is_x : x ≡ is_retired l) where
-    is_said : (when x then L.Retired else L.Grants false) ≡ look_of a p l
-    is_said = rw is_x (ap (λ (m : Membership). said m l) (sym e ∙ is-h) ∙ said_held a p l)
+  module _ (e : h ≡ None) (x : Bool) (is_x : x ≡ is_retired l) where
+    is_said : (when x then None else Some false) ≡ look_of a p l
+    is_said = rw is_x (ap (λ (m : Option Bool). said m l) (sym e ∙ is-h) ∙ said_held a p l)
 
-    pub look_retired : x ≡ true → L.Retired ≡ look_of a p l
+    pub look_retired : x ≡ true → None ≡ look_of a p l
     look_retired f = rw f at is_said
 
-    pub look_nothing : x ≡ false → L.Grants false ≡ look_of a p l
+    pub look_nothing : x ≡ false → Some false ≡ look_of a p l
     look_nothing f = rw f at is_said
 
 -- a line of no bytes

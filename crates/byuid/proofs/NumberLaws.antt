@@ -1,9 +1,9 @@
 -- Laws of numbers: those of two words, ranges of them, and nets, over the width.
 -- Assumes nothing.
+use Rattle.std.specs.Prelude.{None, Option, Some}
 use Prim.Native.Nat.{ℕ, suc, ◌+◌, ◌-◌, ◌*◌, ◌/◌, ◌%◌, ◌^◌, ◌<◌, ◌≤◌}
 use mathlib.Core.Bool.{Bool, true, false, ◌&&◌, and-false}
 use mathlib.Core.List.{List}
-use mathlib.Core.Option.{Option, none, some}
 use mathlib.Core.Path.{◌≡◌, refl, sym, ap, ◌∙◌}
 use native.Mathlib.Nat.{div-add-mod', mod-lt, mul-le-mul_right, add-mul}
 use native.Mathlib.Omega.{arith}
@@ -14,17 +14,11 @@ use Rattle.text.specs.Basics.{◌>>=◌}
 use Rattle.text.specs.Text.{in_range}
 use Rattle.text.specs.Number.{read_decimal}
 use Rattle.text.specs.Scan.{as_number}
-use Rattle.text.specs.declared.NumberRead.{NumberRead}
-use Rattle.text.specs.declared.NumberRead.TheVariants as N
 use Rattle.address.specs.Address.{same_prefix}
 use Rattle.address.specs.Code.{as_v6}
-use Rattle.address.specs.declared.read.V6Read.{V6Read}
-use Rattle.address.specs.declared.read.V6Read.TheVariants as W
 use Rattle.address.proofs.ReadLaws.{read_decimal_le, as_number_none, as_number_some}
 use Rattle.byuid.specs.Byuid.{Range}
 use Rattle.byuid.specs.Code.{inside, membership, between_of, ends_of, net_from}
-use Rattle.byuid.specs.declared.line.Membership.{Membership}
-use Rattle.byuid.specs.declared.line.Membership.TheVariants as H
 
 -- ## Two words
 
@@ -45,47 +39,47 @@ module _ (a b c d : ℕ) where
   words_differ n k l = leb_iff (suc a) c (a * 2 ^ 64 + b) (c * 2 ^ 64 + d) (λ h. omega arith) (λ h. omega arith)
 
 -- what was read, by the words of the answer
-pub as_v6_none : (o : Option ℕ) → as_v6 o ≡ W.Nothing → o ≡ none
-as_v6_none none e = refl
-as_v6_none (some n) e = let z : ◌≡◌ {A = ℕ} 0 1 = cc in absurd (omega arith)
+pub as_v6_none : (o : Option ℕ) → as_v6 o ≡ None → o ≡ None
+as_v6_none None e = refl
+as_v6_none (Some n) e = let z : ◌≡◌ {A = ℕ} 0 1 = cc in absurd (omega arith)
 
-pub as_v6_some : (o : Option ℕ) (a b : ℕ) → as_v6 o ≡ W.Value a b → o ≡ some (a * 2 ^ 64 + b)
-as_v6_some none a b e = let z : ◌≡◌ {A = ℕ} 0 1 = cc in absurd (omega arith)
-as_v6_some (some n) a b e =
+pub as_v6_some : (o : Option ℕ) (a b : ℕ) → as_v6 o ≡ Some (a, b) → o ≡ Some (a * 2 ^ 64 + b)
+as_v6_some None a b e = let z : ◌≡◌ {A = ℕ} 0 1 = cc in absurd (omega arith)
+as_v6_some (Some n) a b e =
     let p : n / 2 ^ 64 ≡ a = cc in
     let q : n % 2 ^ 64 ≡ b = cc in
-    ap some (sym (div-add-mod' n (2 ^ 64)) ∙ rw (p, q))
+    ap Some (sym (div-add-mod' n (2 ^ 64)) ∙ rw (p, q))
 
 -- ## Ranges
 
-pub between_value : (min max : V6Read) (a b c d n : ℕ) (x y : Bool) → min ≡ W.Value a b → max ≡ W.Value c d
-    → x ≡ leb (a * 2 ^ 64 + b) n → y ≡ leb n (c * 2 ^ 64 + d) → H.Is (x && y) ≡ between_of min max n
+pub between_value : (min max : Option (ℕ × ℕ)) (a b c d n : ℕ) (x y : Bool) → min ≡ Some (a, b) → max ≡ Some (c, d)
+    → x ≡ leb (a * 2 ^ 64 + b) n → y ≡ leb n (c * 2 ^ 64 + d) → Some (x && y) ≡ between_of min max n
 between_value min max a b c d n x y p q h k = rw (p, q, h, k)
 
 abbrev pub range : ℕ → ℕ → Option Range
-range low high = some (low, high)
+range low high = Some (low, high)
 
 -- between what two texts write
 between_read : (o p : Option ℕ) (n : ℕ) → between_of (as_v6 o) (as_v6 p) n ≡ membership (inside n) (o >>= λ l. p >>= λ h. range l h)
 unfolding membership inside
-between_read none p n = refl
-between_read (some l) none n = refl
-between_read (some l) (some h) n = rw (div-add-mod' l (2 ^ 64), div-add-mod' h (2 ^ 64))
+between_read None p n = refl
+between_read (Some l) None n = refl
+between_read (Some l) (Some h) n = rw (div-add-mod' l (2 ^ 64), div-add-mod' h (2 ^ 64))
 
-pub ends_held : (f : List ℕ → Option ℕ) (x y : List ℕ) (n : ℕ) (min max : V6Read) (r : Membership) → min ≡ as_v6 (f x) → max ≡ as_v6 (f y) → r
+pub ends_held : (f : List ℕ → Option ℕ) (x y : List ℕ) (n : ℕ) (min max : Option (ℕ × ℕ)) (r : Option Bool) → min ≡ as_v6 (f x) → max ≡ as_v6 (f y) → r
     ≡ between_of min max n
     → r ≡ membership (inside n) (ends_of f x y)
 unfolding ends_of
 ends_held f x y n min max r p q e = e ∙ rw (p, q) (between_read (f x) (f y) n)
 
-pub alone_held : (f : List ℕ → Option ℕ) (t : List ℕ) (n : ℕ) (v : V6Read) (r : Membership) → v ≡ as_v6 (f t) → r ≡ between_of v v n
+pub alone_held : (f : List ℕ → Option ℕ) (t : List ℕ) (n : ℕ) (v : Option (ℕ × ℕ)) (r : Option Bool) → v ≡ as_v6 (f t) → r ≡ between_of v v n
     → r ≡ membership (inside n) (f t >>= λ m. range m m)
 unfolding ends_of
 alone_held f t n v r p e = ends_held f t t n v v r p p e ∙ ap (membership (inside n)) (twice (f t))
   where
     twice : (o : Option ℕ) → (o >>= λ l. o >>= λ h. range l h) ≡ (o >>= λ m. range m m)
-    twice none = refl
-    twice (some m) = refl
+    twice None = refl
+    twice (Some m) = refl
 
 eqb_range : (m n : ℕ) → eqb m n ≡ (leb m n && leb n m)
 eqb_range m n = by (leb m n) (leb n m) refl refl
@@ -96,22 +90,22 @@ eqb_range m n = by (leb m n) (leb n m) refl refl
     by false y e f = rw e (ne_eqb m n (λ q. omega (arith, leb-false m n e)))
 
 -- a range of one number
-pub inside_one : (m n : ℕ) → H.Is (eqb m n) ≡ membership (inside n) (range m m)
+pub inside_one : (m n : ℕ) → Some (eqb m n) ≡ membership (inside n) (range m m)
 unfolding membership inside
-inside_one m n = ap H.Is (eqb_range m n)
+inside_one m n = ap Some (eqb_range m n)
 
 -- the same of numbers of one word
-module _ (f : List ℕ → Option ℕ) (x y : List ℕ) (n : ℕ) (v : NumberRead) (is_v : v ≡ as_number (f x)) where
-  pub ends_no_min : v ≡ N.Nothing → H.Nothing ≡ membership (inside n) (ends_of f x y)
+module _ (f : List ℕ → Option ℕ) (x y : List ℕ) (n : ℕ) (v : Option ℕ) (is_v : v ≡ as_number (f x)) where
+  pub ends_no_min : v ≡ None → None ≡ membership (inside n) (ends_of f x y)
   unfolding membership ends_of
   ends_no_min e = rw (as_number_none (f x) (sym is_v ∙ e))
 
-  module _ (min : ℕ) (e : v ≡ N.Value min) (w : NumberRead) (is-w : w ≡ as_number (f y)) where
-    pub ends_no_max : w ≡ N.Nothing → H.Nothing ≡ membership (inside n) (ends_of f x y)
+  module _ (min : ℕ) (e : v ≡ Some min) (w : Option ℕ) (is-w : w ≡ as_number (f y)) where
+    pub ends_no_max : w ≡ None → None ≡ membership (inside n) (ends_of f x y)
     unfolding membership ends_of
     ends_no_max q = rw (as_number_some (f x) min (sym is_v ∙ e), as_number_none (f y) (sym is-w ∙ q))
 
-    pub ends_two : (max : ℕ) → w ≡ N.Value max → H.Is (leb min n && leb n max) ≡ membership (inside n) (ends_of f x y)
+    pub ends_two : (max : ℕ) → w ≡ Some max → Some (leb min n && leb n max) ≡ membership (inside n) (ends_of f x y)
     unfolding membership ends_of inside
     ends_two max q = rw (as_number_some (f x) min (sym is_v ∙ e), as_number_some (f y) max (sym is-w ∙ q))
 
@@ -151,24 +145,24 @@ module _ (k n a : ℕ) (clear : n % 2 ^ k ≡ 0) where
           rw (ne_eqb (n / size) (a / size) (λ e. omega arith), lt-leb n a (omega (arith, first, split_at.1, next (a / size) (n / size) h)))
 
 -- the net of n, of w bits, with its length in t
-module _ (w n a : ℕ) (t : List ℕ) (v : NumberRead) (is_v : v ≡ as_number (read_decimal w t)) where
-  pub len_nothing : v ≡ N.Nothing → H.Nothing ≡ membership (inside a) (net_from w n t)
+module _ (w n a : ℕ) (t : List ℕ) (v : Option ℕ) (is_v : v ≡ as_number (read_decimal w t)) where
+  pub len_nothing : v ≡ None → None ≡ membership (inside a) (net_from w n t)
   unfolding net_from membership
   len_nothing e = rw (as_number_none (read_decimal w t) (sym is_v ∙ e))
 
-  module _ (m : ℕ) (e : v ≡ N.Value m) where
-    is_read : read_decimal w t ≡ some m
+  module _ (m : ℕ) (e : v ≡ Some m) where
+    is_read : read_decimal w t ≡ Some m
     is_read = as_number_some (read_decimal w t) m (sym is_v ∙ e)
 
     pub len_le : m ≤ w
     len_le = read_decimal_le w m t is_read
 
     module _ (x : Bool) (is_x : x ≡ eqb (n % 2 ^ (w - m)) 0) where
-      pub len_set : x ≡ false → H.Nothing ≡ membership (inside a) (net_from w n t)
+      pub len_set : x ≡ false → None ≡ membership (inside a) (net_from w n t)
       unfolding net_from membership
       len_set f = rw (is_read, ← is_x, f)
 
-      pub len_clear : x ≡ true → (y : Bool) → y ≡ same_prefix w m n a → H.Is y ≡ membership (inside a) (net_from w n t)
+      pub len_clear : x ≡ true → (y : Bool) → y ≡ same_prefix w m n a → Some y ≡ membership (inside a) (net_from w n t)
       unfolding net_from membership inside same_prefix
       len_clear f y is_y =
-          rw (is_read, ← is_x, f) (ap H.Is (is_y ∙ sym (in_range_prefix (w - m) n a (eqb-true (n % 2 ^ (w - m)) 0 (sym is_x ∙ f)))))
+          rw (is_read, ← is_x, f) (ap Some (is_y ∙ sym (in_range_prefix (w - m) n a (eqb-true (n % 2 ^ (w - m)) 0 (sym is_x ∙ f)))))

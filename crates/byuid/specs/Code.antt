@@ -16,8 +16,7 @@
 --   decision_by, answer_by == the decision, and the answer, where it is known whether a line grants
 --   checked_of o          == o as the code answers it
 -- Assumes nothing: these are definitions.
-use Rattle.std.specs.Prelude.{ℕ, ◌+◌, ◌-◌, ◌*◌, ◌%◌, ◌^◌, Bool, false, not, ◌&&◌, ◌||◌, List, [], ◌∷◌, eqb, leb, ltb, length, take}
-use Rattle.std.proofs.Math.Option.{Option, none, some}
+use Rattle.std.specs.Prelude.{ℕ, ◌+◌, ◌-◌, ◌*◌, ◌%◌, ◌^◌, Bool, false, not, ◌&&◌, ◌||◌, List, [], ◌∷◌, eqb, leb, ltb, length, take, Err, None, Ok, Option, Result, Some}
 use Rattle.text.specs.Basics.{when◌then◌else◌, ◌>>=◌, given}
 use Rattle.text.specs.Text.{bytes, split_once, in_range, is_digit}
 use Rattle.text.specs.Number.{read_decimal}
@@ -28,24 +27,10 @@ use Rattle.section.specs.Refusal.{placeless}
 use Rattle.address.specs.declared.Addr.{Addr}
 use Rattle.address.specs.declared.Addr.TheVariants as A
 use Rattle.address.specs.Address.{addr_case, read_v4, read_v6}
-use Rattle.address.specs.declared.read.V6Read.{V6Read}
-use Rattle.address.specs.declared.read.V6Read.TheVariants as W
 use Rattle.byuid.specs.Byuid.{Range, read_range, read_port, read_comma_form, line_grants, is_retired, is_ruled, in_span}
-use Rattle.byuid.specs.declared.Checked.{Checked}
-use Rattle.byuid.specs.declared.Checked.TheVariants as C
 use Rattle.byuid.specs.declared.Decision.{Decision}
 use Rattle.byuid.specs.declared.Decision.TheVariants.{NotRuled, Granted, NoLine}
-use Rattle.byuid.specs.declared.line.Front.{Front}
-use Rattle.byuid.specs.declared.line.Front.TheVariants as T
-use Rattle.byuid.specs.declared.line.Looked.{Looked}
-use Rattle.byuid.specs.declared.line.Looked.TheVariants as L
-use Rattle.byuid.specs.declared.line.Membership.{Membership}
-use Rattle.byuid.specs.declared.line.Membership.TheVariants as H
 use Rattle.byuid.specs.declared.Mark.{Mark}
-use Rattle.byuid.specs.declared.Ruling.{Ruling}
-use Rattle.byuid.specs.declared.Ruling.TheVariants as R
-use Rattle.byuid.specs.declared.Walked.{Walked}
-use Rattle.byuid.specs.declared.Walked.TheVariants.{Retired, Sound}
 
 -- the paper's words; no promise cites them
 abbrev pub decision_word : Decision → List ℕ
@@ -62,25 +47,25 @@ unfoldable pub inside_both : ℕ → ℕ → Range × Range → Bool
 inside_both a p g = inside a g.0 && inside p g.1
 
 module _ {A : Type 0} where
-  unfoldable pub membership : (A → Bool) → Option A → Membership
-  membership p none = H.Nothing
-  membership p (some x) = H.Is (p x)
+  unfoldable pub membership : (A → Bool) → Option A → Option Bool
+  membership p None = None
+  membership p (Some x) = Some (p x)
 
-abbrev pub both_of : Membership → Membership → Membership
-both_of H.Nothing h = H.Nothing
-both_of (H.Is x) H.Nothing = H.Nothing
-both_of (H.Is x) (H.Is y) = H.Is (x && y)
+abbrev pub both_of : Option Bool → Option Bool → Option Bool
+both_of None h = None
+both_of (Some x) None = None
+both_of (Some x) (Some y) = Some (x && y)
 
-abbrev pub between_of : V6Read → V6Read → ℕ → Membership
-between_of W.Nothing m n = H.Nothing
-between_of (W.Value a b) W.Nothing n = H.Nothing
-between_of (W.Value a b) (W.Value c d) n = H.Is (in_range (a * 2 ^ 64 + b) (c * 2 ^ 64 + d) n)
+abbrev pub between_of : Option (ℕ × ℕ) → Option (ℕ × ℕ) → ℕ → Option Bool
+between_of None m n = None
+between_of (Some (a, b)) None n = None
+between_of (Some (a, b)) (Some (c, d)) n = Some (in_range (a * 2 ^ 64 + b) (c * 2 ^ 64 + d) n)
 
 unfoldable pub ends_of : (List ℕ → Option ℕ) → List ℕ → List ℕ → Option Range
 ends_of f x y = do
   low ← f x
   high ← f y
-  some (low, high)
+  Some (low, high)
 
 unfoldable pub net_from : ℕ → ℕ → List ℕ → Option Range
 net_from w n t = do
@@ -103,42 +88,42 @@ field_byte b = is_digit b || eqb b 46
 unfoldable pub address_end : List ℕ → ℕ
 address_end s = span_len field_byte s
 
-abbrev pub as_front : ℕ → Option ℕ → Front
-as_front i none = T.Nothing
-as_front i (some n) = T.Address n i
+abbrev pub as_front : ℕ → Option ℕ → Option (ℕ × ℕ)
+as_front i None = None
+as_front i (Some n) = Some (n, i)
 
-unfoldable pub front_v4 : List ℕ → Front
+unfoldable pub front_v4 : List ℕ → Option (ℕ × ℕ)
 front_v4 s = as_front (address_end s) (read_v4 (take (address_end s) s))
 
 -- ## Lines
 
 unfoldable pub range_from : (List ℕ → Option ℕ) → ℕ → List ℕ → Option Range
-range_from f n t = f t >>= λ m. some (n, m)
+range_from f n t = f t >>= λ m. Some (n, m)
 
 unfoldable pub form_of : (List ℕ → Option Range) → List ℕ → Option (Range × Range)
 form_of f t = do
   p ← split_once (bytes ",") t
   a ← f p.0
   b ← read_range read_port p.1
-  some (a, b)
+  Some (a, b)
 
 -- without a colon a line holds no request at an IPv6 address, and is not of the retired form either
-unfoldable pub held_v6 : ℕ → ℕ → List ℕ → Membership
-held_v6 n p l = when ltb (index_of 58 l) (length l) then membership (inside_both n p) (read_comma_form 128 read_v6 l) else H.Is false
+unfoldable pub held_v6 : ℕ → ℕ → List ℕ → Option Bool
+held_v6 n p l = when ltb (index_of 58 l) (length l) then membership (inside_both n p) (read_comma_form 128 read_v6 l) else Some false
 
-unfoldable pub held_of : Addr → ℕ → List ℕ → Membership
-held_of a p l = addr_case a H.Nothing (λ n. membership (inside_both n p) (read_comma_form 32 read_v4 l)) (λ n. held_v6 n p l)
+unfoldable pub held_of : Addr → ℕ → List ℕ → Option Bool
+held_of a p l = addr_case a None (λ n. membership (inside_both n p) (read_comma_form 32 read_v4 l)) (λ n. held_v6 n p l)
 
-unfoldable pub look_of : Addr → ℕ → List ℕ → Looked
-look_of a p l = when is_retired l then L.Retired else L.Grants (line_grants a p l)
+unfoldable pub look_of : Addr → ℕ → List ℕ → Option Bool
+look_of a p l = when is_retired l then None else Some (line_grants a p l)
 
-unfoldable pub walk : Addr → ℕ → ℕ → Bool → List (List ℕ) → Walked
-walk a p n g [] = Sound g
-walk a p n g (l ∷ ls) = when is_retired l then Retired n else walk a p (n + 1) (g || line_grants a p l) ls
+unfoldable pub walk : Addr → ℕ → ℕ → Bool → List (List ℕ) → Result Bool ℕ
+walk a p n g [] = Ok g
+walk a p n g (l ∷ ls) = when is_retired l then Err n else walk a p (n + 1) (g || line_grants a p l) ls
 
-abbrev pub checked_of : Option Refusal → Checked
-checked_of none = C.Sound
-checked_of (some r) = C.Refused r
+abbrev pub checked_of : Option Refusal → Result Unit Refusal
+checked_of None = Ok tt
+checked_of (Some r) = Err r
 
 -- ## The decision
 
@@ -148,6 +133,6 @@ searched_for m p a uid = when is_ruled p uid && in_span m p then a else A.Unknow
 unfoldable pub decision_by : ℕ → ℕ → Bool → Decision
 decision_by p uid granted = when not (is_ruled p uid) then NotRuled else when granted then Granted else NoLine
 
-abbrev pub answer_by : ℕ → Addr → ℕ → Bool → Ruling
+abbrev pub answer_by : ℕ → Addr → ℕ → Bool → Result Decision Refusal
 answer_by p a uid granted =
-    addr_case a (R.Refused (placeless F.BadRequest)) (λ n. R.Answered (decision_by p uid granted)) (λ n. R.Answered (decision_by p uid granted))
+    addr_case a (Err (placeless F.BadRequest)) (λ n. Ok (decision_by p uid granted)) (λ n. Ok (decision_by p uid granted))

@@ -4,11 +4,10 @@
 --   convert t room == the call: the converted text, into room bytes
 --   decided_before t o == what the decision on t was before this request, for the claim alone that a converted text grants the same
 -- Assumes nothing: these are definitions.
-use Rattle.std.specs.Prelude.{ℕ, Bool, false, not, ◌&&◌, List, ◌++◌, map}
-use Rattle.std.proofs.Math.Option.{Option, none, some, get_or}
+use Rattle.std.specs.Prelude.{ℕ, Bool, false, not, ◌&&◌, List, ◌++◌, map, Ok, Option, Some, unwrap_or}
 use Rattle.text.specs.Basics.{when◌then◌else◌, ◌>>=◌, ◌or_else◌, any}
 use Rattle.text.specs.Text.{bytes, split_once, split, intercalate}
-use Rattle.section.specs.Refusal.{Outcome, answered, ◌>>=◌ as ◌>>=ᴼ◌, refusing, ◌before◌, fitting, within_room}
+use Rattle.section.specs.Refusal.{Outcome, ◌>>=◌ as ◌>>=ᴼ◌, refusing, ◌before◌, fitting, within_room}
 use Rattle.section.specs.Section as S
 use Rattle.section.specs.Section.{over_limit}
 use Rattle.address.specs.declared.Addr.{Addr}
@@ -23,11 +22,11 @@ abbrev pub exchanged : List ℕ → Option (List ℕ)
 exchanged l = do
   p ← split_once (bytes ":") l
   q ← split_once (bytes ",") p.1
-  some (p.0 ++ bytes "," ++ q.0 ++ bytes "-" ++ q.1)
+  Some (p.0 ++ bytes "," ++ q.0 ++ bytes "-" ++ q.1)
 
 -- "rewrites just those lines .., and leaves every other byte"
 unfoldable pub convert_line : List ℕ → List ℕ
-convert_line l = when is_retired l then get_or (exchanged l) l else l
+convert_line l = when is_retired l then unwrap_or (exchanged l) l else l
 
 unfoldable pub convert_text : List ℕ → List ℕ
 convert_text t = intercalate (bytes "\n") (map convert_line (split "\n" t))
@@ -51,4 +50,4 @@ decision_before t m p a uid =
 unfoldable pub decided_before : List ℕ → Option FileBind → Outcome Decision
 decided_before t o =
     over_limit S.byuid t before
-    fitting address_known o (λ b. answered (decision_before t b.mark b.asked.port b.asked.address b.asked.uid))
+    fitting address_known o (λ b. Ok (decision_before t b.mark b.asked.port b.asked.address b.asked.uid))

@@ -7,7 +7,8 @@ ghost use Rattle.byuid.specs.Convert.{convert_line, convert_text};
 ghost use Rattle.byuid.specs.Convert.{convert as convert_of};
 
 use crate::line::is_retired;
-use section::{Byuid, Fault, Written};
+use section::Byuid;
+use section::Fault;
 
 // Writes a line from at on, the two marks exchanged where it is of the retired form.
 pub fn put_line(out: &mut [u8], at: usize, l: &[u8])
@@ -42,16 +43,16 @@ fn put_lines(out: &mut [u8], text: &[u8])
 }
 
 // Converts a text into the front of out; a refusal leaves out as it was.
-pub fn convert(out: &mut [u8], text: &[u8]) -> Written
+pub fn convert(out: &mut [u8], text: &[u8]) -> Result<usize, Refusal>
     ensures answer { result ≡ written_of (convert_of text.now (length out.old)) }
     ensures holds { out.new ≡ lent_after out.old (convert_of text.now (length out.old)) }
 {
     if Byuid::over(text.len()) {
-        return Written::Refused(Byuid::refusal(Fault::OverLimit, 0));
+        return Err(Byuid::refusal(Fault::OverLimit, 0));
     }
     if out.len() < text.len() {
-        return Written::Refused(section::placeless(Fault::NoRoom));
+        return Err(section::placeless(Fault::NoRoom));
     }
     put_lines(out, text);
-    Written::Count(text.len())
+    Ok(text.len())
 }

@@ -5,13 +5,11 @@
 #![tactic(auto)]
 
 ghost use Rattle.std.specs.Prelude.{false, ◌≡◌};
-ghost use Rattle.std.proofs.Math.Option.{some};
 ghost use Rattle.text.specs.Text.{split};
 ghost use Rattle.byuid.specs.Byuid.{is_ruled, in_span, byuid_fault, bind, file_bind, decide_byuid, byuid_ruling};
 ghost use Rattle.byuid.specs.Code.{checked_of, walk, searched_for, decision_by, answer_by};
 
 use address::Addr;
-use line::Looked;
 use section::{Fault, Refusal};
 
 // The words of the decision.
@@ -29,32 +27,11 @@ pub enum Mark {
     Marked,
 }
 
-// What the call answers: a refusal, or the decision.
-#[derive(Clone, Copy)]
-pub enum Ruling {
-    Refused(Refusal),
-    Answered(Decision),
-}
-
-// What check answers: the refusal of a retired line, or that there is none.
-#[derive(Clone, Copy)]
-pub enum Checked {
-    Sound,
-    Refused(Refusal),
-}
-
-// What the walk over the lines finds: the number of the first retired one, or whether one grants.
-#[derive(Clone, Copy)]
-enum Walked {
-    Retired(usize),
-    Sound(bool),
-}
-
 pub mod convert;
 pub mod line;
 
 // Every line is looked at. A last line without a newline counts.
-fn walk_lines(text: &[u8], addr: Addr, port: u16) -> Walked
+fn walk_lines(text: &[u8], addr: Addr, port: u16) -> Result<bool, usize>
     ensures { result ≡ walk addr port 1 false (split "\n" text.now) }
 {
     let mut granted = false;
@@ -63,27 +40,27 @@ fn walk_lines(text: &[u8], addr: Addr, port: u16) -> Walked
     while at < text.len() {
         let end = at + text::index_of(&text[at..], b'\n');
         match line::look(&text[at..end], addr, port) {
-            Looked::Retired => return Walked::Retired(number),
-            Looked::Grants(b) => {
+            None => return Err(number),
+            Some(b) => {
                 granted = granted | b;
             }
         }
         number += 1;
         at = end + 1;
     }
-    Walked::Sound(granted)
+    Ok(granted)
 }
 
 // The refusal of the first line of the retired form.
-pub fn check(text: &[u8]) -> Checked
+pub fn check(text: &[u8]) -> Result<(), Refusal>
     ensures { result ≡ checked_of (byuid_fault text.now) }
 {
     match walk_lines(text, Addr::Unknown, 0) {
-        Walked::Retired(number) => Checked::Refused(section::Byuid::refusal(
+        Err(number) => Err(section::Byuid::refusal(
             Fault::RetiredForm,
             number,
         )),
-        Walked::Sound(_) => Checked::Sound,
+        Ok(_) => Ok(()),
     }
 }
 
@@ -130,29 +107,29 @@ fn decision_by(port: u16, uid: u32, granted: bool) -> Decision
 }
 
 // The same for an address of any kind; an unknown one is refused.
-fn answer_by(port: u16, addr: Addr, uid: u32, granted: bool) -> Ruling
+fn answer_by(port: u16, addr: Addr, uid: u32, granted: bool) -> Result<Decision, Refusal>
     ensures { result ≡ answer_by port addr uid granted }
 {
     match addr {
-        Addr::Unknown => Ruling::Refused(section::placeless(Fault::BadRequest)),
-        Addr::V4(_) => Ruling::Answered(decision_by(port, uid, granted)),
-        Addr::V6(_, _) => Ruling::Answered(decision_by(port, uid, granted)),
+        Addr::Unknown => Err(section::placeless(Fault::BadRequest)),
+        Addr::V4(_) => Ok(decision_by(port, uid, granted)),
+        Addr::V6(_, _) => Ok(decision_by(port, uid, granted)),
     }
 }
 
 // Whether a caller may bind a port at an address, by the lines of a text from one of the two files.
-pub fn decide(text: &[u8], mark: Mark, port: u16, addr: Addr, uid: u32) -> Ruling
-    ensures { result ≡ byuid_ruling (decide_byuid text.now (some (file_bind mark (bind port addr uid)))) }
+pub fn decide(text: &[u8], mark: Mark, port: u16, addr: Addr, uid: u32) -> Result<Decision, Refusal>
+    ensures { result ≡ byuid_ruling (decide_byuid text.now (Some (file_bind mark (bind port addr uid)))) }
 {
     if section::Byuid::over(text.len()) {
-        return Ruling::Refused(section::Byuid::refusal(Fault::OverLimit, 0));
+        return Err(section::Byuid::refusal(Fault::OverLimit, 0));
     }
     let held_against = searched_for(mark, port, addr, uid);
     match walk_lines(text, held_against, port) {
-        Walked::Retired(number) => Ruling::Refused(section::Byuid::refusal(
+        Err(number) => Err(section::Byuid::refusal(
             Fault::RetiredForm,
             number,
         )),
-        Walked::Sound(granted) => answer_by(port, addr, uid, granted),
+        Ok(granted) => answer_by(port, addr, uid, granted),
     }
 }

@@ -11,29 +11,8 @@ ghost use Rattle.byuid.specs.Code.{front_v4, form_of, range_from, held_v6, held_
 use address::Addr;
 use address::fields::{Run, ended_address, run_over};
 use address::prefix::{clear_beyond_v4, clear_beyond_v6, same_prefix_v4, same_prefix_v6};
-use address::read::{V6Read, read_v4, read_v6};
-use text::NumberRead;
-
-// Whether what was read holds the request, or nothing was read.
-#[derive(Clone, Copy)]
-enum Membership {
-    Nothing,
-    Is(bool),
-}
-
-// The address at the front of a text and the place after it, or none.
-#[derive(Clone, Copy)]
-enum Front {
-    Nothing,
-    Address(u32, usize),
-}
-
-// What a line says of a request: it is of the retired form, or whether it grants.
-#[derive(Clone, Copy)]
-pub(crate) enum Looked {
-    Retired,
-    Grants(bool),
-}
+use address::read::read_v4;
+use address::read::read_v6;
 
 // Whether a is at most b.
 fn at_most(a_high: u64, a_low: u64, b_high: u64, b_low: u64) -> bool
@@ -46,14 +25,14 @@ fn at_most(a_high: u64, a_low: u64, b_high: u64, b_low: u64) -> bool
 }
 
 // Whether a number is between two that were read, both included.
-fn between(min: V6Read, max: V6Read, high: u64, low: u64) -> Membership
+fn between(min: Option<(u64, u64)>, max: Option<(u64, u64)>, high: u64, low: u64) -> Option<bool>
     ensures { result ≡ between_of min max (high * 2 ^ 64 + low) }
 {
     match min {
-        V6Read::Nothing => Membership::Nothing,
-        V6Read::Value(a, b) => match max {
-            V6Read::Nothing => Membership::Nothing,
-            V6Read::Value(c, d) => Membership::Is(
+        None => None,
+        Some((a, b)) => match max {
+            None => None,
+            Some((c, d)) => Some(
                 at_most(a, b, high, low) & at_most(high, low, c, d),
             ),
         },
@@ -61,7 +40,7 @@ fn between(min: V6Read, max: V6Read, high: u64, low: u64) -> Membership
 }
 
 // Whether the range of IPv6 addresses from x to y holds one.
-fn ends_hold_v6(x: &[u8], y: &[u8], high: u64, low: u64) -> Membership
+fn ends_hold_v6(x: &[u8], y: &[u8], high: u64, low: u64) -> Option<bool>
     ensures { result ≡ membership (inside (high * 2 ^ 64 + low)) (ends_of read_v6 x.now y.now) }
 {
     let min = read_v6(x);
@@ -70,7 +49,7 @@ fn ends_hold_v6(x: &[u8], y: &[u8], high: u64, low: u64) -> Membership
 }
 
 // Whether the range min[-max] of IPv6 addresses in s holds one.
-fn range_holds_v6(s: &[u8], high: u64, low: u64) -> Membership
+fn range_holds_v6(s: &[u8], high: u64, low: u64) -> Option<bool>
     ensures { result ≡ membership (inside (high * 2 ^ 64 + low)) (read_range read_v6 s.now) }
 {
     let i = text::index_of(s, b'-');
@@ -82,21 +61,21 @@ fn range_holds_v6(s: &[u8], high: u64, low: u64) -> Membership
 }
 
 // Whether the range of ports from x to y holds one.
-fn port_ends_hold(x: &[u8], y: &[u8], port: u16) -> Membership
+fn port_ends_hold(x: &[u8], y: &[u8], port: u16) -> Option<bool>
     ensures { result ≡ membership (inside port) (ends_of read_port x.now y.now) }
 {
     let p = port as u32;
     match text::read_decimal(x, 65535) {
-        NumberRead::Nothing => Membership::Nothing,
-        NumberRead::Value(min) => match text::read_decimal(y, 65535) {
-            NumberRead::Nothing => Membership::Nothing,
-            NumberRead::Value(max) => Membership::Is((min <= p) & (p <= max)),
+        None => None,
+        Some(min) => match text::read_decimal(y, 65535) {
+            None => None,
+            Some(max) => Some((min <= p) & (p <= max)),
         },
     }
 }
 
 // Whether the ports pmin[-pmax] in s hold one.
-fn ports_hold(s: &[u8], port: u16) -> Membership
+fn ports_hold(s: &[u8], port: u16) -> Option<bool>
     ensures { result ≡ membership (inside port) (read_range read_port s.now) }
 {
     let hyphen = text::index_of(s, b'-');
@@ -104,71 +83,71 @@ fn ports_hold(s: &[u8], port: u16) -> Membership
         return port_ends_hold(&s[..hyphen], &s[hyphen + 1..], port);
     }
     match text::read_decimal(s, 65535) {
-        NumberRead::Nothing => Membership::Nothing,
-        NumberRead::Value(n) => Membership::Is(n == port as u32),
+        None => None,
+        Some(n) => Some(n == port as u32),
     }
 }
 
 // Whether the net of an IPv4 address, with its length in t, holds one.
-fn len_holds_v4(t: &[u8], net: u32, addr: u32) -> Membership
+fn len_holds_v4(t: &[u8], net: u32, addr: u32) -> Option<bool>
     ensures { result ≡ membership (inside addr) (net_from 32 net t.now) }
 {
     let v = text::read_decimal(t, 32);
     match v {
-        NumberRead::Nothing => Membership::Nothing,
-        NumberRead::Value(n) => {
+        None => None,
+        Some(n) => {
             if clear_beyond_v4(net, n) {
-                Membership::Is(same_prefix_v4(net, addr, n))
+                Some(same_prefix_v4(net, addr, n))
             } else {
-                Membership::Nothing
+                None
             }
         }
     }
 }
 
 // Whether the net of an IPv6 address, with its length in t, holds one.
-fn len_holds_v6(t: &[u8], net_high: u64, net_low: u64, high: u64, low: u64) -> Membership
+fn len_holds_v6(t: &[u8], net_high: u64, net_low: u64, high: u64, low: u64) -> Option<bool>
     ensures { result ≡ membership (inside (high * 2 ^ 64 + low)) (net_from 128 (net_high * 2 ^ 64 + net_low) t.now) }
 {
     let v = text::read_decimal(t, 128);
     match v {
-        NumberRead::Nothing => Membership::Nothing,
-        NumberRead::Value(n) => {
+        None => None,
+        Some(n) => {
             if clear_beyond_v6(net_high, net_low, n) {
-                Membership::Is(same_prefix_v6(net_high, net_low, high, low, n))
+                Some(same_prefix_v6(net_high, net_low, high, low, n))
             } else {
-                Membership::Nothing
+                None
             }
         }
     }
 }
 
 // Whether the net addr/len in s holds an IPv4 address.
-fn net_holds_v4(s: &[u8], addr: u32) -> Membership
+fn net_holds_v4(s: &[u8], addr: u32) -> Option<bool>
     ensures { result ≡ membership (inside addr) (read_net 32 read_v4 s.now) }
 {
     let i = text::index_of(s, b'/');
     if i < s.len() {
         let v = read_v4(&s[..i]);
         match v {
-            NumberRead::Nothing => Membership::Nothing,
-            NumberRead::Value(n) => len_holds_v4(&s[i + 1..], n, addr),
+            None => None,
+            Some(n) => len_holds_v4(&s[i + 1..], n, addr),
         }
     } else {
-        Membership::Nothing
+        None
     }
 }
 
 // Whether the addresses before a comma hold an IPv6 address: a net where there is a slash, else a range.
-fn addresses_hold_v6(s: &[u8], high: u64, low: u64) -> Membership
+fn addresses_hold_v6(s: &[u8], high: u64, low: u64) -> Option<bool>
     ensures { result ≡ membership (inside (high * 2 ^ 64 + low)) (read_range read_v6 s.now or_else read_net 128 read_v6 s.now) }
 {
     let i = text::index_of(s, b'/');
     if i < s.len() {
         let v = read_v6(&s[..i]);
         match v {
-            V6Read::Nothing => Membership::Nothing,
-            V6Read::Value(a, b) => len_holds_v6(&s[i + 1..], a, b, high, low),
+            None => None,
+            Some((a, b)) => len_holds_v6(&s[i + 1..], a, b, high, low),
         }
     } else {
         range_holds_v6(s, high, low)
@@ -176,37 +155,37 @@ fn addresses_hold_v6(s: &[u8], high: u64, low: u64) -> Membership
 }
 
 // Whether two parts of a line both hold the request.
-fn both(a: Membership, b: Membership) -> Membership
+fn both(a: Option<bool>, b: Option<bool>) -> Option<bool>
     ensures { result ≡ both_of a b }
 {
     match a {
-        Membership::Nothing => Membership::Nothing,
-        Membership::Is(x) => match b {
-            Membership::Nothing => Membership::Nothing,
-            Membership::Is(y) => Membership::Is(x & y),
+        None => None,
+        Some(x) => match b {
+            None => None,
+            Some(y) => Some(x & y),
         },
     }
 }
 
 // The IPv4 address that the digits and dots at the front of s write, and the place after them.
-fn front_v4(s: &[u8]) -> Front
+fn front_v4(s: &[u8]) -> Option<(u32, usize)>
     ensures { result ≡ front_v4 s.now }
 {
     let run = run_over(s, 0);
     match run {
-        Run::Failed => Front::Nothing,
+        Run::Failed => None,
         Run::At(j, n, k, v, begun) => {
             let a = ended_address(n, k, v, begun);
             match a {
-                NumberRead::Nothing => Front::Nothing,
-                NumberRead::Value(m) => Front::Address(m, j),
+                None => None,
+                Some(m) => Some((m, j)),
             }
         }
     }
 }
 
 // Whether the net of an IPv4 address, with len,pmin[-pmax] in t, holds the request.
-fn net_form_v4(t: &[u8], net: u32, addr: u32, port: u16) -> Membership
+fn net_form_v4(t: &[u8], net: u32, addr: u32, port: u16) -> Option<bool>
     ensures { result ≡ membership (inside_both addr port) (form_of (net_from 32 net) t.now) }
 {
     let i = text::index_of(t, b',');
@@ -215,26 +194,26 @@ fn net_form_v4(t: &[u8], net: u32, addr: u32, port: u16) -> Membership
         let p = ports_hold(&t[i + 1..], port);
         both(a, p)
     } else {
-        Membership::Nothing
+        None
     }
 }
 
 // Whether the range from an IPv4 address on, with max,pmin[-pmax] in t, holds the request.
-fn range_form_v4(t: &[u8], min: u32, addr: u32, port: u16) -> Membership
+fn range_form_v4(t: &[u8], min: u32, addr: u32, port: u16) -> Option<bool>
     ensures { result ≡ membership (inside_both addr port) (form_of (range_from read_v4 min) t.now) }
 {
     let front = front_v4(t);
     match front {
-        Front::Nothing => Membership::Nothing,
-        Front::Address(max, i) => {
+        None => None,
+        Some((max, i)) => {
             if t.len() <= i {
-                return Membership::Nothing;
+                return None;
             }
             if t[i] == b',' {
                 let p = ports_hold(&t[i + 1..], port);
-                both(Membership::Is((min <= addr) & (addr <= max)), p)
+                both(Some((min <= addr) & (addr <= max)), p)
             } else {
-                Membership::Nothing
+                None
             }
         }
     }
@@ -242,15 +221,15 @@ fn range_form_v4(t: &[u8], min: u32, addr: u32, port: u16) -> Membership
 
 // Whether a line min[-max],pmin[-pmax] or addr[/len],pmin[-pmax] holds the request, at an IPv4 address: the byte after the first address
 // tells which.
-fn comma_form_v4(l: &[u8], addr: u32, port: u16) -> Membership
+fn comma_form_v4(l: &[u8], addr: u32, port: u16) -> Option<bool>
     ensures { result ≡ membership (inside_both addr port) (read_comma_form 32 read_v4 l.now) }
 {
     let front = front_v4(l);
     match front {
-        Front::Nothing => Membership::Nothing,
-        Front::Address(a, i) => {
+        None => None,
+        Some((a, i)) => {
             if l.len() <= i {
-                return Membership::Nothing;
+                return None;
             }
             let mark = l[i];
             if mark == b'/' {
@@ -261,16 +240,16 @@ fn comma_form_v4(l: &[u8], addr: u32, port: u16) -> Membership
             }
             if mark == b',' {
                 let p = ports_hold(&l[i + 1..], port);
-                both(Membership::Is(a == addr), p)
+                both(Some(a == addr), p)
             } else {
-                Membership::Nothing
+                None
             }
         }
     }
 }
 
 // Whether a line of such a form holds the request, at an IPv6 address.
-fn comma_form_v6(l: &[u8], high: u64, low: u64, port: u16) -> Membership
+fn comma_form_v6(l: &[u8], high: u64, low: u64, port: u16) -> Option<bool>
     ensures { result ≡ membership (inside_both (high * 2 ^ 64 + low) port) (read_comma_form 128 read_v6 l.now) }
 {
     let i = text::index_of(l, b',');
@@ -279,7 +258,7 @@ fn comma_form_v6(l: &[u8], high: u64, low: u64, port: u16) -> Membership
         let p = ports_hold(&l[i + 1..], port);
         both(a, p)
     } else {
-        Membership::Nothing
+        None
     }
 }
 
@@ -290,10 +269,10 @@ fn ports_rise(s: &[u8]) -> bool
     let i = text::index_of(s, b',');
     if i < s.len() {
         match text::read_decimal(&s[..i], 65535) {
-            NumberRead::Nothing => false,
-            NumberRead::Value(min) => match text::read_decimal(&s[i + 1..], 65535) {
-                NumberRead::Nothing => false,
-                NumberRead::Value(max) => min <= max,
+            None => false,
+            Some(min) => match text::read_decimal(&s[i + 1..], 65535) {
+                None => false,
+                Some(max) => min <= max,
             },
         }
     } else {
@@ -308,8 +287,8 @@ pub fn is_retired(l: &[u8]) -> bool
     let i = text::index_of(l, b':');
     if i < l.len() {
         match net_holds_v4(&l[..i], 0) {
-            Membership::Nothing => false,
-            Membership::Is(_) => ports_rise(&l[i + 1..]),
+            None => false,
+            Some(_) => ports_rise(&l[i + 1..]),
         }
     } else {
         false
@@ -317,38 +296,38 @@ pub fn is_retired(l: &[u8]) -> bool
 }
 
 // Whether a line of a form that grants holds the request, at an IPv6 address. One without a colon is of no form that matters.
-fn held_v6(l: &[u8], high: u64, low: u64, port: u16) -> Membership
+fn held_v6(l: &[u8], high: u64, low: u64, port: u16) -> Option<bool>
     ensures { result ≡ held_v6 (high * 2 ^ 64 + low) port l.now }
 {
     if text::index_of(l, b':') < l.len() {
         comma_form_v6(l, high, low, port)
     } else {
-        Membership::Is(false)
+        Some(false)
     }
 }
 
 // Whether a line of a form that grants holds the request.
-fn held(l: &[u8], addr: Addr, port: u16) -> Membership
+fn held(l: &[u8], addr: Addr, port: u16) -> Option<bool>
     ensures { result ≡ held_of addr port l.now }
 {
     match addr {
-        Addr::Unknown => Membership::Nothing,
+        Addr::Unknown => None,
         Addr::V4(n) => comma_form_v4(l, n, port),
         Addr::V6(a, b) => held_v6(l, a, b, port),
     }
 }
 
 // What the line l says of the port at the address. A line of a form that grants is not of the retired one.
-pub(crate) fn look(l: &[u8], addr: Addr, port: u16) -> Looked
+pub(crate) fn look(l: &[u8], addr: Addr, port: u16) -> Option<bool>
     ensures { result ≡ look_of addr port l.now }
 {
     match held(l, addr, port) {
-        Membership::Is(b) => Looked::Grants(b),
-        Membership::Nothing => {
+        Some(b) => Some(b),
+        None => {
             if is_retired(l) {
-                Looked::Retired
+                None
             } else {
-                Looked::Grants(false)
+                Some(false)
             }
         }
     }

@@ -1,9 +1,9 @@
 -- Laws of the two texts: what is written where both have room, and that what is noted is what the list has.
 -- Assumes nothing.
+use Rattle.std.specs.Prelude.{Err, None, Ok, Result}
 use Prim.Native.Nat.{ℕ, zero, suc, ◌+◌, ◌<◌, ◌≤◌}
 use mathlib.Core.Bool.{Bool, true, false, ◌&&◌, ◌||◌}
 use mathlib.Core.List.{List, [], ◌∷◌, ◌++◌}
-use mathlib.Core.Option.{Option, none, some}
 use mathlib.Core.Path.{◌≡◌, refl, sym, ap, ap₂, ◌∙◌}
 use native.Mathlib.Omega.{arith}
 use borrow.Author.Tests.{lt-ltb, le-ltb, eq-eqb, ne_eqb}
@@ -13,12 +13,8 @@ use Rattle.text.specs.Basics.{when◌then◌else◌, holds, any}
 use Rattle.text.specs.Scan.{after}
 use Rattle.section.specs.declared.Fault.TheVariants as F
 use Rattle.section.specs.declared.Refusal.{Refusal}
-use Rattle.section.specs.Refusal.{Outcome, refused, answered, refusal, placeless, within_rooms, first_after, second_after, written_two_of}
-use Rattle.section.specs.declared.WrittenTwo.{WrittenTwo}
-use Rattle.section.specs.declared.WrittenTwo.TheVariants as Two
+use Rattle.section.specs.Refusal.{Outcome, refusal, placeless, within_rooms, first_after, second_after, written_two_of}
 use Rattle.section.specs.Section as S
-use Rattle.portacl.specs.declared.Checked.{Checked}
-use Rattle.portacl.specs.declared.Checked.TheVariants as K
 use Rattle.portacl.specs.declared.Protocol.{Protocol}
 use Rattle.portacl.specs.declared.Protocol.TheVariants.{Tcp, Udp}
 use Rattle.portacl.specs.Portacl.{bind, entries, portacl_fault}
@@ -29,7 +25,7 @@ use Rattle.carry.specs.Carry.{has_entry, carried, port_lines, span_lines, plain_
 use Rattle.carry.specs.Code.{in_both}
 
 -- the answer r to the outcome o, and what the outputs d and e hold afterwards
-abbrev pub Did : List ℕ → List ℕ → Outcome (List ℕ × List ℕ) → WrittenTwo → List ℕ → List ℕ → Type 0
+abbrev pub Did : List ℕ → List ℕ → Outcome (List ℕ × List ℕ) → Result (ℕ × ℕ) Refusal → List ℕ → List ℕ → Type 0
 Did d e o r d' e' = (r ≡ written_two_of o) × ((d' ≡ first_after d o) × (e' ≡ second_after e o))
 
 -- ## Both texts
@@ -38,7 +34,7 @@ module _ (f : ℕ → Bool) (d e : List ℕ) (n : ℕ) (is-n : n ≡ length (pla
   abbrev both : Outcome (List ℕ × List ℕ)
   both = within_rooms (length d) (length e) (plain_text f, marked_text f)
 
-  pub no_plain_room : length d < n → (r : Refusal) → r ≡ placeless F.NoRoom → Did d e both (Two.Refused r) d e
+  pub no_plain_room : length d < n → (r : Refusal) → r ≡ placeless F.NoRoom → Did d e both (Err r) d e
   no_plain_room h r is-r =
       let t : ltb (length d) (length (plain_text f)) ≡ true = rw (← is-n) (lt-ltb (length d) n h) in
       (rw (t, is-r), (rw t, rw t))
@@ -47,13 +43,13 @@ module _ (f : ℕ → Bool) (d e : List ℕ) (n : ℕ) (is-n : n ≡ length (pla
     fits : ltb (length d) (length (plain_text f)) ≡ false
     fits = rw (← is-n) (le-ltb (length d) n h)
 
-    pub no_marked_room : length e < m → (r : Refusal) → r ≡ placeless F.NoRoom → Did d e both (Two.Refused r) d e
+    pub no_marked_room : length e < m → (r : Refusal) → r ≡ placeless F.NoRoom → Did d e both (Err r) d e
     no_marked_room k r is-r =
         let t : ltb (length e) (length (marked_text f)) ≡ true = rw (← is_m) (lt-ltb (length e) m k) in
         (rw (fits, t, is-r), (rw (fits, t), rw (fits, t)))
 
     pub both_written : m ≤ length e → (a b : ℕ) (d' e' : List ℕ) → (a ≡ length (plain_text f)) × (d' ≡ after (plain_text f) d)
-        → (b ≡ length (marked_text f)) × (e' ≡ after (marked_text f) e) → Did d e both (Two.Counts a b) d' e'
+        → (b ≡ length (marked_text f)) × (e' ≡ after (marked_text f) e) → Did d e both (Ok (a, b)) d' e'
     unfolding after
     both_written k a b d' e' w v =
         let t : ltb (length e) (length (marked_text f)) ≡ false = rw (← is_m) (le-ltb (length e) m k) in
@@ -71,7 +67,7 @@ one_noted : (b : Bool) → eqb (when b then 1 else 0) 1 ≡ b
 one_noted true = refl
 one_noted false = refl
 
-module _ (t : List ℕ) (uid : ℕ) (sound : portacl_fault t ≡ none) where
+module _ (t : List ℕ) (uid : ℕ) (sound : portacl_fault t ≡ None) where
   noted_is : (p : Protocol) (q : ℕ) → q < 1024 → eqb (get_or (notes uid p (entries_data t) (replicate 1024 0)) q 0) 1 ≡ has_entry t uid p q
   noted_is p q h =
       let zeros : List ℕ = replicate 1024 0 in
@@ -92,27 +88,27 @@ module _ (t : List ℕ) (uid : ℕ) (d e : List ℕ) (o : Bool) (is-o : o ≡ lt
   abbrev outcome : Outcome (List ℕ × List ℕ)
   outcome = carry t uid (length d) (length e)
 
-  pub carry_over : o ≡ true → (r : Refusal) → r ≡ refusal F.OverLimit (S.portacl).order 0 → Did d e outcome (Two.Refused r) d e
+  pub carry_over : o ≡ true → (r : Refusal) → r ≡ refusal F.OverLimit (S.portacl).order 0 → Did d e outcome (Err r) d e
   unfolding carry
   carry_over h r is-r = (rw (← is-o, h, is-r), (rw (← is-o, h), rw (← is-o, h)))
 
-  module _ (h : o ≡ false) (c : Checked) (is_c : c ≡ checked_of (portacl_fault t)) where
-    pub carry_bad : (r : Refusal) → c ≡ K.Refused r → Did d e outcome (Two.Refused r) d e
+  module _ (h : o ≡ false) (c : Result Unit Refusal) (is_c : c ≡ checked_of (portacl_fault t)) where
+    pub carry_bad : (r : Refusal) → c ≡ Err r → Did d e outcome (Err r) d e
     unfolding carry
     carry_bad r q =
         let f = checked_of_refused (portacl_fault t) r (sym is_c ∙ q) in
         (rw (← is-o, h, f), (rw (← is-o, h, f), rw (← is-o, h, f)))
 
-    module _ (q : c ≡ K.Sound) where
-      sound : portacl_fault t ≡ none
+    module _ (q : c ≡ Ok tt) where
+      sound : portacl_fault t ≡ None
       sound = checked_of_sound (portacl_fault t) (sym is_c ∙ q)
 
-      pub carry_root : uid ≡ 0 → (r : Refusal) → r ≡ placeless F.BadRequest → Did d e outcome (Two.Refused r) d e
+      pub carry_root : uid ≡ 0 → (r : Refusal) → r ≡ placeless F.BadRequest → Did d e outcome (Err r) d e
       unfolding carry
       carry_root z r is-r = let u = eq-eqb uid 0 z in (rw (← is-o, h, sound, u, is-r), (rw (← is-o, h, sound, u), rw (← is-o, h, sound, u)))
 
       pub carry_written : (uid ≡ 0 → ⊥) → (tcp udp : List ℕ) → tcp ≡ notes uid Tcp (entries_data t) (replicate 1024 0)
-          → udp ≡ notes uid Udp (entries_data t) (replicate 1024 0) → (r : WrittenTwo) (d' e' : List ℕ)
+          → udp ≡ notes uid Udp (entries_data t) (replicate 1024 0) → (r : Result (ℕ × ℕ) Refusal) (d' e' : List ℕ)
           → Did d e (within_rooms (length d) (length e) (plain_text (in_both tcp udp), marked_text (in_both tcp udp))) r d' e' → Did d e outcome r d' e'
       unfolding carry
       carry_written z tcp udp is-tcp is-udp r d' e' w =

@@ -2,10 +2,10 @@
 --   span_grants == some line of a span's lines grants the port p, exactly if f holds of it
 --   span-no-colon == no such line is of the form `addr4/len:pmin,pmax`
 -- Assumes nothing.
+use Rattle.std.specs.Prelude.{None, Option, Some}
 use Prim.Native.Nat.{ℕ, zero, suc, ◌+◌, ◌-◌, ◌*◌, ◌^◌, ◌<◌, ◌≤◌}
 use mathlib.Core.Bool.{Bool, true, false, not, ◌&&◌, ◌||◌, or-false, or_assoc}
 use mathlib.Core.List.{List, [], ◌∷◌, ◌++◌}
-use mathlib.Core.Option.{Option, none, some}
 use mathlib.Core.Path.{◌≡◌, refl, sym, ap, ap₂, ◌∙◌}
 use native.Mathlib.Omega.{arith}
 use borrow.Author.Tests.{le-leb, lt-leb, leb-true, leb-false, eq-eqb, ne_eqb, eqb-true, eqb-false, not-true}
@@ -32,14 +32,14 @@ digits q = all_numeral is_digit 10 (omega arith) is_digit_digit_byte 10 q
 unmarked : (c : ℕ) → is_digit c ≡ false → (q : ℕ) → free c (decimal q) ≡ true
 unmarked c n q = free_all is_digit c n (decimal q) (digits q)
 
-no_split : (c : ℕ) (w : List ℕ) → free c w ≡ true → split_once (c ∷ []) w ≡ none
+no_split : (c : ℕ) (w : List ℕ) → free c w ≡ true → split_once (c ∷ []) w ≡ None
 unfolding split_once equal all
 no_split c [] e = refl
 no_split c (x ∷ w) e =
     let a = and_true (not (eqb x c)) (free c w) e in
     rw (ne_eqb c x (λ q. eqb-false x c (not-true (eqb x c) a.0) (sym q)), no_split c w a.1)
 
-ports_read : (q : ℕ) → q ≤ 65535 → read_range read_port (decimal q) ≡ some (q, q)
+ports_read : (q : ℕ) → q ≤ 65535 → read_range read_port (decimal q) ≡ Some (q, q)
 unfolding read_range
 ports_read q h = rw (no_split 45 (decimal q) (unmarked 45 refl q), read_decimal_decimal 65535 q h (omega arith))
 
@@ -51,32 +51,32 @@ abbrev pub line_v6 : ℕ → List ℕ
 line_v6 q = bytes "::/0," ++ decimal q
 
 -- the addresses of each line, as either kind
-v4_line_v4 : (read_range read_v4 (bytes "0.0.0.0/0") or_else read_net 32 read_v4 (bytes "0.0.0.0/0")) ≡ some (0, 2 ^ 32 - 1)
+v4_line_v4 : (read_range read_v4 (bytes "0.0.0.0/0") or_else read_net 32 read_v4 (bytes "0.0.0.0/0")) ≡ Some (0, 2 ^ 32 - 1)
 unfolding any each equal lower split split_once from_digits numeral read_decimal read_v4 read_range read_net
 v4_line_v4 = refl
 
-v4_line_v6 : (read_range read_v6 (bytes "0.0.0.0/0") or_else read_net 128 read_v6 (bytes "0.0.0.0/0")) ≡ none
+v4_line_v6 : (read_range read_v6 (bytes "0.0.0.0/0") or_else read_net 128 read_v6 (bytes "0.0.0.0/0")) ≡ None
 unfolding any all each equal lower split split_once from_digits to_digits numeral read_decimal read_v4 read_v6 read_group read_groups read_compressed read_last_group
     read_range read_net
 v4_line_v6 = refl
 
-v6_line_v4 : (read_range read_v4 (bytes "::/0") or_else read_net 32 read_v4 (bytes "::/0")) ≡ none
+v6_line_v4 : (read_range read_v4 (bytes "::/0") or_else read_net 32 read_v4 (bytes "::/0")) ≡ None
 unfolding any each equal lower split split_once from_digits numeral read_decimal read_v4 read_range read_net
 v6_line_v4 = refl
 
-v6_line_v6 : (read_range read_v6 (bytes "::/0") or_else read_net 128 read_v6 (bytes "::/0")) ≡ some (0, 2 ^ 128 - 1)
+v6_line_v6 : (read_range read_v6 (bytes "::/0") or_else read_net 128 read_v6 (bytes "::/0")) ≡ Some (0, 2 ^ 128 - 1)
 unfolding any all each equal lower split split_once from_digits to_digits numeral read_decimal read_v4 read_v6 read_group read_groups read_compressed read_last_group
     read_range read_net
 v6_line_v6 = refl
 
 module _ (w : ℕ) (f : List ℕ → Option ℕ) (q : ℕ) where
   comma_form_v4 : read_comma_form w f (line_v4 q)
-      ≡ ((read_range f (bytes "0.0.0.0/0") or_else read_net w f (bytes "0.0.0.0/0")) >>= λ a. read_range read_port (decimal q) >>= λ b. some (a, b))
+      ≡ ((read_range f (bytes "0.0.0.0/0") or_else read_net w f (bytes "0.0.0.0/0")) >>= λ a. read_range read_port (decimal q) >>= λ b. Some (a, b))
   unfolding read_comma_form split_once equal
   comma_form_v4 = refl
 
   comma_form_v6 : read_comma_form w f (line_v6 q)
-      ≡ ((read_range f (bytes "::/0") or_else read_net w f (bytes "::/0")) >>= λ a. read_range read_port (decimal q) >>= λ b. some (a, b))
+      ≡ ((read_range f (bytes "::/0") or_else read_net w f (bytes "::/0")) >>= λ a. read_range read_port (decimal q) >>= λ b. Some (a, b))
   unfolding read_comma_form split_once equal
   comma_form_v6 = refl
 
@@ -84,11 +84,11 @@ module _ (w : ℕ) (f : List ℕ → Option ℕ) (q : ℕ) where
 free_line : (c : ℕ) → is_digit c ≡ false → (net : List ℕ) → free c net ≡ true → (q : ℕ) → free c (net ++ decimal q) ≡ true
 free_line c n net h q = all_append (λ b. not (eqb b c)) net (decimal q) h (unmarked c n q)
 
-pub colon_v4 : (q : ℕ) → read_colon_form (line_v4 q) ≡ none
+pub colon_v4 : (q : ℕ) → read_colon_form (line_v4 q) ≡ None
 unfolding read_colon_form all
 colon_v4 q = rw (no_split 58 (line_v4 q) (free_line 58 refl (bytes "0.0.0.0/0,") refl q))
 
-pub colon_v6 : (q : ℕ) → read_colon_form (line_v6 q) ≡ none
+pub colon_v6 : (q : ℕ) → read_colon_form (line_v6 q) ≡ None
 unfolding read_colon_form split_once equal read_net
 colon_v6 q = refl
 
@@ -219,19 +219,19 @@ pub span_grants : (f : ℕ → Bool) (k q p : ℕ) (a : Addr) → Somewhere a �
     → any (line_grants a p) (split "\n" (span_lines f k q)) ≡ f p
 span_grants f k q p a s h l m = span_any f k q p a s (omega arith) ∙ has_in f k q p l m
 
-span_unretired : (f : ℕ → Bool) (k q n : ℕ) → retired_fault n (split "\n" (span_lines f k q)) ≡ none
+span_unretired : (f : ℕ → Bool) (k q n : ℕ) → retired_fault n (split "\n" (span_lines f k q)) ≡ None
 unfolding span_lines retired_fault split is_retired read_colon_form split_once
 span_unretired f zero q n = refl
 span_unretired f (suc k) q n = by (f q) (span_unretired f k (suc q))
   where
-    by : (b : Bool) → ((n : ℕ) → retired_fault n (split "\n" (span_lines f k (suc q))) ≡ none)
-        → retired_fault n (split "\n" ((when b then port_lines q else []) ++ span_lines f k (suc q))) ≡ none
+    by : (b : Bool) → ((n : ℕ) → retired_fault n (split "\n" (span_lines f k (suc q))) ≡ None)
+        → retired_fault n (split "\n" ((when b then port_lines q else []) ++ span_lines f k (suc q))) ≡ None
     by true ih = ap (retired_fault n) (split_lines q (span_lines f k (suc q))) ∙ passed
       where
-        passed : retired_fault n (line_v4 q ∷ line_v6 q ∷ split "\n" (span_lines f k (suc q))) ≡ none
+        passed : retired_fault n (line_v4 q ∷ line_v6 q ∷ split "\n" (span_lines f k (suc q))) ≡ None
         passed = rw (retired_v4 q, retired_v6 q) (ih (n + 1 + 1))
     by false ih = ih n
 
-pub never_retired : (f : ℕ → Bool) (k q : ℕ) → byuid_fault (span_lines f k q) ≡ none
+pub never_retired : (f : ℕ → Bool) (k q : ℕ) → byuid_fault (span_lines f k q) ≡ None
 unfolding byuid_fault
 never_retired f k q = span_unretired f k q 1

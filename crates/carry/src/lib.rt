@@ -8,8 +8,7 @@ ghost use Rattle.section.specs.Refusal.{within_rooms, first_after, second_after,
 ghost use Rattle.carry.specs.Carry.{port_lines, span_lines, plain_text, marked_text, carry as carryOf};
 ghost use Rattle.carry.specs.Code.{in_both, lines_if, address_line};
 
-use portacl::Checked;
-use section::{Fault, WrittenTwo};
+use section::Fault;
 
 // Whether a port is noted in both sets.
 fn is_in_both(tcp: &[u8], udp: &[u8], port: usize) -> bool
@@ -102,7 +101,7 @@ fn put_span(out: &mut [u8], tcp: &[u8], udp: &[u8], from: usize, count: usize) -
 }
 
 // Writes both texts, where both have room.
-fn write_texts(plain: &mut [u8], marked: &mut [u8], tcp: &[u8], udp: &[u8]) -> WrittenTwo
+fn write_texts(plain: &mut [u8], marked: &mut [u8], tcp: &[u8], udp: &[u8]) -> Result<(usize, usize), Refusal>
     ensures answer { result
         ≡ written_two_of
         (within_rooms (length plain.old) (length marked.old)
@@ -117,18 +116,18 @@ fn write_texts(plain: &mut [u8], marked: &mut [u8], tcp: &[u8], udp: &[u8]) -> W
         (plain_text (in_both tcp.now udp.now), marked_text (in_both tcp.now udp.now))) }
 {
     if plain.len() < measure(tcp, udp, 1, 511) {
-        return WrittenTwo::Refused(section::placeless(Fault::NoRoom));
+        return Err(section::placeless(Fault::NoRoom));
     }
     if marked.len() < measure(tcp, udp, 512, 512) {
-        return WrittenTwo::Refused(section::placeless(Fault::NoRoom));
+        return Err(section::placeless(Fault::NoRoom));
     }
     let lower = put_span(plain, tcp, udp, 1, 511);
     let upper = put_span(marked, tcp, udp, 512, 512);
-    WrittenTwo::Counts(lower, upper)
+    Ok((lower, upper))
 }
 
 // Writes the byuid lines for the user id at the front of both outputs: the plain file's and the marked file's. A refusal leaves both as they were.
-pub fn carry(plain: &mut [u8], marked: &mut [u8], text: &[u8], uid: u32) -> WrittenTwo
+pub fn carry(plain: &mut [u8], marked: &mut [u8], text: &[u8], uid: u32) -> Result<(usize, usize), Refusal>
     ensures answer { result
         ≡ written_two_of (carryOf text.now uid (length plain.old) (length marked.old)) }
     ensures lower { plain.new
@@ -137,15 +136,15 @@ pub fn carry(plain: &mut [u8], marked: &mut [u8], text: &[u8], uid: u32) -> Writ
         ≡ second_after marked.old (carryOf text.now uid (length plain.old) (length marked.old)) }
 {
     if section::Portacl::over(text.len()) {
-        return WrittenTwo::Refused(section::Portacl::refusal(Fault::OverLimit, 0));
+        return Err(section::Portacl::refusal(Fault::OverLimit, 0));
     }
     let mut tcp = [0u8; 1024];
     let mut udp = [0u8; 1024];
     match portacl::note_ports(&mut tcp, &mut udp, text, uid) {
-        Checked::Refused(refusal) => WrittenTwo::Refused(refusal),
-        Checked::Sound => {
+        Err(refusal) => Err(refusal),
+        Ok(()) => {
             if uid == 0 {
-                return WrittenTwo::Refused(section::placeless(Fault::BadRequest));
+                return Err(section::placeless(Fault::BadRequest));
             }
             write_texts(plain, marked, &tcp, &udp)
         }

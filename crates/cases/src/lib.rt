@@ -4,7 +4,6 @@
 
 ghost use Rattle.std.specs.Prelude.{◌≡◌, ◌≤◌, length};
 
-use text::NumberRead;
 
 const START: usize = 66;
 
@@ -50,8 +49,8 @@ fn put(block: &mut [u8], at: usize, s: &[u8]) -> usize {
 fn number_to(s: &[u8], max: u32) -> usize {
     let r = text::read_decimal(s, max);
     match r {
-        NumberRead::Value(n) => n as usize,
-        NumberRead::Nothing => MALFORMED,
+        Some(n) => n as usize,
+        None => MALFORMED,
     }
 }
 
@@ -233,8 +232,8 @@ pub fn field(block: &[u8], k: usize) -> &[u8] {
 pub fn number(block: &[u8], k: usize) -> u32 {
     let r = text::read_decimal(field(block, k), 4294967295);
     match r {
-        NumberRead::Value(n) => n,
-        NumberRead::Nothing => 0,
+        Some(n) => n,
+        None => 0,
     }
 }
 

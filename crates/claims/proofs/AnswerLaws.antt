@@ -1,5 +1,6 @@
 -- What an answer says of the outcome.
 -- Assumes nothing.
+use Rattle.std.specs.Prelude.{Err, Ok}
 use Prim.Native.Nat.{ℕ, ◌≤◌}
 use native.Mathlib.Omega.{arith}
 use mathlib.Core.List.{List, []}
@@ -9,7 +10,7 @@ use lib.Seq.{take_at}
 use Rattle.section.specs.declared.Fault.{Fault}
 use Rattle.section.specs.declared.Fault.TheVariants as F
 use Rattle.section.specs.declared.Refusal.{Refusal}
-use Rattle.section.specs.Refusal.{Outcome, refused, answered, ◌>>=◌, fault_number, lent_after, first_after, second_after}
+use Rattle.section.specs.Refusal.{Outcome, ◌>>=◌, fault_number, lent_after, first_after, second_after}
 use Rattle.section.specs.Section.{bytes_at}
 use Rattle.address.specs.declared.Addr.{Addr}
 use Rattle.address.specs.declared.Addr.TheVariants as A
@@ -67,24 +68,24 @@ fault_nonzero F.BadProposal e = omega arith
 fault_nonzero F.WrongIndex e = omega arith
 fault_nonzero F.RetiredForm e = omega arith
 
-pub check_answered : (o : Outcome Parts) → check_answer o ≡ accepted → (p : Parts) × (o ≡ answered p)
+pub check_answered : (o : Outcome Parts) → check_answer o ≡ accepted → (p : Parts) × (o ≡ Ok p)
 unfolding check_answer
-check_answered (refused r) e = absurd (fault_nonzero r.fault (ap (λ (c : GateCheck). c.number) e))
-check_answered (answered p) e = (p, refl)
+check_answered (Err r) e = absurd (fault_nonzero r.fault (ap (λ (c : GateCheck). c.number) e))
+check_answered (Ok p) e = (p, refl)
 
-pub accepted_parts : (sheet : List ℕ) → Accepted sheet → (p : Parts) × (unpack sheet ≡ answered p)
+pub accepted_parts : (sheet : List ℕ) → Accepted sheet → (p : Parts) × (unpack sheet ≡ Ok p)
 accepted_parts sheet e = check_answered (unpack sheet) e
 
-pub parts_accepted : (sheet : List ℕ) (p : Parts) → unpack sheet ≡ answered p → Accepted sheet
+pub parts_accepted : (sheet : List ℕ) (p : Parts) → unpack sheet ≡ Ok p → Accepted sheet
 unfolding check_answer
 parts_accepted sheet p e = rw e
 
-pub written_answered : (out : List ℕ) (o : Outcome (List ℕ)) → (written_answer o).number ≡ 0 → (t : List ℕ) × (o ≡ answered t) × (front (wrote out o) ≡ t)
+pub written_answered : (out : List ℕ) (o : Outcome (List ℕ)) → (written_answer o).number ≡ 0 → (t : List ℕ) × (o ≡ Ok t) × (front (wrote out o) ≡ t)
 unfolding written_answer
-written_answered out (refused r) e = absurd (fault_nonzero r.fault e)
-written_answered out (answered t) e = (t, refl, take_at t (drop (length t) out) (length t) refl)
+written_answered out (Err r) e = absurd (fault_nonzero r.fault e)
+written_answered out (Ok t) e = (t, refl, take_at t (drop (length t) out) (length t) refl)
 
-pub front_answered : (out : List ℕ) (o : Outcome (List ℕ)) (t : List ℕ) → o ≡ answered t → front (wrote out o) ≡ t
+pub front_answered : (out : List ℕ) (o : Outcome (List ℕ)) (t : List ℕ) → o ≡ Ok t → front (wrote out o) ≡ t
 unfolding written_answer
 front_answered out o t e = rw e (take_at t (drop (length t) out) (length t) refl)
 
@@ -122,8 +123,8 @@ word_decision w h k = by_word (word_answer w) refl refl h k
 
 pub verdict_decision : (o : Outcome Answer) (n : ℕ) → Decision (verdict_answer o n)
 unfolding verdict_answer
-verdict_decision (refused r) n = refusal_decision r
-verdict_decision (answered a) n = by a.verdict refl
+verdict_decision (Err r) n = refusal_decision r
+verdict_decision (Ok a) n = by a.verdict refl
   where
     by : (v : Verdict) → a.verdict ≡ v → Decision (answer_numbers a n)
     by Ver.Granted e = by_word (answer_numbers a n) refl refl (rw e (omega arith)) (rw e (omega arith))
@@ -132,18 +133,18 @@ verdict_decision (answered a) n = by a.verdict refl
 
 pub byuid_decision_lem : (o : Outcome ByuidDecision) → Decision (byuid_answer o)
 unfolding byuid_answer
-byuid_decision_lem (refused r) = refusal_decision r
-byuid_decision_lem (answered B.Granted) = word_decision 1 (omega arith) (omega arith)
-byuid_decision_lem (answered B.NoLine) = word_decision 4 (omega arith) (omega arith)
-byuid_decision_lem (answered B.NotRuled) = word_decision 5 (omega arith) (omega arith)
+byuid_decision_lem (Err r) = refusal_decision r
+byuid_decision_lem (Ok B.Granted) = word_decision 1 (omega arith) (omega arith)
+byuid_decision_lem (Ok B.NoLine) = word_decision 4 (omega arith) (omega arith)
+byuid_decision_lem (Ok B.NotRuled) = word_decision 5 (omega arith) (omega arith)
 
 pub portacl_decision_lem : (o : Outcome PortaclDecision) → Decision (portacl_answer o)
 unfolding portacl_answer
-portacl_decision_lem (refused r) = refusal_decision r
-portacl_decision_lem (answered P.Granted) = word_decision 1 (omega arith) (omega arith)
-portacl_decision_lem (answered P.Denied) = word_decision 2 (omega arith) (omega arith)
-portacl_decision_lem (answered P.NotRuled) = word_decision 5 (omega arith) (omega arith)
-portacl_decision_lem (answered P.Exempt) = word_decision 6 (omega arith) (omega arith)
+portacl_decision_lem (Err r) = refusal_decision r
+portacl_decision_lem (Ok P.Granted) = word_decision 1 (omega arith) (omega arith)
+portacl_decision_lem (Ok P.Denied) = word_decision 2 (omega arith) (omega arith)
+portacl_decision_lem (Ok P.NotRuled) = word_decision 5 (omega arith) (omega arith)
+portacl_decision_lem (Ok P.Exempt) = word_decision 6 (omega arith) (omega arith)
 
 pub every_decision : EveryDecision
 every_decision = record {
@@ -164,41 +165,41 @@ fault_most f = (fault_range f).1
 
 written_most : (o : Outcome (List ℕ)) → (written_answer o).number ≤ 22
 unfolding written_answer
-written_most (refused r) = fault_most r.fault
-written_most (answered t) = omega arith
+written_most (Err r) = fault_most r.fault
+written_most (Ok t) = omega arith
 
 check_most : (o : Outcome Parts) → (check_answer o).number ≤ 22
 unfolding check_answer
-check_most (refused r) = fault_most r.fault
-check_most (answered p) = omega arith
+check_most (Err r) = fault_most r.fault
+check_most (Ok p) = omega arith
 
 parts_most : (o : Outcome Parts) → (parts_answer o).number ≤ 22
 unfolding parts_answer
-parts_most (refused r) = fault_most r.fault
-parts_most (answered p) = omega arith
+parts_most (Err r) = fault_most r.fault
+parts_most (Ok p) = omega arith
 
 address_most : (o : Outcome Addr) → (address_answer o).number ≤ 22
 unfolding address_answer
-address_most (refused r) = fault_most r.fault
-address_most (answered A.Unknown) = omega arith
-address_most (answered (A.V4 n)) = omega arith
-address_most (answered (A.V6 h l)) = omega arith
+address_most (Err r) = fault_most r.fault
+address_most (Ok A.Unknown) = omega arith
+address_most (Ok (A.V4 n)) = omega arith
+address_most (Ok (A.V6 h l)) = omega arith
 
 next_most : (o : Outcome Step) → (next_answer o).number ≤ 22
 unfolding next_answer
-next_most (refused r) = fault_most r.fault
-next_most (answered s) = omega arith
+next_most (Err r) = fault_most r.fault
+next_most (Ok s) = omega arith
 
 -- a call with two outputs that is not refused
-pub two_answered : (o : Outcome (List ℕ × List ℕ)) → (written_two_answer o).number ≡ 0 → (p : List ℕ × List ℕ) × (o ≡ answered p)
+pub two_answered : (o : Outcome (List ℕ × List ℕ)) → (written_two_answer o).number ≡ 0 → (p : List ℕ × List ℕ) × (o ≡ Ok p)
 unfolding written_two_answer
-two_answered (refused r) e = absurd (fault_nonzero r.fault e)
-two_answered (answered p) e = (p, refl)
+two_answered (Err r) e = absurd (fault_nonzero r.fault e)
+two_answered (Ok p) e = (p, refl)
 
 two_most : (o : Outcome (List ℕ × List ℕ)) → (written_two_answer o).number ≤ 22
 unfolding written_two_answer
-two_most (refused r) = fault_most r.fault
-two_most (answered p) = omega arith
+two_most (Err r) = fault_most r.fault
+two_most (Ok p) = omega arith
 
 pub every_number : EveryNumber
 every_number = record {
@@ -222,24 +223,24 @@ every_number = record {
 
 kept : (out : List ℕ) (o : Outcome (List ℕ)) → ((written_answer o).number ≡ 0 → ⊥) → lent_after out o ≡ out
 unfolding written_answer
-kept out (refused r) h = refl
-kept out (answered t) h = absurd (h refl)
+kept out (Err r) h = refl
+kept out (Ok t) h = absurd (h refl)
 
-command_kept : (out : List ℕ) (o : Outcome Command) (k : ℕ) → ((command_answer o k).number ≡ 0 → ⊥) → lent_after out (o >>= λ c. answered c.text) ≡ out
+command_kept : (out : List ℕ) (o : Outcome Command) (k : ℕ) → ((command_answer o k).number ≡ 0 → ⊥) → lent_after out (o >>= λ c. Ok c.text) ≡ out
 unfolding command_answer
-command_kept out (refused r) k h = refl
-command_kept out (answered c) k h = absurd (h refl)
+command_kept out (Err r) k h = refl
+command_kept out (Ok c) k h = absurd (h refl)
 
 name_kept : (out : List ℕ) (o : Outcome Step) → ((next_answer o).number ≡ 0 → ⊥) → lent_after out (name_written o) ≡ out
 unfolding next_answer
-name_kept out (refused r) h = refl
-name_kept out (answered s) h = absurd (h refl)
+name_kept out (Err r) h = refl
+name_kept out (Ok s) h = absurd (h refl)
 
 two_kept : (out other : List ℕ) (o : Outcome (List ℕ × List ℕ)) → ((written_two_answer o).number ≡ 0 → ⊥) → (first_after out o ≡ out)
     × (second_after other o ≡ other)
 unfolding written_two_answer
-two_kept out other (refused r) h = (refl, refl)
-two_kept out other (answered p) h = absurd (h refl)
+two_kept out other (Err r) h = (refl, refl)
+two_kept out other (Ok p) h = absurd (h refl)
 
 pub refusal_writes_nothing : RefusalWritesNothing
 refusal_writes_nothing = record {

@@ -1,10 +1,10 @@
 -- Request 13: the lines that are written grant what the list grants, and are never more than the list.
 -- Assumes nothing.
+use Rattle.std.specs.Prelude.{None, Ok, Option, Some}
 use Prim.Native.Nat.{ℕ, ◌+◌, ◌≤◌, ◌<◌, ◌^◌}
 use native.Mathlib.Omega.{arith}
 use mathlib.Core.Bool.{Bool, true, false, not, ◌&&◌, ◌||◌}
 use mathlib.Core.List.{List, [], ◌∷◌, ◌++◌}
-use mathlib.Core.Option.{Option, none, some}
 use mathlib.Core.Path.{◌≡◌, refl, sym, ap, ap₂, ◌∙◌}
 use borrow.Author.Tests.{lt-ltb, le-ltb, le-leb, lt-leb, ne_eqb, eqb-false, ltb-false}
 use lib.Dec.{ltb, eqb}
@@ -15,7 +15,7 @@ use Rattle.text.specs.Basics.{when◌then◌else◌, ◌or_else◌, given, holds
 use Rattle.text.specs.Text.{split}
 use Rattle.section.specs.declared.Fault.TheVariants as F
 use Rattle.section.specs.declared.Refusal.{Refusal}
-use Rattle.section.specs.Refusal.{Outcome, refused, answered, placeless, refusing, within_rooms}
+use Rattle.section.specs.Refusal.{Outcome, placeless, refusing, within_rooms}
 use Rattle.section.specs.Section as S
 use Rattle.section.specs.Section.{over_limit}
 use Rattle.address.specs.declared.Addr.{Addr}
@@ -45,11 +45,11 @@ use Rattle.claims.proofs.AnswerLaws.{two_answered}
 -- of a call that is answered: the list is sound and within its limit, and both texts are those of its ports
 record Carried (list : List ℕ) (uid room other : ℕ) (p : List ℕ × List ℕ) : Type 0 where
   short : length list ≤ 4096
-  sound : portacl_fault list ≡ none
+  sound : portacl_fault list ≡ None
   caller : eqb uid 0 ≡ false
   texts : p ≡ (plain_text (carried list uid), marked_text (carried list uid))
 
-carry_answered : (list : List ℕ) (uid room other : ℕ) (p : List ℕ × List ℕ) → carry list uid room other ≡ answered p → Carried list uid room other p
+carry_answered : (list : List ℕ) (uid room other : ℕ) (p : List ℕ × List ℕ) → carry list uid room other ≡ Ok p → Carried list uid room other p
 unfolding carry
 carry_answered list uid room other p e =
     let ts : List ℕ × List ℕ = (plain_text (carried list uid), marked_text (carried list uid)) in
@@ -68,15 +68,15 @@ carry_answered list uid room other p e =
 
 -- ## By portacl
 
-module _ (list : List ℕ) (uid port : ℕ) (short : length list ≤ 4096) (sound : portacl_fault list ≡ none) (low : port ≤ 1023) where
-  listed : (p : Protocol) → decide_portacl list strict (some (Portacl.bind uid [] p port)) ≡ answered (when has_entry list uid p port then P.Granted else P.Denied)
+module _ (list : List ℕ) (uid port : ℕ) (short : length list ≤ 4096) (sound : portacl_fault list ≡ None) (low : port ≤ 1023) where
+  listed : (p : Protocol) → decide_portacl list strict (Some (Portacl.bind uid [] p port)) ≡ Ok (when has_entry list uid p port then P.Granted else P.Denied)
   unfolding decide_portacl portacl_decision
   listed p = rw (le-ltb 4096 (length list) short, sound, le-ltb 1023 port low)
 
   small : is_port port ≡ true
   small = lt-ltb port (2 ^ 16) (omega arith)
 
-  word_is : (b : Bool) → eqb (portacl_answer (answered (when b then P.Granted else P.Denied))).word 1 ≡ b
+  word_is : (b : Bool) → eqb (portacl_answer (Ok (when b then P.Granted else P.Denied))).word 1 ≡ b
   unfolding portacl_answer
   word_is true = refl
   word_is false = refl
@@ -95,21 +95,21 @@ module _ (list : List ℕ) (uid port : ℕ) (short : length list ≤ 4096) (soun
 
 -- ## By byuid
 
-module _ (t : List ℕ) (m : Mark) (port uid : ℕ) (short : length t ≤ 8192) (kept : byuid_fault t ≡ none) (ruled : is_ruled port uid ≡ true)
+module _ (t : List ℕ) (m : Mark) (port uid : ℕ) (short : length t ≤ 8192) (kept : byuid_fault t ≡ None) (ruled : is_ruled port uid ≡ true)
     (span : in_span m port ≡ true)
     (b : Bool) where
   line_decided : (a : Addr) → address_known (file_bind m (bind port a uid)) ≡ true → any (line_grants a port) (split "\n" t) ≡ b
-      → decide_byuid t (some (file_bind m (bind port a uid))) ≡ answered (when b then Granted else NoLine)
+      → decide_byuid t (Some (file_bind m (bind port a uid))) ≡ Ok (when b then Granted else NoLine)
   unfolding decide_byuid byuid_decision
   line_decided a k e = rw (le-ltb 8192 (length t) short, kept, k, ruled, span, e)
 
   address_decided : {kind high low : ℕ} → Address kind high low → is_port port ≡ true → ((a : Addr) → Somewhere a → any (line_grants a port) (split "\n" t) ≡ b)
-      → decide_byuid t (from_file m (byuid_bind port kind high low uid)) ≡ answered (when b then Granted else NoLine)
+      → decide_byuid t (from_file m (byuid_bind port kind high low uid)) ≡ Ok (when b then Granted else NoLine)
   unfolding byuid_bind address_of
   address_decided (v4 high low h) small e = rw (lt-ltb low (2 ^ 32) h, small) (line_decided (A.V4 low) refl (e (A.V4 low) (at_v4 low h)))
   address_decided (v6 high low h k) small e = rw small (line_decided (A.V6 high low) refl (e (A.V6 high low) (at_v6 high low h k)))
 
-word_of : (b : Bool) → byuid_answer (answered (when b then Granted else NoLine)) ≡ word_answer (granted_if b)
+word_of : (b : Bool) → byuid_answer (Ok (when b then Granted else NoLine)) ≡ word_answer (granted_if b)
 unfolding byuid_answer
 word_of true = refl
 word_of false = refl
@@ -120,14 +120,14 @@ module _ (list : List ℕ) (uid : ℕ) (plain marked : List ℕ) (e : (gate_carr
   f : ℕ → Bool
   f = carried list uid
 
-  found : (p : List ℕ × List ℕ) × (carry list uid (length plain) (length marked) ≡ answered p)
+  found : (p : List ℕ × List ℕ) × (carry list uid (length plain) (length marked) ≡ Ok p)
   found = two_answered (carry list uid (length plain) (length marked)) e
 
   facts : Carried list uid (length plain) (length marked) found.0
   facts = carry_answered list uid (length plain) (length marked) found.0 found.1
 
-  whole : carry list uid (length plain) (length marked) ≡ answered (plain_text (carried list uid), marked_text (carried list uid))
-  whole = found.1 ∙ ap answered facts.texts
+  whole : carry list uid (length plain) (length marked) ≡ Ok (plain_text (carried list uid), marked_text (carried list uid))
+  whole = found.1 ∙ ap Ok facts.texts
 
   plain_is : plain_written (gate_carry list uid plain marked) ≡ plain_text (carried list uid)
   unfolding written_two_answer

@@ -1,10 +1,10 @@
 -- The plain and the marked byuid file: each grants its own span, and answers the other's by "no line".
 -- Assumes nothing.
+use Rattle.std.specs.Prelude.{Err, None, Ok, Option, Some}
 use Prim.Native.Nat.{ℕ, ◌≤◌, ◌<◌, ◌^◌}
 use native.Mathlib.Omega.{arith}
 use mathlib.Core.Bool.{Bool, true, false, not, ◌&&◌}
 use mathlib.Core.List.{List}
-use mathlib.Core.Option.{Option, none, some}
 use mathlib.Core.Path.{◌≡◌, refl, ap, ◌∙◌}
 use borrow.Author.Tests.{lt-ltb, le-ltb, le-leb, lt-leb, leb-true, ne_eqb}
 use lib.Dec.{leb}
@@ -15,7 +15,7 @@ use Rattle.text.proofs.BasicLaws.{and_true}
 use Rattle.section.specs.declared.Fault.TheVariants as F
 use Rattle.section.specs.declared.Refusal.{Refusal}
 use Rattle.section.specs.Refusal.{◌>>=◌ as ◌and_then◌}
-use Rattle.section.specs.Refusal.{Outcome, refused, answered, placeless, ◌before◌, fitting}
+use Rattle.section.specs.Refusal.{Outcome, placeless, ◌before◌, fitting}
 use Rattle.section.specs.Section as S
 use Rattle.section.specs.Section.{over_limit, bytes_at}
 use Rattle.address.specs.declared.Addr.{Addr}
@@ -34,27 +34,27 @@ use Rattle.claims.specs.Claims.{Known, known_v4, known_v6, GrantsOwnSpan, OtherS
 
 -- ## What is granted
 
-word_granted : (o : Outcome Decision) → (byuid_answer o).word ≡ 1 → o ≡ answered Granted
+word_granted : (o : Outcome Decision) → (byuid_answer o).word ≡ 1 → o ≡ Ok Granted
 unfolding byuid_answer
-word_granted (refused r) e = absurd (omega arith)
-word_granted (answered Granted) e = refl
-word_granted (answered NoLine) e = absurd (omega arith)
-word_granted (answered NotRuled) e = absurd (omega arith)
+word_granted (Err r) e = absurd (omega arith)
+word_granted (Ok Granted) e = refl
+word_granted (Ok NoLine) e = absurd (omega arith)
+word_granted (Ok NotRuled) e = absurd (omega arith)
 
 abbrev is_granted : Outcome Decision → ℕ
-is_granted (refused r) = 0
-is_granted (answered Granted) = 1
-is_granted (answered NoLine) = 0
-is_granted (answered NotRuled) = 0
+is_granted (Err r) = 0
+is_granted (Ok Granted) = 1
+is_granted (Ok NoLine) = 0
+is_granted (Ok NotRuled) = 0
 
 -- of the tests of a decision: is it ruled, in the span of the file, granted by a line
-span_granted : (z y x : Bool) → is_granted (answered (when not z then NotRuled else when y && x then Granted else NoLine)) ≡ 1 → y ≡ true
+span_granted : (z y x : Bool) → is_granted (Ok (when not z then NotRuled else when y && x then Granted else NoLine)) ≡ 1 → y ≡ true
 span_granted false y x e = absurd (omega arith)
 span_granted true false x e = absurd (omega arith)
 span_granted true true x e = refl
 
 module _ (t : List ℕ) (m : Mark) (port kind high low uid : ℕ) where
-  decided_span : (a : Addr) → is_granted (answered (byuid_decision t m port a uid)) ≡ 1 → in_span m port ≡ true
+  decided_span : (a : Addr) → is_granted (Ok (byuid_decision t m port a uid)) ≡ 1 → in_span m port ≡ true
   unfolding byuid_decision
   decided_span a e = span_granted (is_ruled port uid) (in_span m port) (any (line_grants a port) (split "\n" t)) e
 
@@ -64,14 +64,14 @@ module _ (t : List ℕ) (m : Mark) (port kind high low uid : ℕ) where
     where
       by : (r : Option Refusal) (a : Option Addr) (b : Bool)
           → is_granted (r before fitting address_known (from_file m (a >>= λ x. given b (bind port x uid)))
-          (λ c. answered (byuid_decision t c.mark c.asked.port c.asked.address c.asked.uid))) ≡ 1
+          (λ c. Ok (byuid_decision t c.mark c.asked.port c.asked.address c.asked.uid))) ≡ 1
           → in_span m port ≡ true
-      by (some r) a b f = absurd (omega arith)
-      by none none b f = absurd (omega arith)
-      by none (some x) false f = absurd (omega arith)
-      by none (some A.Unknown) true f = absurd (omega arith)
-      by none (some (A.V4 n)) true f = decided_span (A.V4 n) f
-      by none (some (A.V6 h l)) true f = decided_span (A.V6 h l) f
+      by (Some r) a b f = absurd (omega arith)
+      by None None b f = absurd (omega arith)
+      by None (Some x) false f = absurd (omega arith)
+      by None (Some A.Unknown) true f = absurd (omega arith)
+      by None (Some (A.V4 n)) true f = decided_span (A.V4 n) f
+      by None (Some (A.V6 h l)) true f = decided_span (A.V6 h l) f
 
 within : (l h p : ℕ) → (leb l p && leb p h) ≡ true → (l ≤ p) × (p ≤ h)
 within l h p e =
@@ -85,8 +85,8 @@ sheet_span sheet port kind high low uid e = by (unpack sheet) e
   where
     by : (u : Outcome Parts) → is_granted (u and_then λ p. decide_byuid (bytes_at sheet p.byuid) (from_file Plain (byuid_bind port kind high low uid))) ≡ 1
         → in_span Plain port ≡ true
-    by (refused r) f = absurd (omega arith)
-    by (answered p) f = own_span (bytes_at sheet p.byuid) Plain port kind high low uid f
+    by (Err r) f = absurd (omega arith)
+    by (Ok p) f = own_span (bytes_at sheet p.byuid) Plain port kind high low uid f
 
 granted_one : (o : Outcome Decision) → (byuid_answer o).word ≡ 1 → is_granted o ≡ 1
 granted_one o e = ap is_granted (word_granted o e)
@@ -106,14 +106,14 @@ grants_own_span = record {
 
 -- ## The other span
 
-module _ (t : List ℕ) (m : Mark) (port uid : ℕ) (short : length t ≤ 8192) (sound : byuid_fault t ≡ none) (ruled : is_ruled port uid ≡ true)
+module _ (t : List ℕ) (m : Mark) (port uid : ℕ) (short : length t ≤ 8192) (sound : byuid_fault t ≡ None) (ruled : is_ruled port uid ≡ true)
     (other : in_span m port ≡ false)
     (small : is_port port ≡ true) where
-  other_decided : (a : Addr) → address_known (file_bind m (bind port a uid)) ≡ true → decide_byuid t (some (file_bind m (bind port a uid))) ≡ answered NoLine
+  other_decided : (a : Addr) → address_known (file_bind m (bind port a uid)) ≡ true → decide_byuid t (Some (file_bind m (bind port a uid))) ≡ Ok NoLine
   unfolding decide_byuid byuid_decision
   other_decided a k = rw (le-ltb 8192 (length t) short, sound, k, ruled, other)
 
-  other_known : {kind high low : ℕ} → Known kind high low → decide_byuid t (from_file m (byuid_bind port kind high low uid)) ≡ answered NoLine
+  other_known : {kind high low : ℕ} → Known kind high low → decide_byuid t (from_file m (byuid_bind port kind high low uid)) ≡ Ok NoLine
   unfolding byuid_bind address_of
   other_known (known_v4 high low h) = rw (lt-ltb low (2 ^ 32) h, small) (other_decided (A.V4 low) refl)
   other_known (known_v6 high low) = rw small (other_decided (A.V6 high low) refl)

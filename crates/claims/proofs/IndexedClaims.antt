@@ -1,16 +1,16 @@
 -- Request 8: by the index that gate_index wrote each request gets its lone answer, and what is refused, in which order.
 -- Assumes nothing.
+use Rattle.std.specs.Prelude.{Err, None, Ok, Some}
 use Prim.Native.Nat.{ℕ, ◌*◌, ◌≤◌, ◌<◌}
 use mathlib.Core.Bool.{Bool, true, false}
 use mathlib.Core.List.{List}
-use mathlib.Core.Option.{Option, none, some}
 use mathlib.Core.Path.{◌≡◌, refl, sym, ap, ◌∙◌}
 use lib.Dec.{ltb}
 use lib.ListN.{length, take, drop, get_or}
 use Rattle.text.specs.Basics.{given}
 use Rattle.section.specs.declared.Fault.TheVariants as F
 use Rattle.section.specs.declared.Refusal.{Refusal}
-use Rattle.section.specs.Refusal.{Outcome, refused, answered, refusing, placeless, within_room}
+use Rattle.section.specs.Refusal.{Outcome, refusing, placeless, within_room}
 use Rattle.sheet.specs.declared.Parts.{Parts}
 use Rattle.sheet.specs.Sheet.{unpack}
 use Rattle.station.specs.Station.{decide_sheet, looked_sheet}
@@ -31,10 +31,10 @@ use Rattle.claims.proofs.AnswerLaws.{fault_nonzero, check_answered, written_answ
 abbrev as_written : GateCheck → GateWritten
 as_written c = record { number = c.number; section = c.section; line = c.line; count = 0 }
 
-sheet_refused : (o : Outcome Parts) (r : Refusal) → check_answer o ≡ refused_check r → (g : Refusal) × ((o ≡ refused g) × (refused_written g ≡ refused_written r))
+sheet_refused : (o : Outcome Parts) (r : Refusal) → check_answer o ≡ refused_check r → (g : Refusal) × ((o ≡ Err g) × (refused_written g ≡ refused_written r))
 unfolding check_answer
-sheet_refused (refused g) r e = (g, (refl, ap as_written e))
-sheet_refused (answered p) r e = absurd (fault_nonzero r.fault (sym (ap (λ (c : GateCheck). c.number) e)))
+sheet_refused (Err g) r e = (g, (refl, ap as_written e))
+sheet_refused (Ok p) r e = absurd (fault_nonzero r.fault (sym (ap (λ (c : GateCheck). c.number) e)))
 
 refused_index : (sheet out : List ℕ) (r : Refusal) → gate_check sheet ≡ refused_check r → (gate_index sheet out).answer ≡ refused_written r
 unfolding written_answer write_index
@@ -59,7 +59,7 @@ room_only room t = by (ltb room (length t))
     by true h = refl
     by false h = absurd (h refl)
 
-index_outcome : (sheet : List ℕ) (p : Parts) → unpack sheet ≡ answered p → (room : ℕ) → write_index sheet room ≡ within_room room (index_bytes sheet p)
+index_outcome : (sheet : List ℕ) (p : Parts) → unpack sheet ≡ Ok p → (room : ℕ) → write_index sheet room ≡ within_room room (index_bytes sheet p)
 unfolding write_index
 index_outcome sheet p ok room = rw ok
 
@@ -73,7 +73,7 @@ no_room sheet out e h =
 
 -- ## By the index of the sheet
 
-bad_alone : (sheet : List ℕ) (p : Parts) → unpack sheet ≡ answered p → (n : RequestNumbers) → request n ≡ none
+bad_alone : (sheet : List ℕ) (p : Parts) → unpack sheet ≡ Ok p → (n : RequestNumbers) → request n ≡ None
     → gate_sheet_verdict sheet n ≡ refusal_answer (placeless F.BadRequest)
 unfolding decide_sheet looked_sheet verdict_answer
 bad_alone sheet p ok n e = rw (ok, e)
@@ -82,10 +82,10 @@ module _ (sheet lent : List ℕ) (e : (gate_index sheet lent).answer.number ≡ 
   abbrev index : List ℕ
   index = written (gate_index sheet lent)
 
-  own : (i : List ℕ) × (write_index sheet (length lent) ≡ answered i) × (index ≡ i)
+  own : (i : List ℕ) × (write_index sheet (length lent) ≡ Ok i) × (index ≡ i)
   own = written_answered lent (write_index sheet (length lent)) e
 
-  parts : (p : Parts) × ((unpack sheet ≡ answered p) × (own.0 ≡ index_bytes sheet p))
+  parts : (p : Parts) × ((unpack sheet ≡ Ok p) × (own.0 ≡ index_bytes sheet p))
   parts = written_index sheet (length lent) own.0 own.1
 
   index_is : index ≡ index_bytes sheet parts.0
@@ -96,13 +96,13 @@ module _ (sheet lent : List ℕ) (e : (gate_index sheet lent).answer.number ≡ 
   wrong other requests out h = ap written_answer (other_index sheet parts.0 parts.1.0 requests (length out) other (λ q. h (q ∙ sym index_is)))
 
   module _ (requests out : List ℕ) where
-    unparted : read_requests requests ≡ none → (gate_verdicts sheet index requests out).answer ≡ refused_written (placeless F.BadRequest)
+    unparted : read_requests requests ≡ None → (gate_verdicts sheet index requests out).answer ≡ refused_written (placeless F.BadRequest)
     unfolding written_answer
     unparted h =
         ap (λ (i : List ℕ). written_answer (verdicts sheet i requests (length out))) index_is
         ∙ ap written_answer (parted_next sheet parts.0 parts.1.0 requests (length out) h)
 
-    module _ (ns : List RequestNumbers) (r : read_requests requests ≡ some ns) where
+    module _ (ns : List RequestNumbers) (r : read_requests requests ≡ Some ns) where
       short : length out < 36 * length ns → (gate_verdicts sheet index requests out).answer ≡ refused_written (placeless F.NoRoom)
       unfolding written_answer
       short h =
@@ -110,7 +110,7 @@ module _ (sheet lent : List ℕ) (e : (gate_index sheet lent).answer.number ≡ 
           ∙ ap written_answer (room_last sheet parts.0 parts.1.0 requests (length out) ns r h)
 
       module _ (room : 36 * length ns ≤ length out) where
-        whole : verdicts sheet index requests (length out) ≡ answered (answers_to sheet ns)
+        whole : verdicts sheet index requests (length out) ≡ Ok (answers_to sheet ns)
         whole =
             ap (λ (i : List ℕ). verdicts sheet i requests (length out)) own.2
             ∙ with_own_index sheet requests own.0 (length out) (length lent) ns own.1 r room
@@ -129,10 +129,10 @@ module _ (sheet lent : List ℕ) (e : (gate_index sheet lent).answer.number ≡ 
           own_refusal = λ k d h b. each k d h ∙ ap answer_bytes (bad_alone sheet parts.0 parts.1.0 (get_or ns k d) b);
         }
 
-same_parts : (sheet : List ℕ) (p q : Parts) → unpack sheet ≡ answered p → unpack sheet ≡ answered q → index_bytes sheet p ≡ index_bytes sheet q
+same_parts : (sheet : List ℕ) (p q : Parts) → unpack sheet ≡ Ok p → unpack sheet ≡ Ok q → index_bytes sheet p ≡ index_bytes sheet q
 same_parts sheet p q e f = by (unpack sheet) e f
   where
-    by : (o : Outcome Parts) → o ≡ answered p → o ≡ answered q → index_bytes sheet p ≡ index_bytes sheet q
+    by : (o : Outcome Parts) → o ≡ Ok p → o ≡ Ok q → index_bytes sheet p ≡ index_bytes sheet q
     by o e f = let z : p ≡ q = cc (sym e ∙ f) in ap (index_bytes sheet) z
 
 pub index_written : IndexWritten

@@ -1,5 +1,6 @@
 -- Request 10: boxes whose limit of portacl is the old one, beside this box.
 -- Assumes nothing.
+use Rattle.std.specs.Prelude.{Err, Ok}
 use Prim.Native.Nat.{ℕ, ◌<◌, ◌≤◌}
 use native.Mathlib.Omega.{arith}
 use mathlib.Core.Bool.{Bool, true, false}
@@ -9,7 +10,7 @@ use borrow.Author.Tests.{le-ltb, ltb-false}
 use lib.Dec.{ltb}
 use lib.ListN.{length, take, drop}
 use Rattle.text.specs.Number.{from_digits}
-use Rattle.section.specs.Refusal.{Outcome, refused, answered, ◌>>=◌, refusing}
+use Rattle.section.specs.Refusal.{Outcome, ◌>>=◌, refusing}
 use Rattle.section.specs.Section as S
 use Rattle.sheet.specs.declared.Parts.{Parts}
 use Rattle.sheet.specs.Sheet.{texts_at, texts_fault, section_at, part_end, frame, unpack}
@@ -21,13 +22,13 @@ use Rattle.claims.proofs.AnswerLaws.{fault_nonzero}
 
 -- the outcome x of an old box beside the outcome y of this one
 data Beside {A : Type 0} (x y : Outcome A) : Type 0 where
-  long : x ≡ refused too_long → Beside x y
+  long : x ≡ Err too_long → Beside x y
   same : x ≡ y → Beside x y
 
 module _ {A B : Type 0} (f g : A → Outcome B) (each : (a : A) → Beside (f a) (g a)) where
   beside_bind : (o : Outcome A) → Beside (o >>= f) (o >>= g)
-  beside_bind (refused r) = same refl
-  beside_bind (answered a) = each a
+  beside_bind (Err r) = same refl
+  beside_bind (Ok a) = each a
 
   beside_then : (x y : Outcome A) → Beside x y → Beside (x >>= f) (y >>= g)
   beside_then x y (long e) = long (rw e)
@@ -57,7 +58,7 @@ unfolding unpack
 unpack_beside sheet = beside_then _ _ (λ p. same refl) (frame_by old_portacl sheet) (frame sheet) (frame_beside sheet)
 
 -- a list that an old box finds is within its limit
-old_within : (sheet : List ℕ) (p : Parts) → unpack_by old_portacl sheet ≡ answered p → p.portacl.len ≤ 1024
+old_within : (sheet : List ℕ) (p : Parts) → unpack_by old_portacl sheet ≡ Ok p → p.portacl.len ≤ 1024
 old_within sheet q e =
     let f = bind_answered (frame_by old_portacl sheet) (λ p. refusing (texts_fault (texts_at sheet p)) p) q e in
     let r = refusing_answered (texts_fault (texts_at sheet f.0)) f.0 q f.2 in
@@ -68,10 +69,10 @@ old_within sheet q e =
     let few = (section_at_answered old_portacl (part_end b.0) sheet p.0 p.1).limit in
     subst (λ (q : Parts). q.portacl.len ≤ 1024) r.1 (subst (λ (q : Parts). q.portacl.len ≤ 1024) (answered_same _ f.0 p.2) few)
 
-parts_answered : (o : Outcome Parts) → (parts_answer o).number ≡ 0 → (p : Parts) × (o ≡ answered p)
+parts_answered : (o : Outcome Parts) → (parts_answer o).number ≡ 0 → (p : Parts) × (o ≡ Ok p)
 unfolding parts_answer
-parts_answered (refused r) e = absurd (fault_nonzero r.fault e)
-parts_answered (answered p) e = (p, refl)
+parts_answered (Err r) e = absurd (fault_nonzero r.fault e)
+parts_answered (Ok p) e = (p, refl)
 
 old_answer : (sheet : List ℕ) → OldAnswer sheet
 unfolding parts_answer
@@ -85,7 +86,7 @@ longer : (sheet : List ℕ) → (gate_unpack sheet).number ≡ 0 → 1024 < (gat
 unfolding parts_answer
 longer sheet e more = by (unpack_beside sheet)
   where
-    found : (p : Parts) × (unpack sheet ≡ answered p)
+    found : (p : Parts) × (unpack sheet ≡ Ok p)
     found = parts_answered (unpack sheet) e
 
     by : Beside (unpack_by old_portacl sheet) (unpack sheet) → old_unpack sheet ≡ refused_parts too_long

@@ -1,15 +1,15 @@
 -- Document 02, request 12: the bound, of the numbers that the calls answer, and the number of a refusal.
 -- Assumes nothing.
+use Rattle.std.specs.Prelude.{Err, None, Ok, Option, Some}
 use Prim.Native.Nat.{ℕ, ◌+◌, ◌≤◌}
 use mathlib.Core.Bool.{Bool, true, false}
 use mathlib.Core.List.{List, []}
-use mathlib.Core.Option.{Option, none, some}
 use mathlib.Core.Path.{◌≡◌, refl}
 use native.Mathlib.Omega.{arith}
 use lib.ListN.{length}
 use Rattle.text.specs.Basics.{when◌then◌else◌}
 use Rattle.section.specs.declared.Fault.TheVariants as F
-use Rattle.section.specs.Refusal.{Outcome, refused, answered, placeless}
+use Rattle.section.specs.Refusal.{Outcome, placeless}
 use Rattle.section.specs.Section.{bytes_at}
 use Rattle.elements.specs.Request.{Request, well_formed, held}
 use Rattle.elements.proofs.CountLaws.{capped_le}
@@ -32,19 +32,19 @@ use Rattle.claims.specs.Claims.{texts_of, NamesNoTable, LookedBound, RefusalLook
 -- what the answer tells is at most what was counted
 told_le : (o : Outcome Answer) (n k : ℕ) → n ≤ k → (verdict_answer o n).looked ≤ k
 unfolding verdict_answer
-told_le (refused f) n k h = omega arith
-told_le (answered a) n k h = h
+told_le (Err f) n k h = omega arith
+told_le (Ok a) n k h = h
 
 over_le : (ts : List Table) (allow deny : List ℕ) (o : Option Request) → NamesNoTable allow → NamesNoTable deny
     → looked_over ts allow deny o ≤ file_elements allow + file_elements deny
 unfolding looked_over
-over_le ts allow deny none a d = omega arith
-over_le ts allow deny (some r) a d =
+over_le ts allow deny None a d = omega arith
+over_le ts allow deny (Some r) a d =
     by (well_formed r) (looked_le ts allow deny (held r) a d) (capped_le (looked ts allow deny (held r)))
   where
     by : (b : Bool) → looked ts allow deny (held r) ≤ file_elements allow + file_elements deny
         → capped (looked ts allow deny (held r)) ≤ looked ts allow deny (held r)
-        → number_of (when b then answered (capped (looked ts allow deny (held r))) else refused (placeless F.BadRequest)) ≤ file_elements allow + file_elements deny
+        → number_of (when b then Ok (capped (looked ts allow deny (held r))) else Err (placeless F.BadRequest)) ≤ file_elements allow + file_elements deny
     by true h g = omega arith
     by false h g = omega arith
 
@@ -55,8 +55,8 @@ sheet_le sheet o = by (unpack sheet) refl
   where
     by : (u : Outcome Parts) → unpack sheet ≡ u → NamesNoTable (texts_of sheet).allow → NamesNoTable (texts_of sheet).deny
         → looked_sheet sheet o ≤ file_elements (texts_of sheet).allow + file_elements (texts_of sheet).deny
-    by (refused f) e = rw e (λ a d. omega arith)
-    by (answered p) e = rw e (λ a d. over_le (tables_of (bytes_at sheet p.tables)) (bytes_at sheet p.allow) (bytes_at sheet p.deny) o a d)
+    by (Err f) e = rw e (λ a d. omega arith)
+    by (Ok p) e = rw e (λ a d. over_le (tables_of (bytes_at sheet p.tables)) (bytes_at sheet p.allow) (bytes_at sheet p.deny) o a d)
 
 pub looked_bound : LookedBound
 looked_bound = record {
@@ -72,13 +72,13 @@ looked_bound = record {
 
 none_told : (o : Outcome Answer) (n : ℕ) → ((verdict_answer o n).number ≡ 0 → ⊥) → (verdict_answer o n).looked ≡ 0
 unfolding verdict_answer
-none_told (refused f) n h = refl
-none_told (answered a) n h = absurd (h refl)
+none_told (Err f) n h = refl
+none_told (Ok a) n h = absurd (h refl)
 
 none_commanded : (o : Outcome Command) (n : ℕ) → ((command_answer o n).number ≡ 0 → ⊥) → (command_answer o n).looked ≡ 0
 unfolding command_answer
-none_commanded (refused f) n h = refl
-none_commanded (answered c) n h = absurd (h refl)
+none_commanded (Err f) n h = refl
+none_commanded (Ok c) n h = absurd (h refl)
 
 pub refusal_looks_at_nothing : RefusalLooksAtNothing
 refusal_looks_at_nothing = record {

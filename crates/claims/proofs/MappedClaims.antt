@@ -1,16 +1,16 @@
 -- Document 02, request 7: no address of a request as it is held is a mapped one, and who shows up as one is answered as an IPv4 client.
 -- Assumes nothing.
+use Rattle.std.specs.Prelude.{Err, None, Ok, Option, Some}
 use Prim.Native.Nat.{ℕ, ◌+◌, ◌*◌, ◌<◌, ◌^◌}
 use mathlib.Core.Bool.{false}
 use mathlib.Core.List.{List, []}
-use mathlib.Core.Option.{Option, none, some}
 use mathlib.Core.Path.{◌≡◌, refl, sym, ap, ap₂, ◌∙◌}
 use borrow.Author.Tests.{lt-ltb}
 use lib.ListN.{length}
 use lib.Pow.{high as upper, low as lower}
 use Rattle.text.specs.Basics.{◌>>=◌}
 use Rattle.section.specs.Refusal.{◌>>=◌ as ◌and_then◌}
-use Rattle.section.specs.Refusal.{Outcome, refused, answered}
+use Rattle.section.specs.Refusal.{Outcome}
 use Rattle.section.specs.Section.{bytes_at}
 use Rattle.address.specs.declared.Addr.{Addr}
 use Rattle.address.specs.declared.Addr.TheVariants as A
@@ -55,35 +55,35 @@ held_held r =
     (kept (unmapped r.server.host.addr) (none_mapped r.server.host.addr))
 
 abbrev held_in : Option Request → Option Request
-held_in o = o >>= λ r. some (held r)
+held_in o = o >>= λ r. Some (held r)
 
 module _ (allow deny : List ℕ) where
   decide_held : (o : Option Request) → decide allow deny (held_in o) ≡ decide allow deny o
   unfolding decide
-  decide_held none = refl
-  decide_held (some r) = rw (held_fits r, held_held r)
+  decide_held None = refl
+  decide_held (Some r) = rw (held_fits r, held_held r)
 
   tables_held : (tables : List ℕ) (o : Option Request) → decide_tables allow deny tables (held_in o) ≡ decide_tables allow deny tables o
   unfolding decide_tables
-  tables_held tables none = refl
-  tables_held tables (some r) = rw (held_fits r, held_held r)
+  tables_held tables None = refl
+  tables_held tables (Some r) = rw (held_fits r, held_held r)
 
   over_held : (ts : List Table) (o : Option Request) → decide_over ts allow deny (held_in o) ≡ decide_over ts allow deny o
-  over_held ts none = refl
-  over_held ts (some r) = rw (held_fits r, held_held r)
+  over_held ts None = refl
+  over_held ts (Some r) = rw (held_fits r, held_held r)
 
 looked_held : (ts : List Table) (allow deny : List ℕ) (o : Option Request) → looked_over ts allow deny (held_in o) ≡ looked_over ts allow deny o
 unfolding looked_over
-looked_held ts allow deny none = refl
-looked_held ts allow deny (some r) = rw (held_fits r, held_held r)
+looked_held ts allow deny None = refl
+looked_held ts allow deny (Some r) = rw (held_fits r, held_held r)
 
 sheet_looked_held : (sheet : List ℕ) (o : Option Request) → looked_sheet sheet (held_in o) ≡ looked_sheet sheet o
 unfolding looked_sheet
 sheet_looked_held sheet o = by (unpack sheet)
   where
     by : (u : Outcome Parts) → looked_in sheet (held_in o) u ≡ looked_in sheet o u
-    by (refused r) = refl
-    by (answered p) = looked_held (tables_of (bytes_at sheet p.tables)) (bytes_at sheet p.allow) (bytes_at sheet p.deny) o
+    by (Err r) = refl
+    by (Ok p) = looked_held (tables_of (bytes_at sheet p.tables)) (bytes_at sheet p.allow) (bytes_at sheet p.deny) o
 
 sheet_held : (sheet : List ℕ) (o : Option Request) → decide_sheet sheet (held_in o) ≡ decide_sheet sheet o
 unfolding decide_sheet
@@ -91,22 +91,22 @@ sheet_held sheet o = by (unpack sheet)
   where
     decides : Option Request → Parts → Outcome Answer
     decides q p =
-        decide_over (tables_of (bytes_at sheet p.tables)) (bytes_at sheet p.allow) (bytes_at sheet p.deny) q and_then λ a. answered (in_sheet p a)
+        decide_over (tables_of (bytes_at sheet p.tables)) (bytes_at sheet p.allow) (bytes_at sheet p.deny) q and_then λ a. Ok (in_sheet p a)
 
     by : (u : Outcome Parts) → (u and_then decides (held_in o)) ≡ (u and_then decides o)
-    by (refused r) = refl
-    by (answered p) = ap (λ x. x and_then λ a. answered (in_sheet p a))
+    by (Err r) = refl
+    by (Ok p) = ap (λ x. x and_then λ a. Ok (in_sheet p a))
         (over_held (bytes_at sheet p.allow) (bytes_at sheet p.deny) (tables_of (bytes_at sheet p.tables)) o)
 
 expand_held : (command : List ℕ) (o : Option Request) (process room : ℕ) → expand command (held_in o) process room ≡ expand command o process room
 unfolding expand
-expand_held command none process room = refl
-expand_held command (some r) process room = rw (held_fits r, held_held r)
+expand_held command None process room = refl
+expand_held command (Some r) process room = rw (held_fits r, held_held r)
 
 -- ## The request
 
 abbrev held_end : Endpoint → Option Endpoint
-held_end e = some (endpoint (held_host e.host) e.name)
+held_end e = Some (endpoint (held_host e.host) e.name)
 
 mapped_v4 : (n : ℕ) → n < 2 ^ 32 → unmapped (A.V6 0 (0xffff * 2 ^ 32 + n)) ≡ A.V4 n
 unfolding unmapped is_mapped
@@ -118,27 +118,27 @@ same_host (as_given h) name = refl
 same_host (as_v4 state high low h) name = by (name_state state)
   where
     ends : Name → Option Addr → Option Endpoint
-    ends n o = o >>= λ a. some (endpoint (record { name = n; addr = a }) (known_name n name))
+    ends n o = o >>= λ a. Some (endpoint (record { name = n; addr = a }) (known_name n name))
 
-    by : (o : Option Name) → ((o >>= λ n. ends n (some (A.V6 0 (0xffff * 2 ^ 32 + low)))) >>= held_end)
+    by : (o : Option Name) → ((o >>= λ n. ends n (Some (A.V6 0 (0xffff * 2 ^ 32 + low)))) >>= held_end)
         ≡ ((o >>= λ n. ends n (address_of 4 high low)) >>= held_end)
-    by none = refl
-    by (some n) = rw (lt-ltb low (2 ^ 32) h, mapped_v4 low h)
+    by None = refl
+    by (Some n) = rw (lt-ltb low (2 ^ 32) h, mapped_v4 low h)
 
 module _ (d : List ℕ) (t : List ℕ) (v : Option User) where
   of_ends : Option Endpoint → Option Endpoint → Option Request
-  of_ends c s = c >>= λ x. s >>= λ y. v >>= λ u. some (request_of d x y u (known_user u t))
+  of_ends c s = c >>= λ x. s >>= λ y. v >>= λ u. Some (request_of d x y u (known_user u t))
 
   held_ends : (c s : Option Endpoint) → held_in (of_ends c s) ≡ of_ends (c >>= held_end) (s >>= held_end)
   unfolding of_ends
-  held_ends none s = refl
-  held_ends (some x) none = refl
-  held_ends (some x) (some y) = by v
+  held_ends None s = refl
+  held_ends (Some x) None = refl
+  held_ends (Some x) (Some y) = by v
     where
-      by : (v : Option User) → held_in (v >>= λ u. some (request_of d x y u (known_user u t)))
-          ≡ (v >>= λ u. some (held (request_of d x y u (known_user u t))))
-      by none = refl
-      by (some u) = refl
+      by : (v : Option User) → held_in (v >>= λ u. Some (request_of d x y u (known_user u t)))
+          ≡ (v >>= λ u. Some (held (request_of d x y u (known_user u t))))
+      by None = refl
+      by (Some u) = refl
 
 module _ (n : RequestNumbers) (c s : HostNumbers) (same-c : SameHost n.client c) (same_s : SameHost n.server s) where
   same_request : held_in (request n) ≡ held_in (request (with_hosts n c s))

@@ -1,10 +1,10 @@
 -- Request 14: the call tells exactly whether two permitted users get different places, and where none do the place that all get.
 -- Assumes nothing.
+use Rattle.std.specs.Prelude.{Err, None, Ok, Option, Some, unwrap_or}
 use Prim.Native.Nat.{ℕ, ◌≤◌}
 use native.Mathlib.Omega.{arith}
 use mathlib.Core.Bool.{Bool, true, false, ◌&&◌, ◌||◌, true≢false}
 use mathlib.Core.List.{List, []}
-use mathlib.Core.Option.{Option, none, some, get_or}
 use mathlib.Core.Path.{◌≡◌, refl, sym, ap, ap₂, fun_ext, ◌∙◌}
 use borrow.Author.Tests.{le-leb, leb-true}
 use lib.Dec.{eqb, leb}
@@ -15,7 +15,7 @@ use Rattle.text.specs.Text.{in_range}
 use Rattle.text.proofs.BasicLaws.{and_true}
 use Rattle.section.specs.declared.Fault.TheVariants as F
 use Rattle.section.specs.declared.Refusal.{Refusal}
-use Rattle.section.specs.Refusal.{Outcome, refused, answered, placeless, ◌>>=◌, ◌before◌, fitting}
+use Rattle.section.specs.Refusal.{Outcome, placeless, ◌>>=◌, ◌before◌, fitting}
 use Rattle.section.specs.Section as S
 use Rattle.section.specs.Section.{bytes_at, over_limit}
 use Rattle.lines.specs.Line.{Line, lines, is_comment, is_blank}
@@ -59,14 +59,14 @@ use Rattle.claims.proofs.UserClaims.{name_cannot_matter}
 
 -- ## Outcomes and places
 
-refused_answered : {A : Type 0} (g : Refusal) (a : A) → ◌≡◌ {A = Outcome A} (refused g) (answered a) → ⊥
-refused_answered g a e = true≢false (ap (λ (o : Outcome _). elim o [ refused f ↦ true | answered b ↦ false ]) e)
+refused_answered : {A : Type 0} (g : Refusal) (a : A) → ◌≡◌ {A = Outcome A} (Err g) (Ok a) → ⊥
+refused_answered g a e = true≢false (ap (λ (o : Outcome _). elim o [ Err f ↦ true | Ok b ↦ false ]) e)
 
-answered_same : {A : Type 0} (a b : A) → ◌≡◌ {A = Outcome A} (answered a) (answered b) → a ≡ b
-answered_same a b e = ap (λ (o : Outcome _). elim o [ refused f ↦ a | answered c ↦ c ]) e
+answered_same : {A : Type 0} (a b : A) → ◌≡◌ {A = Outcome A} (Ok a) (Ok b) → a ≡ b
+answered_same a b e = ap (λ (o : Outcome _). elim o [ Err f ↦ a | Ok c ↦ c ]) e
 
-none_some : {A : Type 0} (a : A) → ◌≡◌ {A = Option A} none (some a) → ⊥
-none_some a e = true≢false (ap (λ (o : Option {0} _). elim o [ none ↦ true | some b ↦ false ]) e)
+none_some : {A : Type 0} (a : A) → ◌≡◌ {A = Option A} None (Some a) → ⊥
+none_some a e = true≢false (ap (λ (o : Option {0} _). elim o [ None ↦ true | Some b ↦ false ]) e)
 
 -- a word tells the verdict, a section the file
 word_verdict : (v w : Verdict) → (verdict_word v).number ≡ (verdict_word w).number → v ≡ w
@@ -118,42 +118,42 @@ same_places a b k l s =
 
 -- ## The request for another user
 
-some_same : {A : Type 0} (a b : A) → ◌≡◌ {A = Option A} (some a) (some b) → a ≡ b
-some_same a b e = ap (λ (o : Option {0} _). get_or o a) e
+some_same : {A : Type 0} (a b : A) → ◌≡◌ {A = Option A} (Some a) (Some b) → a ≡ b
+some_same a b e = ap (λ (o : Option {0} _). unwrap_or o a) e
 
-module _ (n : RequestNumbers) (r : Request) (is-r : request n ≡ some r) where
+module _ (n : RequestNumbers) (r : Request) (is-r : request n ≡ Some r) where
   -- both hosts are read, and only the user is put in
-  user_put : (user : ℕ) (name : List ℕ) (v : User) → user_state user ≡ some v → request (as_user n user name) ≡ some (with_user r v (known_user v name))
+  user_put : (user : ℕ) (name : List ℕ) (v : User) → user_state user ≡ Some v → request (as_user n user name) ≡ Some (with_user r v (known_user v name))
   unfolding request
   user_put user name v e = by (host_by n.client n.client_name) (host_by n.server n.server_name) (user_state n.user) is-r
     where
       by : (c s : Option Endpoint) (u : Option User)
-          → (c then λ x. s then λ y. u then λ w. some (request_of n.daemon x y w (known_user w n.user_name))) ≡ some r
-          → (c then λ x. s then λ y. user_state user then λ w. some (request_of n.daemon x y w (known_user w name))) ≡ some (with_user r v (known_user v name))
-      by none s u h = absurd (none_some r h)
-      by (some x) none u h = absurd (none_some r h)
-      by (some x) (some y) none h = absurd (none_some r h)
-      by (some x) (some y) (some w) h =
-          rw e (ap (λ (q : Request). some (with_user q v (known_user v name))) (some_same _ r h))
+          → (c then λ x. s then λ y. u then λ w. Some (request_of n.daemon x y w (known_user w n.user_name))) ≡ Some r
+          → (c then λ x. s then λ y. user_state user then λ w. Some (request_of n.daemon x y w (known_user w name))) ≡ Some (with_user r v (known_user v name))
+      by None s u h = absurd (none_some r h)
+      by (Some x) None u h = absurd (none_some r h)
+      by (Some x) (Some y) None h = absurd (none_some r h)
+      by (Some x) (Some y) (Some w) h =
+          rw e (ap (λ (q : Request). Some (with_user q v (known_user v name))) (some_same _ r h))
 
   -- where there is a request at all, its user is one of three
-  user_read : (user : ℕ) (name : List ℕ) (q : Request) → request (as_user n user name) ≡ some q → (v : User) × (user_state user ≡ some v)
+  user_read : (user : ℕ) (name : List ℕ) (q : Request) → request (as_user n user name) ≡ Some q → (v : User) × (user_state user ≡ Some v)
   unfolding request
   user_read user name q e = by (host_by n.client n.client_name) (host_by n.server n.server_name) (user_state user) e
     where
       by : (c s : Option Endpoint) (u : Option User)
-          → (c then λ x. s then λ y. u then λ w. some (request_of n.daemon x y w (known_user w name))) ≡ some q → (v : User) × (u ≡ some v)
-      by none s u h = absurd (none_some q h)
-      by (some x) none u h = absurd (none_some q h)
-      by (some x) (some y) none h = absurd (none_some q h)
-      by (some x) (some y) (some w) h = (w, refl)
+          → (c then λ x. s then λ y. u then λ w. Some (request_of n.daemon x y w (known_user w name))) ≡ Some q → (v : User) × (u ≡ Some v)
+      by None s u h = absurd (none_some q h)
+      by (Some x) None u h = absurd (none_some q h)
+      by (Some x) (Some y) None h = absurd (none_some q h)
+      by (Some x) (Some y) (Some w) h = (w, refl)
 
   -- a permitted user, as the request holds it
   record Put (user : ℕ) (name : List ℕ) : Type 0 where
     put_user : User
     put_name : List ℕ
     put_stated : Stated put_user put_name
-    put_request : request (as_user n user name) ≡ some (with_user r put_user put_name)
+    put_request : request (as_user n user name) ≡ Some (with_user r put_user put_name)
 
   put : {user : ℕ} {name : List ℕ} → Permitted user name → Put user name
   unfolding user_state
@@ -198,8 +198,8 @@ module _ (m : Matcher) (r : Request) (u : User) (t : List ℕ) where
       by Found.Ask = refl
 
   parsed_own : (o : Option Rule) → parsed_told m (with_user r u t) o ≡ parsed_told m r o
-  parsed_own none = refl
-  parsed_own (some x) = rule_own x
+  parsed_own None = refl
+  parsed_own (Some x) = rule_own x
 
   line_own : (l : Line) → line_told m (with_user r u t) l ≡ line_told m r l
   unfolding line_told
@@ -213,7 +213,7 @@ module _ (m : Matcher) (r : Request) (u : User) (t : List ℕ) where
   own_settled : (allow deny : List ℕ) → settled m allow deny (with_user r u t) ≡ settled m allow deny r
   unfolding settled
   own_settled allow deny =
-      ap₂ (λ (x y : Option (Option Place)). get_or (x or_else y) (some (place Ver.Granted Deciding.Neither 0)))
+      ap₂ (λ (x y : Option (Option Place)). unwrap_or (x or_else y) (Some (place Ver.Granted Deciding.Neither 0)))
       (text_own Ver.Granted Deciding.Allow allow) (text_own Ver.Denied Deciding.Deny deny)
 
 -- a call that makes some checks, then searches, and puts its answer at a place in the sheet
@@ -224,7 +224,7 @@ record Searches (call : Option Request → Outcome Answer) (tell : Option Reques
   deny : List ℕ
   put_in : Answer → Answer
   same_place : (a : Answer) → place_of (put_in a) ≡ place_of a
-  call_is : (q : Option Request) → call q ≡ (checks before fitting well_formed q (λ r. answered (put_in (search (match_of over) allow deny (held r)))))
+  call_is : (q : Option Request) → call q ≡ (checks before fitting well_formed q (λ r. Ok (put_in (search (match_of over) allow deny (held r)))))
   tell_is : (q : Option Request) → tell q ≡ (call q >>= λ a. matters_over over allow deny q)
 
 module _ (call : Option Request → Outcome Answer) (tell : Option Request → Outcome (Option Place)) (is : Searches call tell) where
@@ -234,52 +234,52 @@ module _ (call : Option Request → Outcome Answer) (tell : Option Request → O
   abbrev settles : Request → Option Place
   settles r = settled (match_of is.over) is.allow is.deny (held r)
 
-  refuses_too : (q : Option Request) (f : Refusal) → call q ≡ refused f → tell q ≡ refused f
+  refuses_too : (q : Option Request) (f : Refusal) → call q ≡ Err f → tell q ≡ Err f
   refuses_too q f e = is.tell_is q ∙ ap (λ (o : Outcome Answer). o >>= λ a. matters_over is.over is.allow is.deny q) e
 
   -- where there is an answer no check refused, and the request is there and fits
   record Fits (q : Option Request) : Type 0 where
     asked : Request
-    is_asked : q ≡ some asked
-    unrefused : is.checks ≡ none
+    is_asked : q ≡ Some asked
+    unrefused : is.checks ≡ None
     fits : well_formed asked ≡ true
 
-  answers_fit : (q : Option Request) (a : Answer) → call q ≡ answered a → Fits q
+  answers_fit : (q : Option Request) (a : Answer) → call q ≡ Ok a → Fits q
   answers_fit q a e = by q is.checks refl (sym (is.call_is q) ∙ e)
     where
-      last : (r : Request) (b : Bool) → well_formed r ≡ b → is.checks ≡ none
-          → (when b then answered (by_search r) else refused (placeless F.BadRequest)) ≡ answered a → Fits (some r)
+      last : (r : Request) (b : Bool) → well_formed r ≡ b → is.checks ≡ None
+          → (when b then Ok (by_search r) else Err (placeless F.BadRequest)) ≡ Ok a → Fits (Some r)
       last r true w k h = record { asked = r; is_asked = refl; unrefused = k; fits = w }
       last r false w k h = absurd (refused_answered (placeless F.BadRequest) a h)
 
-      by : (q : Option Request) (o : Option Refusal) → is.checks ≡ o → (o before fitting well_formed q (λ r. answered (by_search r))) ≡ answered a → Fits q
-      by q (some f) k h = absurd (refused_answered f a h)
-      by none none k h = absurd (refused_answered (placeless F.BadRequest) a h)
-      by (some r) none k h = last r (well_formed r) refl k h
+      by : (q : Option Request) (o : Option Refusal) → is.checks ≡ o → (o before fitting well_formed q (λ r. Ok (by_search r))) ≡ Ok a → Fits q
+      by q (Some f) k h = absurd (refused_answered f a h)
+      by None None k h = absurd (refused_answered (placeless F.BadRequest) a h)
+      by (Some r) None k h = last r (well_formed r) refl k h
 
-  module _ (none-refuses : is.checks ≡ none) where
-    fit_gets : (r : Request) → well_formed r ≡ true → call (some r) ≡ answered (by_search r)
-    fit_gets r w = is.call_is (some r) ∙ by is.checks none-refuses (well_formed r) w
+  module _ (none-refuses : is.checks ≡ None) where
+    fit_gets : (r : Request) → well_formed r ≡ true → call (Some r) ≡ Ok (by_search r)
+    fit_gets r w = is.call_is (Some r) ∙ by is.checks none-refuses (well_formed r) w
       where
-        by : (o : Option Refusal) → o ≡ none → (b : Bool) → b ≡ true
-            → (o before (when b then answered (by_search r) else refused (placeless F.BadRequest))) ≡ answered (by_search r)
-        by (some f) k b h = absurd (none_some f (sym k))
-        by none k true h = refl
-        by none k false h = absurd (true≢false (sym h))
+        by : (o : Option Refusal) → o ≡ None → (b : Bool) → b ≡ true
+            → (o before (when b then Ok (by_search r) else Err (placeless F.BadRequest))) ≡ Ok (by_search r)
+        by (Some f) k b h = absurd (none_some f (sym k))
+        by None k true h = refl
+        by None k false h = absurd (true≢false (sym h))
 
-    fit_tells : (r : Request) → well_formed r ≡ true → tell (some r) ≡ answered (settles r)
+    fit_tells : (r : Request) → well_formed r ≡ true → tell (Some r) ≡ Ok (settles r)
     fit_tells r w =
-        is.tell_is (some r) ∙ ap (λ (o : Outcome Answer). o >>= λ a. matters_over is.over is.allow is.deny (some r)) (fit_gets r w)
+        is.tell_is (Some r) ∙ ap (λ (o : Outcome Answer). o >>= λ a. matters_over is.over is.allow is.deny (Some r)) (fit_gets r w)
         ∙ by (well_formed r) w
       where
-        by : (b : Bool) → b ≡ true → (when b then answered (settles r) else refused (placeless F.BadRequest)) ≡ answered (settles r)
+        by : (b : Bool) → b ≡ true → (when b then Ok (settles r) else Err (placeless F.BadRequest)) ≡ Ok (settles r)
         by true h = refl
         by false h = absurd (true≢false (sym h))
 
     module _ (r : Request) (w : well_formed r ≡ true) where
       -- the place that settles is every user's
-      all_get : (p : Place) → settles r ≡ some p → {u : User} {t : List ℕ} → Stated u t
-          → (a : Answer) × (call (some (with_user r u t)) ≡ answered a) × (place_of a ≡ p)
+      all_get : (p : Place) → settles r ≡ Some p → {u : User} {t : List ℕ} → Stated u t
+          → (a : Answer) × (call (Some (with_user r u t)) ≡ Ok a) × (place_of a ≡ p)
       all_get p e {u} {t} s = (
         by_search (with_user r u t),
         fit_gets (with_user r u t) (stated_fits r w s),
@@ -288,7 +288,7 @@ module _ (call : Option Request → Outcome Answer) (tell : Option Request → O
       )
 
       -- where none does, an unknown user and one of some name get different ones
-      two_get : settles r ≡ none
+      two_get : settles r ≡ None
           → (t : List ℕ) × (in_range 1 64 (length t) ≡ true)
           × (place_of (by_search (with_user r U.Unknown [])) ≡ place_of (by_search (with_user r U.Known t)) → ⊥)
       two_get e =
@@ -312,18 +312,18 @@ module _ (call : Option Request → Outcome Answer) (tell : Option Request → O
   -- of an answered verdict: the request, what settles, and what the call tells
   record Answers (n : RequestNumbers) : Type 0 where
     asks_for : Request
-    is_request : request n ≡ some asks_for
-    unchecked : is.checks ≡ none
+    is_request : request n ≡ Some asks_for
+    unchecked : is.checks ≡ None
     request_fits : well_formed asks_for ≡ true
-    tells : tell (request n) ≡ answered (settles call tell is asks_for)
+    tells : tell (request n) ≡ Ok (settles call tell is asks_for)
 
   told : (n : RequestNumbers) → (verdict n).number ≡ 0 → Answers n
   unfolding verdict_answer
   told n = by (call (request n)) refl
     where
       by : (o : Outcome Answer) → call (request n) ≡ o → (verdict_answer o (count (request n))).number ≡ 0 → Answers n
-      by (refused f) e h = absurd (fault_nonzero f.fault h)
-      by (answered a) e h =
+      by (Err f) e h = absurd (fault_nonzero f.fault h)
+      by (Ok a) e h =
           let x : Fits call tell is (request n) = answers_fit call tell is (request n) a e in
           record {
             asks_for = x.asked;
@@ -338,21 +338,21 @@ module _ (call : Option Request → Outcome Answer) (tell : Option Request → O
   refuses n h = by (call (request n)) refl h
     where
       by : (o : Outcome Answer) → call (request n) ≡ o → ((verdict_answer o (count (request n))).number ≡ 0 → ⊥) → matters n ≡ verdict_answer o (count (request n))
-      by (refused f) e h = ap matters_answer (refuses_too call tell is (request n) f e)
-      by (answered a) e h = absurd (h refl)
+      by (Err f) e h = ap matters_answer (refuses_too call tell is (request n) f e)
+      by (Ok a) e h = absurd (h refl)
 
   -- the answer beside what settles
-  settled_number : (s : Option Place) → (matters_answer (answered s)).number ≡ 0
+  settled_number : (s : Option Place) → (matters_answer (Ok s)).number ≡ 0
   unfolding matters_answer
-  settled_number none = refl
-  settled_number (some p) = refl
+  settled_number None = refl
+  settled_number (Some p) = refl
 
   answers : (n : RequestNumbers) → (verdict n).number ≡ 0 → (matters n).number ≡ 0
   answers n h = let x : Answers n = told n h in ap (λ (o : Outcome (Option Place)). (matters_answer o).number) x.tells
       ∙ settled_number (settles call tell is x.asks_for)
 
   -- a permitted user gets an answer
-  gets : (n : RequestNumbers) (x : Answers n) (p : Place) → settles call tell is x.asks_for ≡ some p → {user : ℕ} {name : List ℕ} → Permitted user name
+  gets : (n : RequestNumbers) (x : Answers n) (p : Place) → settles call tell is x.asks_for ≡ Some p → {user : ℕ} {name : List ℕ} → Permitted user name
       → (a : Answer) × (verdict (as_user n user name) ≡ answer_numbers a (count (request (as_user n user name)))) × (place_of a ≡ p)
   unfolding verdict_answer
   gets n x p e {user} {name} m =
@@ -366,13 +366,13 @@ module _ (call : Option Request → Outcome Answer) (tell : Option Request → O
   no_by n h w user name m = let x : Answers n = told n h in by x (settles call tell is x.asks_for) refl
     where
       by : (x : Answers n) (s : Option Place) → settles call tell is x.asks_for ≡ s → SamePlace (verdict (as_user n user name)) (matters n)
-      by x none e = absurd (w (ap (λ (o : Outcome (Option Place)). (matters_answer o).word) (x.tells ∙ ap answered e)))
-      by x (some p) e =
+      by x None e = absurd (w (ap (λ (o : Outcome (Option Place)). (matters_answer o).word) (x.tells ∙ ap Ok e)))
+      by x (Some p) e =
           let z = gets n x p e m in
-          rw (z.1, x.tells ∙ ap answered e) (numbers_same z.0 (count (request (as_user n user name))) p z.2)
+          rw (z.1, x.tells ∙ ap Ok e) (numbers_same z.0 (count (request (as_user n user name))) p z.2)
 
   -- the two that differ
-  differ : (n : RequestNumbers) (x : Answers n) → settles call tell is x.asks_for ≡ none → Differ verdict n
+  differ : (n : RequestNumbers) (x : Answers n) → settles call tell is x.asks_for ≡ None → Differ verdict n
   unfolding verdict_answer user_state
   differ n x e =
       let z = two_get call tell is x.unchecked x.asks_for x.request_fits e in
@@ -391,12 +391,12 @@ module _ (call : Option Request → Outcome Answer) (tell : Option Request → O
             (count (request (as_user n 1 []))) (count (request (as_user n 2 z.0))) (answered_both z.0 z.1 s));
       }
     where
-      one_gets : call (request (as_user n 1 [])) ≡ answered (by_search call tell is (with_user x.asks_for U.Unknown []))
+      one_gets : call (request (as_user n 1 [])) ≡ Ok (by_search call tell is (with_user x.asks_for U.Unknown []))
       one_gets = ap call (user_put n x.asks_for x.is_request 1 [] U.Unknown refl)
           ∙ fit_gets call tell is x.unchecked (with_user x.asks_for U.Unknown []) (stated_fits x.asks_for x.request_fits (Users.unknown []))
 
       other_gets : (t : List ℕ) → in_range 1 64 (length t) ≡ true
-          → call (request (as_user n 2 t)) ≡ answered (by_search call tell is (with_user x.asks_for U.Known t))
+          → call (request (as_user n 2 t)) ≡ Ok (by_search call tell is (with_user x.asks_for U.Known t))
       other_gets t i = ap call (user_put n x.asks_for x.is_request 2 t U.Known refl)
           ∙ fit_gets call tell is x.unchecked (with_user x.asks_for U.Known t) (stated_fits x.asks_for x.request_fits (Users.named t i))
 
@@ -410,13 +410,13 @@ module _ (call : Option Request → Outcome Answer) (tell : Option Request → O
   yes_by n w = by (call (request n)) refl
     where
       none_settles : (x : Answers n) (s : Option Place) → settles call tell is x.asks_for ≡ s → Differ verdict n
-      none_settles x none e = differ n x e
-      none_settles x (some p) e = absurd (word_matters p.verdict
-          (sym (ap (λ (o : Outcome (Option Place)). (matters_answer o).word) (x.tells ∙ ap answered e)) ∙ w))
+      none_settles x None e = differ n x e
+      none_settles x (Some p) e = absurd (word_matters p.verdict
+          (sym (ap (λ (o : Outcome (Option Place)). (matters_answer o).word) (x.tells ∙ ap Ok e)) ∙ w))
 
       by : (o : Outcome Answer) → call (request n) ≡ o → Differ verdict n
-      by (refused f) e = absurd (omega (arith, sym (ap (λ (o : Outcome (Option Place)). (matters_answer o).word) (refuses_too call tell is (request n) f e)) ∙ w))
-      by (answered a) e =
+      by (Err f) e = absurd (omega (arith, sym (ap (λ (o : Outcome (Option Place)). (matters_answer o).word) (refuses_too call tell is (request n) f e)) ∙ w))
+      by (Ok a) e =
           let x : Answers n = told n (ap (λ (o : Outcome Answer). (verdict_answer o (count (request n))).number) e) in
           none_settles x (settles call tell is x.asks_for) refl
 
@@ -425,8 +425,8 @@ module _ (call : Option Request → Outcome Answer) (tell : Option Request → O
   yes_if_by n h d = let x : Answers n = told n h in by x (settles call tell is x.asks_for) refl
     where
       by : (x : Answers n) (s : Option Place) → settles call tell is x.asks_for ≡ s → (matters n).word ≡ 9
-      by x none e = ap (λ (o : Outcome (Option Place)). (matters_answer o).word) (x.tells ∙ ap answered e)
-      by x (some p) e =
+      by x None e = ap (λ (o : Outcome (Option Place)). (matters_answer o).word) (x.tells ∙ ap Ok e)
+      by x (Some p) e =
           let y = gets n x p e d.one_permitted in
           let z = gets n x p e d.other_permitted in
           absurd (d.different (rw (y.1, z.1) (places_same y.0 z.0
@@ -438,12 +438,12 @@ module _ (call : Option Request → Outcome Answer) (tell : Option Request → O
   own_by n user name h k =
       let x : Answers n = told n h in
       let y : Answers (as_user n user name) = told (as_user n user name) k in
-      let v : (v : User) × (user_state user ≡ some v) = user_read n x.asks_for x.is_request user name y.asks_for y.is_request in
+      let v : (v : User) × (user_state user ≡ Some v) = user_read n x.asks_for x.is_request user name y.asks_for y.is_request in
       let q : with_user x.asks_for v.0 (known_user v.0 name) ≡ y.asks_for =
       some_same _ _ (sym (user_put n x.asks_for x.is_request user name v.0 v.1) ∙ y.is_request) in
       let e : settles call tell is y.asks_for ≡ settles call tell is x.asks_for =
       ap (settles call tell is) (sym q) ∙ own_settled (match_of is.over) (held x.asks_for) v.0 (known_user v.0 name) is.allow is.deny in
-      ap matters_answer (y.tells ∙ ap answered e ∙ sym x.tells)
+      ap matters_answer (y.tells ∙ ap Ok e ∙ sym x.tells)
 
   -- demand 3: where the verdict does not ask all users get its answer
   unasked_by : (n : RequestNumbers) → ((user : ℕ) (name : List ℕ) → Permitted user name → verdict (as_user n user name) ≡ verdict n) → (matters n).word ≡ 9 → ⊥
@@ -499,15 +499,15 @@ tables_search al de t = record {
 module _ (sheet : List ℕ) where
   abbrev call_in : Outcome Parts → Option Request → Outcome Answer
   call_in u q =
-      u >>= λ p. decide_over (tables_of (bytes_at sheet p.tables)) (bytes_at sheet p.allow) (bytes_at sheet p.deny) q >>= λ a. answered (in_sheet p a)
+      u >>= λ p. decide_over (tables_of (bytes_at sheet p.tables)) (bytes_at sheet p.allow) (bytes_at sheet p.deny) q >>= λ a. Ok (in_sheet p a)
 
   abbrev tell_in : Outcome Parts → Option Request → Outcome (Option Place)
   tell_in u q =
       call_in u q >>= λ a. u >>= λ p. matters_over (tables_of (bytes_at sheet p.tables)) (bytes_at sheet p.allow) (bytes_at sheet p.deny) q
 
   search_in : (u : Outcome Parts) → Searches (call_in u) (tell_in u)
-  search_in (refused f) = record {
-    checks = some f;
+  search_in (Err f) = record {
+    checks = Some f;
     over = [];
     allow = [];
     deny = [];
@@ -516,8 +516,8 @@ module _ (sheet : List ℕ) where
     call_is = λ q. refl;
     tell_is = λ q. refl;
   }
-  search_in (answered p) = record {
-    checks = none;
+  search_in (Ok p) = record {
+    checks = None;
     over = tables_of (bytes_at sheet p.tables);
     allow = bytes_at sheet p.allow;
     deny = bytes_at sheet p.deny;
@@ -531,14 +531,14 @@ module _ (sheet : List ℕ) where
       found r = search (match_of (tables_of (bytes_at sheet p.tables))) (bytes_at sheet p.allow) (bytes_at sheet p.deny) (held r)
 
       fitted : (r : Request) (b : Bool)
-          → ((when b then answered (found r) else refused (placeless F.BadRequest)) >>= λ a. answered (in_sheet p a))
-          ≡ (when b then answered (in_sheet p (found r)) else refused (placeless F.BadRequest))
+          → ((when b then Ok (found r) else Err (placeless F.BadRequest)) >>= λ a. Ok (in_sheet p a))
+          ≡ (when b then Ok (in_sheet p (found r)) else Err (placeless F.BadRequest))
       fitted r true = refl
       fitted r false = refl
 
-      by : (q : Option Request) → call_in (answered p) q ≡ fitting well_formed q (λ r. answered (in_sheet p (found r)))
-      by none = refl
-      by (some r) = fitted r (well_formed r)
+      by : (q : Option Request) → call_in (Ok p) q ≡ fitting well_formed q (λ r. Ok (in_sheet p (found r)))
+      by None = refl
+      by (Some r) = fitted r (well_formed r)
 
   sheet_search : Searches (decide_sheet sheet) (name_matters_sheet sheet)
   unfolding decide_sheet name_matters_sheet

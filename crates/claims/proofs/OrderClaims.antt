@@ -18,7 +18,7 @@ use Rattle.text.specs.Number.{decimal}
 use Rattle.text.proofs.BasicLaws.{and_true}
 use Rattle.text.proofs.ScanLaws.{equal_refl}
 use Rattle.section.specs.declared.Fault.TheVariants as F
-use Rattle.section.specs.Refusal.{Outcome, refused, answered, placeless, ◌>>=◌}
+use Rattle.section.specs.Refusal.{Outcome, placeless, ◌>>=◌}
 use Rattle.address.specs.declared.Addr.{Addr}
 use Rattle.address.specs.declared.Addr.TheVariants as A
 use Rattle.address.specs.Address as Address

@@ -1,10 +1,10 @@
 -- The claims of request 11: a line of the retired form is refused, and a converted text has none and grants what it granted.
 -- Assumes nothing.
+use Rattle.std.specs.Prelude.{Err, None, Ok, Option, Some}
 use Prim.Native.Nat.{ℕ, ◌≤◌}
 use native.Mathlib.Omega.{arith}
 use mathlib.Core.Bool.{Bool, true, false}
 use mathlib.Core.List.{List, []}
-use mathlib.Core.Option.{Option, none, some}
 use mathlib.Core.Path.{◌≡◌, refl, sym, ap, ◌∙◌}
 use borrow.Author.Tests.{le-ltb}
 use lib.Dec.{ltb}
@@ -14,7 +14,7 @@ use Rattle.text.specs.Text.{in_range}
 use Rattle.section.specs.declared.Fault.{Fault}
 use Rattle.section.specs.declared.Fault.TheVariants as F
 use Rattle.section.specs.declared.Refusal.{Refusal}
-use Rattle.section.specs.Refusal.{Outcome, refused, answered, ◌>>=◌, ◌before◌, fault_number, placeless, refusing, within_room, lent_after}
+use Rattle.section.specs.Refusal.{Outcome, ◌>>=◌, ◌before◌, fault_number, placeless, refusing, within_room, lent_after}
 use Rattle.section.specs.Section as S
 use Rattle.section.specs.Section.{over_limit}
 use Rattle.tables.specs.Table.{tables_frame}
@@ -37,14 +37,14 @@ use Rattle.claims.proofs.AnswerLaws.{written_answered}
 
 -- ## Refused
 
-lone_refused : (t : List ℕ) (r : Refusal) → length t ≤ 8192 → byuid_fault t ≡ some r → (o : Option FileBind) → decide_byuid t o ≡ refused r
+lone_refused : (t : List ℕ) (r : Refusal) → length t ≤ 8192 → byuid_fault t ≡ Some r → (o : Option FileBind) → decide_byuid t o ≡ Err r
 unfolding decide_byuid
 lone_refused t r h e o = rw (le-ltb 8192 (length t) h, e)
 
-module _ (ts : Texts) (r : Refusal) (sound : texts_fault (without_byuid ts) ≡ none) (short : length ts.byuid ≤ 8192)
-    (e : byuid_fault ts.byuid ≡ some r) where
+module _ (ts : Texts) (r : Refusal) (sound : texts_fault (without_byuid ts) ≡ None) (short : length ts.byuid ≤ 8192)
+    (e : byuid_fault ts.byuid ≡ Some r) where
   -- the last of the faults of five texts
-  retired_fault_lem : texts_fault ts ≡ some r
+  retired_fault_lem : texts_fault ts ≡ Some r
   unfolding texts_fault
   retired_fault_lem =
       rw (e, le-ltb 8192 (length ts.byuid) short)
@@ -52,39 +52,39 @@ module _ (ts : Texts) (r : Refusal) (sound : texts_fault (without_byuid ts) ≡ 
       (hosts_fault S.allow ts.allow) (hosts_fault S.deny ts.deny) (portacl_fault ts.portacl) (tables_fault ts.allow ts.deny ts.tables)
       (byuid_fault []) sound)
     where
-      none_some : (g : Refusal) → some g ≡ none → ⊥
+      none_some : (g : Refusal) → Some g ≡ None → ⊥
       none_some g k = let z : ◌≡◌ {A = ℕ} 0 1 = cc in omega arith
 
-      by : (a b c d f g h i j l : Option Refusal) → (a or_else b or_else c or_else d or_else f or_else g or_else h or_else i or_else j or_else l) ≡ none
-          → (a or_else b or_else none or_else d or_else f or_else g or_else h or_else i or_else j or_else some r) ≡ some r
-      by (some x) b c d f g h i j l k = absurd (none_some x k)
-      by none (some x) c d f g h i j l k = absurd (none_some x k)
-      by none none (some x) d f g h i j l k = absurd (none_some x k)
-      by none none none (some x) f g h i j l k = absurd (none_some x k)
-      by none none none none (some x) g h i j l k = absurd (none_some x k)
-      by none none none none none (some x) h i j l k = absurd (none_some x k)
-      by none none none none none none (some x) i j l k = absurd (none_some x k)
-      by none none none none none none none (some x) j l k = absurd (none_some x k)
-      by none none none none none none none none (some x) l k = absurd (none_some x k)
-      by none none none none none none none none none l k = refl
+      by : (a b c d f g h i j l : Option Refusal) → (a or_else b or_else c or_else d or_else f or_else g or_else h or_else i or_else j or_else l) ≡ None
+          → (a or_else b or_else None or_else d or_else f or_else g or_else h or_else i or_else j or_else Some r) ≡ Some r
+      by (Some x) b c d f g h i j l k = absurd (none_some x k)
+      by None (Some x) c d f g h i j l k = absurd (none_some x k)
+      by None None (Some x) d f g h i j l k = absurd (none_some x k)
+      by None None None (Some x) f g h i j l k = absurd (none_some x k)
+      by None None None None (Some x) g h i j l k = absurd (none_some x k)
+      by None None None None None (Some x) h i j l k = absurd (none_some x k)
+      by None None None None None None (Some x) i j l k = absurd (none_some x k)
+      by None None None None None None None (Some x) j l k = absurd (none_some x k)
+      by None None None None None None None None (Some x) l k = absurd (none_some x k)
+      by None None None None None None None None None l k = refl
 
   limits : WithinLimits ts
   limits =
       let w = texts_fault_none (without_byuid ts) sound in
       record { allow = w.allow; deny = w.deny; byuid = short; portacl = w.portacl; tables = w.tables }
 
-  sheet_refused : unpack (sheet_of ts) ≡ refused r
+  sheet_refused : unpack (sheet_of ts) ≡ Err r
   unfolding unpack
   sheet_refused =
       let is = sheet_of_in_turn ts in
       rw (answered_frame (framed_parts_of ts (sheet_of ts) is limits), texts_at_parts_of ts (sheet_of ts) is, retired_fault_lem)
 
-  pack_refused : (room : ℕ) → pack ts room ≡ refused r
+  pack_refused : (room : ℕ) → pack ts room ≡ Err r
   unfolding pack
   pack_refused room = rw retired_fault_lem
 
 -- what packing tells of its texts
-packed_sound : (ts : Texts) (out : List ℕ) → (written_answer (pack ts (length out))).number ≡ 0 → texts_fault ts ≡ none
+packed_sound : (ts : Texts) (out : List ℕ) → (written_answer (pack ts (length out))).number ≡ 0 → texts_fault ts ≡ None
 packed_sound ts out e = let w = written_answered out (pack ts (length out)) e in (pack_answered ts (length out) w.0 w.1).0
 
 pub retired_refused : RetiredRefused
@@ -102,31 +102,31 @@ retired_refused = record {
 -- ## Converted
 
 -- what was written is the converted text
-convert_answered : (t : List ℕ) (room : ℕ) (s : List ℕ) → convert t room ≡ answered s → s ≡ convert_text t
+convert_answered : (t : List ℕ) (room : ℕ) (s : List ℕ) → convert t room ≡ Ok s → s ≡ convert_text t
 unfolding convert
 convert_answered t room s e = by (over_limit S.byuid t) e
   where
-    room_for : (b : Bool) → refusing (given b (placeless F.NoRoom)) (convert_text t) ≡ answered s → s ≡ convert_text t
+    room_for : (b : Bool) → refusing (given b (placeless F.NoRoom)) (convert_text t) ≡ Ok s → s ≡ convert_text t
     room_for true k = let z : ◌≡◌ {A = ℕ} 0 1 = cc in absurd (omega arith)
     room_for false k = sym (answered_same (convert_text t) s k)
 
-    by : (o : Option Refusal) → (refusing o (convert_text t) >>= within_room room) ≡ answered s → s ≡ convert_text t
-    by none k = room_for (ltb room (length (convert_text t))) k
-    by (some g) k = let z : ◌≡◌ {A = ℕ} 0 1 = cc in absurd (omega arith)
+    by : (o : Option Refusal) → (refusing o (convert_text t) >>= within_room room) ≡ Ok s → s ≡ convert_text t
+    by None k = room_for (ltb room (length (convert_text t))) k
+    by (Some g) k = let z : ◌≡◌ {A = ℕ} 0 1 = cc in absurd (omega arith)
 
 written : (t out : List ℕ) → (gate_convert t out).answer.number ≡ 0 → front (gate_convert t out) ≡ convert_text t
 written t out e =
     let w = written_answered out (convert t (length out)) e in
     w.2 ∙ convert_answered t (length out) w.0 w.1
 
-convert_fits : (t out : List ℕ) → length t ≤ 8192 → length t ≤ length out → convert t (length out) ≡ answered (convert_text t)
+convert_fits : (t out : List ℕ) → length t ≤ 8192 → length t ≤ length out → convert t (length out) ≡ Ok (convert_text t)
 unfolding convert
 convert_fits t out h k = rw (le-ltb 8192 (length t) h, length_convert_text t, le-ltb (length out) (length t) k)
 
 kept : (out : List ℕ) (o : Outcome (List ℕ)) → ((written_answer o).number ≡ 0 → ⊥) → lent_after out o ≡ out
 unfolding written_answer
-kept out (refused r) h = refl
-kept out (answered t) h = absurd (h refl)
+kept out (Err r) h = refl
+kept out (Ok t) h = absurd (h refl)
 
 pub converted : Converted
 unfolding written_answer

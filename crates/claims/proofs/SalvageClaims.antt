@@ -1,10 +1,10 @@
 -- Request 9: the outcome of gate_salvage is accepted, salvaging it again changes nothing, its lines are the damaged sheet's but for the bad ones, and it
 -- grants none but whom the good lines grant.
 -- Assumes nothing.
+use Rattle.std.specs.Prelude.{Err, None, Ok, Option, Some}
 use Prim.Native.Nat.{ℕ, ◌≤◌}
 use mathlib.Core.Bool.{Bool, true, false, true≢false}
 use mathlib.Core.List.{List, []}
-use mathlib.Core.Option.{Option, none, some}
 use mathlib.Core.Path.{◌≡◌, refl, sym, ap, subst, ◌∙◌}
 use native.Mathlib.Omega.{arith}
 use lib.ListN.{length, take, drop}
@@ -12,7 +12,7 @@ use lib.Dec.{ltb}
 use lib.Seq.{take_at}
 use Rattle.text.specs.Basics.{when◌then◌else◌}
 use Rattle.section.specs.declared.Fault.TheVariants as F
-use Rattle.section.specs.Refusal.{Outcome, refused, answered, ◌>>=◌, placeless, first_after, second_after}
+use Rattle.section.specs.Refusal.{Outcome, ◌>>=◌, placeless, first_after, second_after}
 use Rattle.tables.specs.Table.{tables_of, match_of}
 use Rattle.elements.specs.Request.{Request, well_formed, held}
 use Rattle.rules.specs.declared.Verdict.{Verdict}
@@ -37,7 +37,7 @@ use Rattle.claims.proofs.AnswerLaws.{check_answered, two_answered}
 
 -- ## What was written into two outputs
 
-module _ (o : Outcome (List ℕ × List ℕ)) (new list : List ℕ) (e : o ≡ answered (new, list)) where
+module _ (o : Outcome (List ℕ × List ℕ)) (new list : List ℕ) (e : o ≡ Ok (new, list)) where
   two_counts : written_two_answer o ≡ count_two (length new) (length list)
   unfolding written_two_answer
   two_counts = rw e
@@ -50,7 +50,7 @@ module _ (o : Outcome (List ℕ × List ℕ)) (new list : List ℕ) (e : o ≡ a
   unfolding written_two_answer
   second_front out = rw e (take_at list (drop (length list) out) (length list) refl)
 
-unchanged : (sheet out list : List ℕ) → salvage sheet (length out) (length list) ≡ answered (sheet, []) → Unchanged sheet out list
+unchanged : (sheet out list : List ℕ) → salvage sheet (length out) (length list) ≡ Ok (sheet, []) → Unchanged sheet out list
 unchanged sheet out list e = record {
   nothing_listed = two_counts (salvage sheet (length out) (length list)) sheet [] e;
   same_bytes = first_front (salvage sheet (length out) (length list)) sheet [] e out;
@@ -59,7 +59,7 @@ unchanged sheet out list e = record {
 -- ## A sheet that was salvaged
 
 module _ (sheet out list : List ℕ) (e : (gate_salvage sheet out list).answer.number ≡ 0) where
-  found : (p : List ℕ × List ℕ) × (salvage sheet (length out) (length list) ≡ answered p)
+  found : (p : List ℕ × List ℕ) × (salvage sheet (length out) (length list) ≡ Ok p)
   found = two_answered (salvage sheet (length out) (length list)) e
 
   new_is : new_sheet (gate_salvage sheet out list) ≡ found.0.0
@@ -94,7 +94,7 @@ mended ts room new list a =
     subst (λ (s : List ℕ). texts_at s (parts_of (salvaged ts)) ≡ salvaged ts) a.sheet (at_parts (salvaged ts) a.sound) in
     record {
       made_parts = parts_of (salvaged ts);
-      made_framed = subst (λ (s : List ℕ). frame s ≡ answered (parts_of (salvaged ts))) a.sheet (sheet_framed (salvaged ts) a.sound);
+      made_framed = subst (λ (s : List ℕ). frame s ≡ Ok (parts_of (salvaged ts))) a.sheet (sheet_framed (salvaged ts) a.sound);
       allow_lines = ap (λ (t : Texts). raw_lines t.allow) stand ∙ allow_lines ts;
       deny_lines = ap (λ (t : Texts). raw_lines t.deny) stand ∙ deny_lines ts;
       tables_stay = ap (λ (t : Texts). t.tables) stand;
@@ -104,7 +104,7 @@ mended ts room new list a =
     }
 
 lines_mended : (sheet out list : List ℕ) → (gate_salvage sheet out list).answer.number ≡ 0
-    → (p : Parts) × (frame sheet ≡ answered p)
+    → (p : Parts) × (frame sheet ≡ Ok p)
     × Mended (texts_at sheet p) (new_sheet (gate_salvage sheet out list)) (changes_listed (gate_salvage sheet out list))
 lines_mended sheet out list e =
     let a = salvage_answered sheet (found sheet out list e).0.0 (found sheet out list e).0.1 (length out) (length list) (found sheet out list e).1 in (
@@ -130,7 +130,7 @@ grants_word Ver.Ask e = absurd (true≢false (sym e))
 module _ (ts : Texts) where
   -- the verdict by the new texts, whose command has its place in a sheet, and the verdict by the good lines
   abbrev new_outcome : Parts → Option Request → Outcome Answer
-  new_outcome p o = decide_over (tables_of ts.tables) (salvaged ts).allow (salvaged ts).deny o >>= λ a. answered (in_sheet p a)
+  new_outcome p o = decide_over (tables_of ts.tables) (salvaged ts).allow (salvaged ts).deny o >>= λ a. Ok (in_sheet p a)
 
   abbrev good_outcome : Option Request → Outcome Answer
   good_outcome o = decide_over (tables_of ts.tables) (good_text ts.tables ts.allow) (good_text ts.tables ts.deny) o
@@ -138,8 +138,8 @@ module _ (ts : Texts) where
   good_word : (p : Parts) (o : Option Request) (j k : ℕ) → (verdict_answer (new_outcome p o) j).word ≡ granted.number
       → (verdict_answer (good_outcome o) k).word ≡ granted.number
   unfolding verdict_answer
-  good_word p none j k e = absurd (omega arith)
-  good_word p (some r) j k e = by (well_formed r) e
+  good_word p None j k e = absurd (omega arith)
+  good_word p (Some r) j k e = by (well_formed r) e
     where
       new : Answer
       new = search (match_of (tables_of ts.tables)) (salvaged ts).allow (salvaged ts).deny (held r)
@@ -147,8 +147,8 @@ module _ (ts : Texts) where
       good : Answer
       good = search (match_of (tables_of ts.tables)) (good_text ts.tables ts.allow) (good_text ts.tables ts.deny) (held r)
 
-      by : (b : Bool) → (verdict_answer ((when b then answered new else refused (placeless F.BadRequest)) >>= λ a. answered (in_sheet p a)) j).word ≡ granted.number
-          → (verdict_answer (when b then answered good else refused (placeless F.BadRequest)) k).word ≡ granted.number
+      by : (b : Bool) → (verdict_answer ((when b then Ok new else Err (placeless F.BadRequest)) >>= λ a. Ok (in_sheet p a)) j).word ≡ granted.number
+          → (verdict_answer (when b then Ok good else Err (placeless F.BadRequest)) k).word ≡ granted.number
       by true h = grants_word good.verdict (good_grants ts (match_of (tables_of ts.tables)) (held r) (word_grants new.verdict h))
       by false h = absurd (omega arith)
 
@@ -157,9 +157,9 @@ module _ (ts : Texts) where
     unfolding decide_sheet salvaged_by
     new_outcome_lem o =
         let p : Parts = parts_of (salvaged ts) in
-        let u : unpack new ≡ answered p = subst (λ (s : List ℕ). unpack s ≡ answered p) a.sheet (sheet_accepted (salvaged ts) a.sound) in
+        let u : unpack new ≡ Ok p = subst (λ (s : List ℕ). unpack s ≡ Ok p) a.sheet (sheet_accepted (salvaged ts) a.sound) in
         let stand : texts_at new p ≡ salvaged ts = subst (λ (s : List ℕ). texts_at s p ≡ salvaged ts) a.sheet (at_parts (salvaged ts) a.sound) in
-        rw u (ap (λ (t : Texts). decide_over (tables_of t.tables) t.allow t.deny o >>= λ x. answered (in_sheet p x)) stand)
+        rw u (ap (λ (t : Texts). decide_over (tables_of t.tables) t.allow t.deny o >>= λ x. Ok (in_sheet p x)) stand)
 
     good_granted : (n : RequestNumbers) → (gate_sheet_verdict new n).word ≡ granted.number → (good_verdict ts n).word ≡ granted.number
     good_granted n e =
@@ -171,7 +171,7 @@ module _ (ts : Texts) where
 
 no_more : (sheet out list : List ℕ) (n : RequestNumbers) → (gate_salvage sheet out list).answer.number ≡ 0
     → (gate_sheet_verdict (new_sheet (gate_salvage sheet out list)) n).word ≡ granted.number
-    → (p : Parts) × (frame sheet ≡ answered p) × ((good_verdict (texts_at sheet p) n).word ≡ granted.number)
+    → (p : Parts) × (frame sheet ≡ Ok p) × ((good_verdict (texts_at sheet p) n).word ≡ granted.number)
 no_more sheet out list n e g =
     let f = found sheet out list e in
     let a = salvage_answered sheet f.0.0 f.0.1 (length out) (length list) f.1 in (

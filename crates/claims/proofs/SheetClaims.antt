@@ -1,17 +1,17 @@
 -- Demands 1 and 2 of the station sheet: each follows from what an accepted sheet is, by the laws of `sheet`.
 -- Assumes nothing.
+use Rattle.std.specs.Prelude.{Err, None, Ok, Option, Some}
 use Prim.Native.Nat.{ℕ}
 use native.Mathlib.Omega.{arith}
 use mathlib.Core.Bool.{Bool, true, false}
 use mathlib.Core.List.{List, [], ◌∷◌, ◌++◌}
-use mathlib.Core.Option.{Option, none, some}
 use mathlib.Core.Path.{◌≡◌, refl, sym, ap, ◌∙◌}
 use lib.Dec.{ltb}
 use lib.ListN.{length, take}
 use Rattle.text.specs.Basics.{◌or_else◌, given}
 use Rattle.section.specs.declared.Fault.TheVariants as F
 use Rattle.section.specs.declared.Refusal.{Refusal}
-use Rattle.section.specs.Refusal.{Outcome, refused, answered, ◌>>=◌, ◌before◌, placeless, refusing, within_room}
+use Rattle.section.specs.Refusal.{Outcome, ◌>>=◌, ◌before◌, placeless, refusing, within_room}
 use Rattle.section.specs.Section as S
 use Rattle.section.specs.Section.{bytes_at, over_limit}
 use Rattle.tables.specs.Table.{tables_of, tables_frame}
@@ -54,7 +54,7 @@ cut_short sheet n e less =
     )
 
 -- the texts that gate_unpack finds
-texts_found : (sheet : List ℕ) (p : Parts) → unpack sheet ≡ answered p → texts_of sheet ≡ texts_at sheet p
+texts_found : (sheet : List ℕ) (p : Parts) → unpack sheet ≡ Ok p → texts_of sheet ≡ texts_at sheet p
 unfolding parts_answer
 texts_found sheet p e = rw e
 
@@ -68,7 +68,7 @@ pub pack_unpack : PackUnpack
 unfolding written_answer
 pack_unpack sheet out b e h =
     let p = accepted_parts sheet e in
-    let packed : pack (texts_of sheet) (length out) ≡ answered sheet =
+    let packed : pack (texts_of sheet) (length out) ≡ Ok sheet =
     ap (λ ts. pack ts (length out)) (texts_found sheet p.0 p.1) ∙ Laws.pack_unpack sheet p.0 (length out) b p.1 h in
     (ap written_answer packed, front_answered out (pack (texts_of sheet) (length out)) sheet packed)
 
@@ -87,18 +87,18 @@ upgraded sheet out e =
     let w = written_answered out (upgrade sheet (length out)) e in
     w.2 ∙ by (four_frame sheet) w.0 w.1
   where
-    room : (b : Bool) (x t : List ℕ) → refusing (given b (placeless F.NoRoom)) x ≡ answered t → t ≡ x
+    room : (b : Bool) (x t : List ℕ) → refusing (given b (placeless F.NoRoom)) x ≡ Ok t → t ≡ x
     room true x t k = let z : ◌≡◌ {A = ℕ} 0 1 = cc in absurd (omega arith)
     room false x t k = sym (answered_same x t k)
 
-    by : (o : Option Refusal) (t : List ℕ) → (refusing o (sheet ++ 0 ∷ 0 ∷ []) >>= within_room (length out)) ≡ answered t → t ≡ sheet ++ 0 ∷ 0 ∷ []
-    by none t k = room (ltb (length out) (length (sheet ++ 0 ∷ 0 ∷ []))) (sheet ++ 0 ∷ 0 ∷ []) t k
-    by (some g) t k = let z : ◌≡◌ {A = ℕ} 0 1 = cc in absurd (omega arith)
+    by : (o : Option Refusal) (t : List ℕ) → (refusing o (sheet ++ 0 ∷ 0 ∷ []) >>= within_room (length out)) ≡ Ok t → t ≡ sheet ++ 0 ∷ 0 ∷ []
+    by None t k = room (ltb (length out) (length (sheet ++ 0 ∷ 0 ∷ []))) (sheet ++ 0 ∷ 0 ∷ []) t k
+    by (Some g) t k = let z : ◌≡◌ {A = ℕ} 0 1 = cc in absurd (omega arith)
 
 -- ## By a sheet as by its texts
 
 -- texts without a fault are decided over their tables
-pub sound_texts : (ts : Texts) (o : Option Request) → texts_fault ts ≡ none
+pub sound_texts : (ts : Texts) (o : Option Request) → texts_fault ts ≡ None
     → decide_tables ts.allow ts.deny ts.tables o ≡ decide_over (tables_of ts.tables) ts.allow ts.deny o
 unfolding texts_fault decide_tables
 sound_texts ts o e = by (over_limit S.allow ts.allow) (over_limit S.deny ts.deny) (over_limit S.byuid ts.byuid) (over_limit S.portacl ts.portacl)
@@ -108,21 +108,21 @@ sound_texts ts o e = by (over_limit S.allow ts.allow) (over_limit S.deny ts.deny
     x : Outcome Answer
     x = decide_over (tables_of ts.tables) ts.allow ts.deny o
 
-    none_some : (g : Refusal) → some g ≡ none → ⊥
+    none_some : (g : Refusal) → Some g ≡ None → ⊥
     none_some g k = let z : ◌≡◌ {A = ℕ} 0 1 = cc in omega arith
 
-    by : (a b c d f g h i j l : Option Refusal) → (a or_else b or_else c or_else d or_else f or_else g or_else h or_else i or_else j or_else l) ≡ none
+    by : (a b c d f g h i j l : Option Refusal) → (a or_else b or_else c or_else d or_else f or_else g or_else h or_else i or_else j or_else l) ≡ None
         → ((a or_else b or_else f or_else g or_else h or_else j) before x) ≡ x
-    by (some r) b c d f g h i j l k = absurd (none_some r k)
-    by none (some r) c d f g h i j l k = absurd (none_some r k)
-    by none none (some r) d f g h i j l k = absurd (none_some r k)
-    by none none none (some r) f g h i j l k = absurd (none_some r k)
-    by none none none none (some r) g h i j l k = absurd (none_some r k)
-    by none none none none none (some r) h i j l k = absurd (none_some r k)
-    by none none none none none none (some r) i j l k = absurd (none_some r k)
-    by none none none none none none none (some r) j l k = absurd (none_some r k)
-    by none none none none none none none none (some r) l k = absurd (none_some r k)
-    by none none none none none none none none none l k = refl
+    by (Some r) b c d f g h i j l k = absurd (none_some r k)
+    by None (Some r) c d f g h i j l k = absurd (none_some r k)
+    by None None (Some r) d f g h i j l k = absurd (none_some r k)
+    by None None None (Some r) f g h i j l k = absurd (none_some r k)
+    by None None None None (Some r) g h i j l k = absurd (none_some r k)
+    by None None None None None (Some r) h i j l k = absurd (none_some r k)
+    by None None None None None None (Some r) i j l k = absurd (none_some r k)
+    by None None None None None None None (Some r) j l k = absurd (none_some r k)
+    by None None None None None None None None (Some r) l k = absurd (none_some r k)
+    by None None None None None None None None None l k = refl
 
 sheet_verdict : (sheet : List ℕ) (n : RequestNumbers) → Accepted sheet
     → gate_sheet_verdict sheet n
@@ -140,9 +140,9 @@ sheet_verdict sheet n e =
     file p a k Allow = refl
     file p a k Deny = refl
 
-    by : (p : Parts) (o : Outcome Answer) (k : ℕ) → verdict_answer (o >>= λ a. answered (in_sheet p a)) k ≡ placed_in (found_parts p) (verdict_answer o k)
-    by p (refused r) k = refl
-    by p (answered a) k = file p a k a.file
+    by : (p : Parts) (o : Outcome Answer) (k : ℕ) → verdict_answer (o >>= λ a. Ok (in_sheet p a)) k ≡ placed_in (found_parts p) (verdict_answer o k)
+    by p (Err r) k = refl
+    by p (Ok a) k = file p a k a.file
 
 pub sheet_as_texts : SheetAsTexts
 unfolding decide_byuid_sheet decide_portacl_sheet parts_answer mark_of byuid_file_bind

@@ -1,9 +1,9 @@
 -- Request 6: what gate_propose proposes is the most that gate_drop accepts, only the named rules go, and every verdict is the same but for its line.
 -- Assumes nothing.
+use Rattle.std.specs.Prelude.{Err, None, Ok, Option, Some, unwrap_or}
 use Prim.Native.Nat.{ℕ, suc, ◌+◌, ◌≤◌}
 use mathlib.Core.Bool.{Bool, true, false, ◌||◌, true≢false, or-true}
 use mathlib.Core.List.{List, [], ◌∷◌}
-use mathlib.Core.Option.{Option, none, some, get_or}
 use mathlib.Core.Path.{◌≡◌, refl, sym, ap, subst, ◌∙◌}
 use native.Mathlib.Omega.{arith}
 use borrow.Author.Tests.{eq-eqb, eqb-true}
@@ -15,7 +15,7 @@ use Rattle.text.specs.Words.{word_bytes, read_words}
 use Rattle.section.specs.declared.Fault.TheVariants as F
 use Rattle.section.specs.declared.Part.{Part}
 use Rattle.section.specs.declared.Refusal.{Refusal}
-use Rattle.section.specs.Refusal.{Outcome, refused, answered, ◌>>=◌, ◌before◌, placeless}
+use Rattle.section.specs.Refusal.{Outcome, ◌>>=◌, ◌before◌, placeless}
 use Rattle.section.specs.Section as S
 use Rattle.section.specs.Section.{Section, part, bytes_at, over_limit}
 use Rattle.lines.specs.Line.{lines}
@@ -65,11 +65,11 @@ module _ (text tables : List ℕ) (section : ℕ) (out : List ℕ) (e : Proposes
       let w = written_answered out (propose section text tables (length out)) e in
       subst (Proposed section text tables) (sym w.2) (propose_answered section text tables (length out) w.0 w.1)
 
-  read : read_words (front (gate_propose text tables section out)) ≡ some (proposal text)
+  read : read_words (front (gate_propose text tables section out)) ≡ Some (proposal text)
   read = ap read_words proposing.bytes ∙ read_proposal text (text_limit section text tables proposing.section proposing.is_section proposing.sound)
 
   is_proposed : proposed text tables section out ≡ proposal text
-  is_proposed = ap (λ (o : Option (List ℕ)). get_or o []) read
+  is_proposed = ap (λ (o : Option (List ℕ)). unwrap_or o []) read
 
 dropping : (text tables : List ℕ) (section : ℕ) (proposal out : List ℕ) → Drops text tables section proposal out
     → Dropped section text tables proposal (new_file text tables section proposal out)
@@ -78,7 +78,7 @@ dropping text tables section p out e =
     subst (Dropped section text tables p) (sym w.2) (drop_answered section text tables p (length out) w.0 w.1)
 
 -- a call is answered
-module _ (out : List ℕ) (o : Outcome (List ℕ)) (t : List ℕ) (e : o ≡ answered t) where
+module _ (out : List ℕ) (o : Outcome (List ℕ)) (t : List ℕ) (e : o ≡ Ok t) where
   is_answered : (written_answer o).number ≡ 0
   unfolding written_answer
   is_answered = rw e
@@ -166,18 +166,18 @@ module _ (text tables : List ℕ) (section : ℕ) (p out : List ℕ) (e : Drops 
   abbrev new : List ℕ
   new = new_file text tables section p out
 
-  new_sound : file_fault (dropping text tables section p out e).section new tables ≡ none
+  new_sound : file_fault (dropping text tables section p out e).section new tables ≡ None
   new_sound =
       let d = dropping text tables section p out e in
       ap (λ (t : List ℕ). file_fault d.section t tables) d.bytes ∙ file_stays (numbers_of p) d.section text tables d.sound
 
-  comes_back : (room : List ℕ) → length new ≤ length room → drop_rules section new tables [] (length room) ≡ answered new
+  comes_back : (room : List ℕ) → length new ≤ length room → drop_rules section new tables [] (length room) ≡ Ok new
   unfolding read_words
   comes_back room h =
       let d = dropping text tables section p out e in
       let same = nothing_dropped d.section new tables new_sound in
       answered_drop section new tables [] (length room) [] d.section d.is_section new_sound refl same.0 (omega (arith, h, ap length same.1))
-      ∙ ap answered same.1
+      ∙ ap Ok same.1
 
 nothing_left : (text tables : List ℕ) (section : ℕ) (out room other : List ℕ) (e : Proposes text tables section out)
     → Drops text tables section (front (gate_propose text tables section out)) room
@@ -192,7 +192,7 @@ nothing_left text tables section out room other e d =
     ∙ again text (hosts_sound x.section text (file_parts x.section text tables x.sound).1.1.0) in
     counts other (propose section (new_file text tables section p room) tables (length other)) []
     (answered_propose section (new_file text tables section p room) tables (length other) x.section x.is_section (new_sound text tables section p room d)
-    (rw none_more (omega arith)) ∙ ap answered (ap word_bytes none_more))
+    (rw none_more (omega arith)) ∙ ap Ok (ap word_bytes none_more))
 
 pub tidied_files : TidiedFiles
 unfolding Sound
@@ -228,12 +228,12 @@ module _ (allow deny newAllow new_deny : List ℕ) (section : ℕ) (text ns : Li
   said x a = record { answer = a; command = x a }
 
   verdict_stays : (x y : Outcome Answer) (j k : ℕ) → (eqb 0 section ≡ false) → ((g : Refusal) → u (refusal_answer g) ≡ s (refusal_answer g))
-      → ((a : Answer) → x ≡ answered a → s (answer_numbers (at c a) j) ≡ command_bytes allow deny a)
-      → ((b : Answer) → y ≡ answered b → u (answer_numbers (at d b) k) ≡ command_bytes newAllow new_deny b)
+      → ((a : Answer) → x ≡ Ok a → s (answer_numbers (at c a) j) ≡ command_bytes allow deny a)
+      → ((b : Answer) → y ≡ Ok b → u (answer_numbers (at d b) k) ≡ command_bytes newAllow new_deny b)
       → Alike Same x y
-      → SameVerdict section text ns (said s (verdict_answer (x >>= λ a. answered (at c a)) j)) (said u (verdict_answer (y >>= λ b. answered (at d b)) k))
+      → SameVerdict section text ns (said s (verdict_answer (x >>= λ a. Ok (at c a)) j)) (said u (verdict_answer (y >>= λ b. Ok (at d b)) k))
   unfolding verdict_answer
-  verdict_stays (refused g) (refused h) j k z r f f' e = record {
+  verdict_stays (Err g) (Err h) j k z r f f' e = record {
     same_refusal = λ q. ap refusal_answer (sym e);
     same_number = ap (λ (x : Refusal). (refusal_answer x).number) (sym e);
     same_word = refl;
@@ -241,9 +241,9 @@ module _ (allow deny newAllow new_deny : List ℕ) (section : ℕ) (text ns : Li
     same_command = r h ∙ ap (λ (x : Refusal). s (refusal_answer x)) (sym e);
     line_moves = rw (z, e) (omega arith);
   }
-  verdict_stays (refused g) (answered b) j k z r f f' e = absurd e
-  verdict_stays (answered a) (refused h) j k z r f f' e = absurd e
-  verdict_stays (answered a) (answered b) j k z r f f' e = record {
+  verdict_stays (Err g) (Ok b) j k z r f f' e = absurd e
+  verdict_stays (Ok a) (Err h) j k z r f f' e = absurd e
+  verdict_stays (Ok a) (Ok b) j k z r f f' e = record {
     same_refusal = λ q. absurd (q refl);
     same_number = refl;
     same_word = ap (λ v. (verdict_word v).number) e.verdict;
@@ -268,10 +268,10 @@ abbrev command_of : List ℕ → List ℕ → GateAnswer → List ℕ
 command_of allow deny a = bytes_at (when eqb a.file (S.deny).order then deny else allow) (part a.place a.len)
 
 text_command : (o : Option Refusal) (ts : List Table) (allow deny : List ℕ) (q : Option Request) (k : ℕ) (a : Answer)
-    → (o before decide_over ts allow deny q) ≡ answered a → command_of allow deny (answer_numbers a k) ≡ command_bytes allow deny a
-text_command (some g) ts allow deny q k a e = let z : ◌≡◌ {A = ℕ} 0 1 = cc e in absurd (omega arith)
-text_command none ts allow deny none k a e = let z : ◌≡◌ {A = ℕ} 0 1 = cc e in absurd (omega arith)
-text_command none ts allow deny (some r) k a e =
+    → (o before decide_over ts allow deny q) ≡ Ok a → command_of allow deny (answer_numbers a k) ≡ command_bytes allow deny a
+text_command (Some g) ts allow deny q k a e = let z : ◌≡◌ {A = ℕ} 0 1 = cc e in absurd (omega arith)
+text_command None ts allow deny None k a e = let z : ◌≡◌ {A = ℕ} 0 1 = cc e in absurd (omega arith)
+text_command None ts allow deny (Some r) k a e =
     by a.file
     (subst (λ (x : Answer). x.command.place + x.command.len ≤ file_length allow deny x.file) (over_search ts allow deny r a e)
     (search_within (match_of ts) allow deny (held r)))
@@ -283,7 +283,7 @@ text_command none ts allow deny (some r) k a e =
     by Allow w = refl
     by Deny w = refl
 
-tables_command : (allow deny tables : List ℕ) (q : Option Request) (k : ℕ) (a : Answer) → decide_tables allow deny tables q ≡ answered a
+tables_command : (allow deny tables : List ℕ) (q : Option Request) (k : ℕ) (a : Answer) → decide_tables allow deny tables q ≡ Ok a
     → command_of allow deny (answer_numbers a k) ≡ command_bytes allow deny a
 unfolding decide_tables
 tables_command allow deny tables q k a e =
@@ -292,11 +292,11 @@ tables_command allow deny tables q k a e =
 
 -- an answer by texts, its command where it was found
 abbrev as_found : Outcome Answer → Outcome Answer
-as_found o = o >>= λ a. answered (answer a.verdict a.file a.line a.command)
+as_found o = o >>= λ a. Ok (answer a.verdict a.file a.line a.command)
 
 unchanged : (o : Outcome Answer) → as_found o ≡ o
-unchanged (refused g) = refl
-unchanged (answered a) = refl
+unchanged (Err g) = refl
+unchanged (Ok a) = refl
 
 abbrev said_by : List ℕ → List ℕ → ℕ → Outcome Answer → Said
 said_by allow deny k o = found_in_texts allow deny (verdict_answer o k)
@@ -326,10 +326,10 @@ two_texts allow deny o =
     (decide_over [] allow deny o)
   where
     by : (a b c d e : Option Refusal) (x : Outcome Answer)
-        → (((((a or_else b) or_else c) or_else d) or_else e) before x) ≡ ((((((a or_else b) or_else none) or_else c) or_else d) or_else e) before x)
-    by (some g) b c d e x = refl
-    by none (some g) c d e x = refl
-    by none none c d e x = refl
+        → (((((a or_else b) or_else c) or_else d) or_else e) before x) ≡ ((((((a or_else b) or_else None) or_else c) or_else d) or_else e) before x)
+    by (Some g) b c d e x = refl
+    by None (Some g) c d e x = refl
+    by None None c d e x = refl
 
 same_two : (allow deny : List ℕ) (n : RequestNumbers) → by_two_texts allow deny n ≡ by_texts allow deny no_tables n
 unfolding read_tables read_each from_digits
@@ -353,22 +353,22 @@ said_at sheet k o = found_in_sheet sheet (verdict_answer o k)
 
 -- an answer by texts, its command where it stands in a sheet
 abbrev placed : Parts → Outcome Answer → Outcome Answer
-placed p o = o >>= λ a. answered (in_sheet p a)
+placed p o = o >>= λ a. Ok (in_sheet p a)
 
 -- a sheet that was packed decides by its texts
 module _ (ts : Texts) (room : List ℕ) (e : (gate_pack ts room).answer.number ≡ 0) where
   abbrev sheet : List ℕ
   sheet = front (gate_pack ts room)
 
-  packed : (texts_fault ts ≡ none) × (sheet_of ts ≡ sheet)
+  packed : (texts_fault ts ≡ None) × (sheet_of ts ≡ sheet)
   packed =
       let w = written_answered room (pack ts (length room)) e in
-      subst (λ (s : List ℕ). (texts_fault ts ≡ none) × (sheet_of ts ≡ s)) (sym w.2) (pack_answered ts (length room) w.0 w.1)
+      subst (λ (s : List ℕ). (texts_fault ts ≡ None) × (sheet_of ts ≡ s)) (sym w.2) (pack_answered ts (length room) w.0 w.1)
 
-  unpacked : (unpack sheet ≡ answered (parts_of ts)) × (texts_at sheet (parts_of ts) ≡ ts)
+  unpacked : (unpack sheet ≡ Ok (parts_of ts)) × (texts_at sheet (parts_of ts) ≡ ts)
   unpacked =
       let w = written_answered room (pack ts (length room)) e in
-      subst (λ (s : List ℕ). (unpack s ≡ answered (parts_of ts)) × (texts_at s (parts_of ts) ≡ ts)) (sym w.2)
+      subst (λ (s : List ℕ). (unpack s ≡ Ok (parts_of ts)) × (texts_at s (parts_of ts) ≡ ts)) (sym w.2)
       (Sheet.unpack_pack ts (length room) w.0 w.1)
 
   decided : (o : Option Request) → decide_sheet sheet o ≡ placed (parts_of ts) (decide_tables ts.allow ts.deny ts.tables o)
@@ -378,12 +378,12 @@ module _ (ts : Texts) (room : List ℕ) (e : (gate_pack ts room).answer.number �
       (ap (λ (t : Texts). placed (parts_of ts) (decide_over (tables_of t.tables) t.allow t.deny o)) unpacked.1
       ∙ ap (placed (parts_of ts)) (sym (sound_texts ts o packed.0)))
 
-  sheet_command : (o : Option Request) (k : ℕ) (a : Answer) → decide_tables ts.allow ts.deny ts.tables o ≡ answered a
+  sheet_command : (o : Option Request) (k : ℕ) (a : Answer) → decide_tables ts.allow ts.deny ts.tables o ≡ Ok a
       → command_at sheet (answer_numbers (in_sheet (parts_of ts) a) k) ≡ command_bytes ts.allow ts.deny a
-  sheet_command none k a d = let z : ◌≡◌ {A = ℕ} 0 1 = cc (sym (sound_texts ts none packed.0) ∙ d) in absurd (omega arith)
-  sheet_command (some r) k a d =
+  sheet_command None k a d = let z : ◌≡◌ {A = ℕ} 0 1 = cc (sym (sound_texts ts None packed.0) ∙ d) in absurd (omega arith)
+  sheet_command (Some r) k a d =
       command_bytes_lem sheet (parts_of ts) (answered_frame (unpack_answered sheet (parts_of ts) unpacked.0).0) r a (tables_of ts.tables)
-      (ap (λ (t : Texts). decide_over (tables_of ts.tables) t.allow t.deny (some r)) unpacked.1 ∙ (sym (sound_texts ts (some r) packed.0) ∙ d))
+      (ap (λ (t : Texts). decide_over (tables_of ts.tables) t.allow t.deny (Some r)) unpacked.1 ∙ (sym (sound_texts ts (Some r) packed.0) ∙ d))
       ∙ ap (λ (t : Texts). command_bytes t.allow t.deny a) unpacked.1
 
 module _ (ts us : Texts) (room other : List ℕ) (e : (gate_pack ts room).answer.number ≡ 0) (f : (gate_pack us other).answer.number ≡ 0) (n : RequestNumbers)
@@ -408,38 +408,38 @@ module _ (ts us : Texts) (room other : List ℕ) (e : (gate_pack ts room).answer
 -- ## The new sheet can be packed
 
 -- what is left of the checks of five texts where the allow file, or the deny file, passes its own
-allow_passes : (ts : Texts) → file_fault S.allow ts.allow ts.tables ≡ none
+allow_passes : (ts : Texts) → file_fault S.allow ts.allow ts.tables ≡ None
     → texts_fault ts
-    ≡ ((((((((none or_else over_limit S.deny ts.deny) or_else over_limit S.byuid ts.byuid) or_else over_limit S.portacl ts.portacl) or_else none) or_else none)
+    ≡ ((((((((None or_else over_limit S.deny ts.deny) or_else over_limit S.byuid ts.byuid) or_else over_limit S.portacl ts.portacl) or_else None) or_else None)
     or_else hosts_fault S.deny ts.deny) or_else portacl_fault ts.portacl)
-    or_else (((((none or_else missing_fault (tables_of ts.tables) S.deny ts.deny) or_else none) or_else none)
-    or_else depth_fault (tables_of ts.tables) S.deny ts.deny) or_else none)) or_else byuid_fault ts.byuid
+    or_else (((((None or_else missing_fault (tables_of ts.tables) S.deny ts.deny) or_else None) or_else None)
+    or_else depth_fault (tables_of ts.tables) S.deny ts.deny) or_else None)) or_else byuid_fault ts.byuid
 unfolding texts_fault tables_fault
 allow_passes ts e =
     let p = file_parts S.allow ts.allow ts.tables e in
     rw (p.0, p.1.0, p.1.1.0, p.1.1.1.0, p.1.1.1.1.0, p.1.1.1.1.1.0, p.1.1.1.1.1.1)
 
-deny_passes : (ts : Texts) → file_fault S.deny ts.deny ts.tables ≡ none
+deny_passes : (ts : Texts) → file_fault S.deny ts.deny ts.tables ≡ None
     → texts_fault ts
-    ≡ ((((((((over_limit S.allow ts.allow or_else none) or_else over_limit S.byuid ts.byuid) or_else over_limit S.portacl ts.portacl) or_else none)
-    or_else hosts_fault S.allow ts.allow) or_else none) or_else portacl_fault ts.portacl)
-    or_else (((((missing_fault (tables_of ts.tables) S.allow ts.allow or_else none) or_else none)
-    or_else depth_fault (tables_of ts.tables) S.allow ts.allow) or_else none) or_else none)) or_else byuid_fault ts.byuid
+    ≡ ((((((((over_limit S.allow ts.allow or_else None) or_else over_limit S.byuid ts.byuid) or_else over_limit S.portacl ts.portacl) or_else None)
+    or_else hosts_fault S.allow ts.allow) or_else None) or_else portacl_fault ts.portacl)
+    or_else (((((missing_fault (tables_of ts.tables) S.allow ts.allow or_else None) or_else None)
+    or_else depth_fault (tables_of ts.tables) S.allow ts.allow) or_else None) or_else None)) or_else byuid_fault ts.byuid
 unfolding texts_fault tables_fault
 deny_passes ts e =
     let p = file_parts S.deny ts.deny ts.tables e in
     rw (p.0, p.1.0, p.1.1.0, p.1.1.1.0, p.1.1.1.1.0, p.1.1.1.1.1.0, p.1.1.1.1.1.1)
 
 -- the section of a file by its number
-allow_section : (x : Section) → section_of 1 ≡ some x → x ≡ S.allow
+allow_section : (x : Section) → section_of 1 ≡ Some x → x ≡ S.allow
 allow_section x e = let z : S.allow ≡ x = cc e in sym z
 
-deny_section : (x : Section) → section_of 2 ≡ some x → x ≡ S.deny
+deny_section : (x : Section) → section_of 2 ≡ Some x → x ≡ S.deny
 deny_section x e = let z : S.deny ≡ x = cc e in sym z
 
 -- a sheet of sound texts that are no longer is packed
 module _ (ts us : Texts) (room other : List ℕ) (e : (gate_pack ts room).answer.number ≡ 0) where
-  packs : texts_fault us ≡ none → length (sheet_of us) ≤ length (sheet_of ts) → (gate_pack ts room).answer.count ≤ length other
+  packs : texts_fault us ≡ None → length (sheet_of us) ≤ length (sheet_of ts) → (gate_pack ts room).answer.count ≤ length other
       → (gate_pack us other).answer.number ≡ 0
   unfolding written_answer
   packs sound few fits =
@@ -456,15 +456,15 @@ module _ (ts : Texts) (p out : List ℕ) where
     allow_dropped : Dropped 1 ts.allow ts.tables p new_allow
     allow_dropped = dropping ts.allow ts.tables 1 p out d
 
-    allow_sound : file_fault S.allow ts.allow ts.tables ≡ none
+    allow_sound : file_fault S.allow ts.allow ts.tables ≡ None
     allow_sound =
-        subst (λ (x : Section). file_fault x ts.allow ts.tables ≡ none) (allow_section allow_dropped.section allow_dropped.is_section)
+        subst (λ (x : Section). file_fault x ts.allow ts.tables ≡ None) (allow_section allow_dropped.section allow_dropped.is_section)
         allow_dropped.sound
 
     allow_packs : (room other : List ℕ) → (gate_pack ts room).answer.number ≡ 0 → (gate_pack ts room).answer.count ≤ length other
         → (gate_pack (with_allow ts new_allow) other).answer.number ≡ 0
     allow_packs room other e h =
-        let stays : file_fault S.allow new_allow ts.tables ≡ none =
+        let stays : file_fault S.allow new_allow ts.tables ≡ None =
         ap (λ (t : List ℕ). file_fault S.allow t ts.tables) allow_dropped.bytes ∙ file_stays (numbers_of p) S.allow ts.allow ts.tables allow_sound in
         packs ts (with_allow ts new_allow) room other e
         (allow_passes (with_allow ts new_allow) stays ∙ (sym (allow_passes ts allow_sound) ∙ (packed ts room e).0))
@@ -493,15 +493,15 @@ module _ (ts : Texts) (p out : List ℕ) where
     deny_dropped : Dropped 2 ts.deny ts.tables p new_deny_lem
     deny_dropped = dropping ts.deny ts.tables 2 p out d
 
-    deny_sound : file_fault S.deny ts.deny ts.tables ≡ none
+    deny_sound : file_fault S.deny ts.deny ts.tables ≡ None
     deny_sound =
-        subst (λ (x : Section). file_fault x ts.deny ts.tables ≡ none) (deny_section deny_dropped.section deny_dropped.is_section)
+        subst (λ (x : Section). file_fault x ts.deny ts.tables ≡ None) (deny_section deny_dropped.section deny_dropped.is_section)
         deny_dropped.sound
 
     deny_packs : (room other : List ℕ) → (gate_pack ts room).answer.number ≡ 0 → (gate_pack ts room).answer.count ≤ length other
         → (gate_pack (with_deny ts new_deny_lem) other).answer.number ≡ 0
     deny_packs room other e h =
-        let stays : file_fault S.deny new_deny_lem ts.tables ≡ none =
+        let stays : file_fault S.deny new_deny_lem ts.tables ≡ None =
         ap (λ (t : List ℕ). file_fault S.deny t ts.tables) deny_dropped.bytes ∙ file_stays (numbers_of p) S.deny ts.deny ts.tables deny_sound in
         packs ts (with_deny ts new_deny_lem) room other e
         (deny_passes (with_deny ts new_deny_lem) stays ∙ (sym (deny_passes ts deny_sound) ∙ (packed ts room e).0))

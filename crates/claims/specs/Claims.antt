@@ -1,8 +1,7 @@
 -- The demands on the gate, as statements about what its exported calls answer: crate gate has a definition for each (Calls.antt), which its
 -- promise cites too. proofs/Claims.antt proves them all.
 -- Assumes nothing: these are statements.
-use Rattle.std.specs.Prelude.{ℕ, ◌+◌, ◌*◌, ◌≤◌, ◌<◌, ◌^◌, true, false, List, [], ◌∷◌, ◌++◌, ◌≡◌, length, take, ltb, eqb}
-use Rattle.std.proofs.Math.Option.{none}
+use Rattle.std.specs.Prelude.{ℕ, ◌+◌, ◌*◌, ◌≤◌, ◌<◌, ◌^◌, true, false, List, [], ◌∷◌, ◌++◌, ◌≡◌, length, take, ltb, eqb, None}
 use Rattle.text.specs.Basics.{when◌then◌else◌, any, all}
 use Rattle.section.specs.declared.Fault.TheVariants as F
 use Rattle.section.specs.declared.Refusal.{Refusal}
@@ -298,14 +297,14 @@ pub record GrantsOwnSpan : Type 0 where
 -- "a request for the other span gets "no line"", whatever the lines grant: where the text is within its limit, no line of it is of the
 -- retired form and the bind is ruled
 pub record OtherSpanNoLine : Type 0 where
-  pub plain_no_line : (text : List ℕ) (port kind high low uid : ℕ) → length text ≤ 8192 → byuid_fault text ≡ none → Known kind high low → 1 ≤ uid → Upper port
+  pub plain_no_line : (text : List ℕ) (port kind high low uid : ℕ) → length text ≤ 8192 → byuid_fault text ≡ None → Known kind high low → 1 ≤ uid → Upper port
       → gate_byuid text plain port kind high low uid ≡ word_answer no_line.number
-  pub marked_no_line : (text : List ℕ) (port kind high low uid : ℕ) → length text ≤ 8192 → byuid_fault text ≡ none → Known kind high low → 1 ≤ uid → Lower port
+  pub marked_no_line : (text : List ℕ) (port kind high low uid : ℕ) → length text ≤ 8192 → byuid_fault text ≡ None → Known kind high low → 1 ≤ uid → Lower port
       → gate_byuid text marked port kind high low uid ≡ word_answer no_line.number
 
 -- 13: "a request field outside its size or its kinds": a file that is neither
 abbrev pub NeitherFile : Type 0
-NeitherFile = (text : List ℕ) (mark port kind high low uid : ℕ) → length text ≤ 8192 → byuid_fault text ≡ none → 2 ≤ mark
+NeitherFile = (text : List ℕ) (mark port kind high low uid : ℕ) → length text ≤ 8192 → byuid_fault text ≡ None → 2 ≤ mark
     → gate_byuid text mark port kind high low uid ≡ refusal_answer (placeless F.BadRequest)
 
 -- request 7: "so no record it then works on holds such an IPv6 address"

@@ -1,11 +1,10 @@
 -- Document 01, "Table of proved examples": "These eleven stand as one table under one claim."
 -- Assumes nothing: these are statements.
-use Rattle.std.specs.Prelude.{ℕ, Bool, true, false, List, [], ◌∷◌, ◌≡◌, replicate}
+use Rattle.std.specs.Prelude.{ℕ, Bool, true, false, List, [], ◌∷◌, ◌≡◌, replicate, Err, Ok, Some}
 use Prim.Native.String.{String}
-use Rattle.std.proofs.Math.Option.{some}
 use Rattle.text.specs.Text.{bytes}
 use Rattle.section.specs.declared.Fault.TheVariants as F
-use Rattle.section.specs.Refusal.{refused, answered, ◌>>=◌, refusal, placeless}
+use Rattle.section.specs.Refusal.{◌>>=◌, refusal, placeless}
 use Rattle.section.specs.Section.{part}
 use Rattle.address.specs.declared.Addr.{Addr}
 use Rattle.address.specs.declared.Addr.TheVariants.{Unknown, V4, V6}
@@ -50,8 +49,8 @@ abbrev pub udp80 : Bind
 udp80 = record { uid = 80; groups = []; protocol = Udp; port = 80 }
 
 pub record Examples : Type 0 where
-  pub p1 : (r : Request) → well_formed r ≡ true → decide [] [] (some r) ≡ answered (answer Granted Neither 0 (part 0 0))
-  pub p2 : (r : Request) → well_formed r ≡ true → decide [] (bytes "ALL: ALL\n") (some r) ≡ answered (answer Denied Deny 1 (part 8 0))
+  pub p1 : (r : Request) → well_formed r ≡ true → decide [] [] (Some r) ≡ Ok (answer Granted Neither 0 (part 0 0))
+  pub p2 : (r : Request) → well_formed r ≡ true → decide [] (bytes "ALL: ALL\n") (Some r) ≡ Ok (answer Denied Deny 1 (part 8 0))
   pub p3_yes : list_finds "ALL EXCEPT .x.example EXCEPT p.x.example" "p.x.example" Unknown ≡ Yes
   pub p3_no : list_finds "ALL EXCEPT .x.example EXCEPT p.x.example" "q.x.example" Unknown ≡ No
   pub p4_yes : list_finds "131.155.72.0/255.255.254.0" "x" (V4 0x839b49ff) ≡ Yes
@@ -60,13 +59,13 @@ pub record Examples : Type 0 where
   pub p5_no : list_finds "[3ffe:505:2:1::]/64" "x" (V6 0x3ffe050500020002 0) ≡ No
   pub p6_yes : list_finds ".tue.nl" "wzv.win.tue.nl" Unknown ≡ Yes
   pub p6_no : list_finds ".tue.nl" "tue.nl" Unknown ≡ No
-  pub p7_no : decide_byuid (bytes "10.0.0.1/8,80") (some (file_bind Plain (bind 80 (V4 0x0aff0001) 432))) ≡ answered B.NoLine
-  pub p7_yes : decide_byuid (bytes "10.0.0.0/8,80") (some (file_bind Plain (bind 80 (V4 0x0aff0001) 432))) ≡ answered B.Granted
-  pub p8 : decide_portacl (bytes "uid:80:tcp:80") settings (some udp80) ≡ answered P.Denied
-  pub p9 : expand (bytes "/bin/log %u") (some (request_by "x" Unknown "a;b")) 1 99 ≡ answered (bytes "/bin/log a_b")
-  pub p10 : (read_address (bytes "2620:106:e002:f00f:0:0:0:21") >>= λ a. write_address a 99) ≡ answered (bytes "2620:106:e002:f00f::21")
+  pub p7_no : decide_byuid (bytes "10.0.0.1/8,80") (Some (file_bind Plain (bind 80 (V4 0x0aff0001) 432))) ≡ Ok B.NoLine
+  pub p7_yes : decide_byuid (bytes "10.0.0.0/8,80") (Some (file_bind Plain (bind 80 (V4 0x0aff0001) 432))) ≡ Ok B.Granted
+  pub p8 : decide_portacl (bytes "uid:80:tcp:80") settings (Some udp80) ≡ Ok P.Denied
+  pub p9 : expand (bytes "/bin/log %u") (Some (request_by "x" Unknown "a;b")) 1 99 ≡ Ok (bytes "/bin/log a_b")
+  pub p10 : (read_address (bytes "2620:106:e002:f00f:0:0:0:21") >>= λ a. write_address a 99) ≡ Ok (bytes "2620:106:e002:f00f::21")
   -- document 02, request 1: "P11 reads 18, 17 and 19"
   pub p11_accepted : unpack (replicate 18 0)
-      ≡ answered (record { allow = part 4 0; deny = part 8 0; byuid = part 12 0; portacl = part 16 0; tables = part 16 2 })
-  pub p11_short : unpack (replicate 17 0) ≡ refused (refusal F.CutShort 5 0)
-  pub p11_long : unpack (replicate 19 0) ≡ refused (placeless F.TrailingBytes)
+      ≡ Ok (record { allow = part 4 0; deny = part 8 0; byuid = part 12 0; portacl = part 16 0; tables = part 16 2 })
+  pub p11_short : unpack (replicate 17 0) ≡ Err (refusal F.CutShort 5 0)
+  pub p11_long : unpack (replicate 19 0) ≡ Err (placeless F.TrailingBytes)

@@ -2,8 +2,7 @@
 --   IndexWritten    == "a call writes it for an accepted sheet, or refuses by 14"
 --   IndexedVerdicts == "Each answer is the one that the request gets alone without an index"; 21, 13 and 14 for the whole call
 -- Assumes nothing: these are statements.
-use Rattle.std.specs.Prelude.{ℕ, ◌*◌, ◌≤◌, ◌<◌, List, ◌≡◌, length, take, drop, get_or}
-use Rattle.std.proofs.Math.Option.{none, some}
+use Rattle.std.specs.Prelude.{ℕ, ◌*◌, ◌≤◌, ◌<◌, List, ◌≡◌, length, take, drop, get_or, None, Some}
 use Rattle.section.specs.declared.Fault.TheVariants as F
 use Rattle.section.specs.declared.Refusal.{Refusal}
 use Rattle.section.specs.Refusal.{placeless}
@@ -34,15 +33,15 @@ pub record AnsweredAlone (sheet : List ℕ) (ns : List RequestNumbers) (w : Wrot
   -- "Each answer is the one that the request gets alone without an index;"
   pub each_alone : (k : ℕ) (d : RequestNumbers) → k < length ns → answer_at k w ≡ answer_bytes (gate_sheet_verdict sheet (get_or ns k d))
   -- "a request with a bad field gets its own 13 in its place and the others are still answered."
-  pub own_refusal : (k : ℕ) (d : RequestNumbers) → k < length ns → request (get_or ns k d) ≡ none
+  pub own_refusal : (k : ℕ) (d : RequestNumbers) → k < length ns → request (get_or ns k d) ≡ None
       → answer_at k w ≡ answer_bytes (refusal_answer (placeless F.BadRequest))
 
 pub record IndexedVerdicts : Type 0 where
   -- by the index that gate_index wrote for the sheet, given room
   pub by_own_index : (sheet lent requests out : List ℕ) (ns : List RequestNumbers) → (gate_index sheet lent).answer.number ≡ 0
-      → read_requests requests ≡ some ns → 36 * length ns ≤ length out
+      → read_requests requests ≡ Some ns → 36 * length ns ≤ length out
       → AnsweredAlone sheet ns (gate_verdicts sheet (written (gate_index sheet lent)) requests out)
-  pub at_most_32 : (requests : List ℕ) (ns : List RequestNumbers) → read_requests requests ≡ some ns → length ns ≤ 32
+  pub at_most_32 : (requests : List ℕ) (ns : List RequestNumbers) → read_requests requests ≡ Some ns → length ns ≤ 32
   -- "21 for a wrong index, after all sheet checks;"
   pub sheet_first : (sheet index requests out : List ℕ) (r : Refusal) → gate_check sheet ≡ refused_check r
       → (gate_verdicts sheet index requests out).answer ≡ refused_written r
@@ -50,9 +49,9 @@ pub record IndexedVerdicts : Type 0 where
   pub wrong_index : (sheet lent index requests out : List ℕ) → (gate_index sheet lent).answer.number ≡ 0
       → (index ≡ written (gate_index sheet lent) → ⊥) → (gate_verdicts sheet index requests out).answer ≡ refused_written (placeless F.WrongIndex)
   -- "then 13 for the whole call if there are more than 32 requests or they can't be parted;"
-  pub unparted_next : (sheet lent requests out : List ℕ) → (gate_index sheet lent).answer.number ≡ 0 → read_requests requests ≡ none
+  pub unparted_next : (sheet lent requests out : List ℕ) → (gate_index sheet lent).answer.number ≡ 0 → read_requests requests ≡ None
       → (gate_verdicts sheet (written (gate_index sheet lent)) requests out).answer ≡ refused_written (placeless F.BadRequest)
   -- "then 14."
   pub room_last : (sheet lent requests out : List ℕ) (ns : List RequestNumbers) → (gate_index sheet lent).answer.number ≡ 0
-      → read_requests requests ≡ some ns → length out < 36 * length ns
+      → read_requests requests ≡ Some ns → length out < 36 * length ns
       → (gate_verdicts sheet (written (gate_index sheet lent)) requests out).answer ≡ refused_written (placeless F.NoRoom)

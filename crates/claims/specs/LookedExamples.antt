@@ -1,8 +1,7 @@
 -- Document 02, request 12: examples, computed.
 -- Assumes nothing: these are statements.
-use Rattle.std.specs.Prelude.{ℕ, List, [], ◌∷◌, ◌≡◌}
+use Rattle.std.specs.Prelude.{ℕ, List, [], ◌∷◌, ◌≡◌, Some}
 use Prim.Native.String.{String}
-use Rattle.std.proofs.Math.Option.{some}
 use Rattle.text.specs.Text.{bytes}
 use Rattle.address.specs.declared.Addr.TheVariants.{V4}
 use Rattle.elements.specs.declared.User.{User}
@@ -13,7 +12,7 @@ use Rattle.claims.specs.TableExamples.{five, four_deep, sheet_by, client_of}
 
 -- how many elements are looked at for the client at 10.1.2.3, whose user, where known, is fitter
 abbrev pub elements_for : String → String → List ℕ → User → ℕ
-elements_for allow deny tables u = looked_sheet (sheet_by allow deny tables) (some (client_of (V4 0x0a010203) u))
+elements_for allow deny tables u = looked_sheet (sheet_by allow deny tables) (Some (client_of (V4 0x0a010203) u))
 
 pub record LookedExamples : Type 0 where
   pub no_rules : elements_for "" "" (five []) U.Unknown ≡ 0

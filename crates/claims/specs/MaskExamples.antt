@@ -1,7 +1,6 @@
 -- Document 02, request 2: examples of mask lengths, computed.
 -- Assumes nothing: these are statements.
-use Rattle.std.proofs.Math.Option.{some}
-use Rattle.std.specs.Prelude.{◌≡◌}
+use Rattle.std.specs.Prelude.{◌≡◌, Some}
 use Rattle.text.specs.Text.{bytes}
 use Rattle.section.specs.declared.Fault.TheVariants as F
 use Rattle.section.specs.Refusal.{refusal}
@@ -21,6 +20,6 @@ pub record MaskExamples : Type 0 where
   pub net_bits : list_finds "131.155.73.0/23" "x" (V4 0x839b4900) ≡ No
   pub net_bits_of_none : list_finds "10.0.0.0/0" "x" (V4 0x0a000000) ≡ No
   -- "a length of 0 to 32, in fewest digits, after a four-field net": all else stays 10
-  pub over : hosts_fault S.allow (bytes "ALL: 10.0.0.0/33\n") ≡ some (refusal F.UnknownElement 1 1)
-  pub more_digits : hosts_fault S.allow (bytes "ALL: 10.0.0.0/08\n") ≡ some (refusal F.UnknownElement 1 1)
-  pub fewer_fields : hosts_fault S.allow (bytes "ALL: 10./8\n") ≡ some (refusal F.UnknownElement 1 1)
+  pub over : hosts_fault S.allow (bytes "ALL: 10.0.0.0/33\n") ≡ Some (refusal F.UnknownElement 1 1)
+  pub more_digits : hosts_fault S.allow (bytes "ALL: 10.0.0.0/08\n") ≡ Some (refusal F.UnknownElement 1 1)
+  pub fewer_fields : hosts_fault S.allow (bytes "ALL: 10./8\n") ≡ Some (refusal F.UnknownElement 1 1)

@@ -2,10 +2,10 @@
 --   frame_by s sheet, unpack_by s sheet == the frame and the unpacking of a box whose section of portacl is s
 --   old_unpack sheet                   == what gate_unpack answers on a box that is not yet updated
 -- Assumes nothing: these are statements.
-use Rattle.std.specs.Prelude.{ℕ, ◌<◌, List, ◌≡◌}
+use Rattle.std.specs.Prelude.{ℕ, ◌<◌, List, ◌≡◌, Ok}
 use Rattle.section.specs.declared.Fault.TheVariants as F
 use Rattle.section.specs.declared.Refusal.{Refusal}
-use Rattle.section.specs.Refusal.{Outcome, answered, ◌>>=◌, refusal, refusing}
+use Rattle.section.specs.Refusal.{Outcome, ◌>>=◌, refusal, refusing}
 use Rattle.section.specs.Section as S
 use Rattle.section.specs.Section.{Section}
 use Rattle.sheet.specs.declared.Parts.{Parts}
@@ -24,7 +24,7 @@ frame_by s sheet = do
   d ← section_at S.deny (part_end a) sheet
   b ← section_at S.byuid (part_end d) sheet
   p ← section_at s (part_end b) sheet
-  answered (record { allow = a; deny = d; byuid = b; portacl = p; tables = rest_after sheet p })
+  Ok (record { allow = a; deny = d; byuid = b; portacl = p; tables = rest_after sheet p })
 
 -- the checks behind the frame are the same: in a sheet the limits of the four texts are told by their counts
 abbrev pub unpack_by : Section → List ℕ → Outcome Parts

@@ -1,9 +1,8 @@
 -- Document 02, request 9: what gate_salvage makes of a damaged sheet, and what it lists.
 -- Assumes nothing: these are statements.
-use Rattle.std.specs.Prelude.{ℕ, ◌≤◌, true, ◌&&◌, List, [], map, ◌≡◌, length, take, ltb, eqb}
+use Rattle.std.specs.Prelude.{ℕ, ◌≤◌, true, ◌&&◌, List, [], map, ◌≡◌, length, take, ltb, eqb, Ok}
 use Rattle.text.specs.Basics.{when◌then◌else◌, any, all}
 use Rattle.text.specs.Text.{bytes}
-use Rattle.section.specs.Refusal.{answered}
 use Rattle.lines.specs.Line.{Line, lines}
 use Rattle.tables.specs.Table.{tables_of}
 use Rattle.sheet.specs.declared.Parts.{Parts}
@@ -37,7 +36,7 @@ replaced five instead t = map (λ (l : Line). when bad_line (tables_of five) l t
 -- the texts ts of a damaged sheet, and what was made of them
 pub record Mended (ts : Texts) (new list : List ℕ) : Type 0 where
   pub made_parts : Parts
-  pub made_framed : frame new ≡ answered made_parts
+  pub made_framed : frame new ≡ Ok made_parts
   -- "each bad logical line of allow into nothing and each bad one of deny into `ALL: ALL`", "and leaves every other byte and its order"
   pub allow_lines : raw_lines (texts_at new made_parts).allow ≡ replaced ts.tables [] ts.allow
   pub deny_lines : raw_lines (texts_at new made_parts).deny ≡ replaced ts.tables (bytes "ALL: ALL") ts.deny
@@ -67,9 +66,9 @@ pub record SalvagedSheets : Type 0 where
   pub sound_unchanged : (sheet out list : List ℕ) → all (λ b. ltb b 256) sheet ≡ true → gate_check sheet ≡ accepted → length sheet ≤ length out
       → Unchanged sheet out list
   pub salvaged_lines : (sheet out list : List ℕ) → (gate_salvage sheet out list).answer.number ≡ 0
-      → (p : Parts) × (frame sheet ≡ answered p)
+      → (p : Parts) × (frame sheet ≡ Ok p)
       × Mended (texts_at sheet p) (new_sheet (gate_salvage sheet out list)) (changes_listed (gate_salvage sheet out list))
   -- a bad line of allow only vanishes, and one of deny only denies: whom the new sheet grants, the damaged one's good lines grant
   pub grants_no_more : (sheet out list : List ℕ) (n : RequestNumbers) → (gate_salvage sheet out list).answer.number ≡ 0
       → (gate_sheet_verdict (new_sheet (gate_salvage sheet out list)) n).word ≡ granted.number
-      → (p : Parts) × (frame sheet ≡ answered p) × ((good_verdict (texts_at sheet p) n).word ≡ granted.number)
+      → (p : Parts) × (frame sheet ≡ Ok p) × ((good_verdict (texts_at sheet p) n).word ≡ granted.number)

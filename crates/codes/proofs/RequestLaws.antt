@@ -1,10 +1,10 @@
 -- What the tests of a number say of what it stands for, and what was read of the request and of the binds that C hands over.
 -- Assumes nothing.
+use Rattle.std.specs.Prelude.{Err, None, Ok, Option, Some, unwrap_or}
 use Prim.Native.Nat.{ℕ, ◌+◌, ◌<◌, ◌≤◌, ◌^◌}
 use native.Mathlib.Omega.{arith}
 use mathlib.Core.Bool.{Bool, true, false, ◌&&◌, ◌||◌}
 use mathlib.Core.List.{List, [], ◌++◌, append_assoc, append-nil}
-use mathlib.Core.Option.{Option, none, some, get_or}
 use mathlib.Core.Path.{◌≡◌, refl, sym, ap, ◌∙◌}
 use borrow.Author.Tests.{ne_eqb, lt-ltb, le-ltb, leb-true}
 use lib.Dec.{leb, ltb, eqb}
@@ -14,7 +14,7 @@ use Rattle.text.specs.Text.{in_range}
 use Rattle.text.specs.Scan.{after}
 use Rattle.text.proofs.BasicLaws.{and_true}
 use Rattle.section.specs.declared.Fault.TheVariants as F
-use Rattle.section.specs.Refusal.{Outcome, refused, answered, placeless, fitting}
+use Rattle.section.specs.Refusal.{Outcome, placeless, fitting}
 use Rattle.section.proofs.PartLaws.{part_in}
 use Rattle.address.specs.declared.Addr.{Addr}
 use Rattle.address.specs.declared.Addr.TheVariants as A
@@ -51,11 +51,11 @@ some_given : {X : Type 0} (b : Bool) (x : X) → b ≡ is_some (given b x)
 some_given true x = refl
 some_given false x = refl
 
-some_two : {X : Type 0} (a b : Bool) (x y : X) → (a || b) ≡ is_some (when a then some x else given b y)
+some_two : {X : Type 0} (a b : Bool) (x y : X) → (a || b) ≡ is_some (when a then Some x else given b y)
 some_two true b x y = refl
 some_two false b x y = some_given b y
 
-some_three : {X : Type 0} (a b c : Bool) (x y z : X) → ((a || b) || c) ≡ is_some (when a then some x else when b then some y else given c z)
+some_three : {X : Type 0} (a b c : Bool) (x y z : X) → ((a || b) || c) ≡ is_some (when a then Some x else when b then Some y else given c z)
 some_three true b c x y z = refl
 some_three false b c x y z = some_two b c y z
 
@@ -86,7 +86,7 @@ module _ (kind high low : ℕ) where
 
 -- ## What it stands for
 
-first_else : {X : Type 0} (b : Bool) (x : X) → x ≡ get_or (when b then some x else none) x
+first_else : {X : Type 0} (b : Bool) (x : X) → x ≡ unwrap_or (when b then Some x else None) x
 first_else true x = refl
 first_else false x = refl
 
@@ -196,17 +196,17 @@ module _ (d o s1 s2 s3 s4 : List ℕ) (w : o ≡ after (((s1 ++ s2) ++ s3) ++ s4
             (omega (arith, length-append s1 s2, length-append (s1 ++ s2) s3)) refl,
       )
 
-unfit_refused : (o : List ℕ) → fitting well_formed (some (request_at o unfit)) answered ≡ refused (placeless F.BadRequest)
+unfit_refused : (o : List ℕ) → fitting well_formed (Some (request_at o unfit)) Ok ≡ Err (placeless F.BadRequest)
 unfolding well_formed
 unfit_refused o = refl
 
 -- ## The request
 
 abbrev endpoint_by : Option Name → Option Addr → List ℕ → Option Endpoint
-endpoint_by n a name = n >>= λ x. a >>= λ y. some (endpoint (record { name = x; addr = y }) (known_name x name))
+endpoint_by n a name = n >>= λ x. a >>= λ y. Some (endpoint (record { name = x; addr = y }) (known_name x name))
 
 abbrev endpoint_taken : Option Name → Option Addr → List ℕ → Endpoint
-endpoint_taken n a name = endpoint (record { name = get_or n N.Unknown; addr = get_or a A.Unknown }) (known_name (get_or n N.Unknown) name)
+endpoint_taken n a name = endpoint (record { name = unwrap_or n N.Unknown; addr = unwrap_or a A.Unknown }) (known_name (unwrap_or n N.Unknown) name)
 
 -- what was taken for the numbers makes the request, where every number is of its kinds
 module _ (d cn sn un : List ℕ) (client server : HostNumbers) (user : ℕ) where
@@ -218,22 +218,22 @@ module _ (d cn sn un : List ℕ) (client server : HostNumbers) (user : ℕ) wher
       (name_state server.state) (address_of server.kind server.high server.low) (user_state user)
     where
       by : (n : Option Name) (a : Option Addr) (m : Option Name) (b : Option Addr) (u : Option User)
-          → (endpoint_by n a cn >>= λ c. endpoint_by m b sn >>= λ s. u >>= λ x. some (request_of d c s x (known_user x un)))
+          → (endpoint_by n a cn >>= λ c. endpoint_by m b sn >>= λ s. u >>= λ x. Some (request_of d c s x (known_user x un)))
           ≡ given ((is_some n && is_some a) && (is_some m && is_some b) && is_some u)
-          (request_of d (endpoint_taken n a cn) (endpoint_taken m b sn) (get_or u U.Unknown) (known_user (get_or u U.Unknown) un))
-      by none a m b u = refl
-      by (some x) none m b u = refl
-      by (some x) (some y) none b u = refl
-      by (some x) (some y) (some z) none u = refl
-      by (some x) (some y) (some z) (some w) none = refl
-      by (some x) (some y) (some z) (some w) (some v) = refl
+          (request_of d (endpoint_taken n a cn) (endpoint_taken m b sn) (unwrap_or u U.Unknown) (known_user (unwrap_or u U.Unknown) un))
+      by None a m b u = refl
+      by (Some x) None m b u = refl
+      by (Some x) (Some y) None b u = refl
+      by (Some x) (Some y) (Some z) None u = refl
+      by (Some x) (Some y) (Some z) (Some w) None = refl
+      by (Some x) (Some y) (Some z) (Some w) (Some v) = refl
 
   pub read_gathered : (x : States) → x ≡ states_of client server user → (o : List ℕ) (q : Places)
-      → fitting well_formed (some (request_at o q)) answered ≡ fitting well_formed (given x.fit (with_names x d cn sn un)) answered
-      → fitting well_formed (some (request_at o q)) answered ≡ fitting well_formed (request (request_numbers d client cn server sn user un)) answered
+      → fitting well_formed (Some (request_at o q)) Ok ≡ fitting well_formed (given x.fit (with_names x d cn sn un)) Ok
+      → fitting well_formed (Some (request_at o q)) Ok ≡ fitting well_formed (request (request_numbers d client cn server sn user un)) Ok
   read_gathered x is_x o q e =
-      e ∙ ap (λ (y : States). fitting well_formed (given y.fit (with_names y d cn sn un)) answered) is_x
-      ∙ ap (λ (r : Option Request). fitting well_formed r answered) (sym request_taken)
+      e ∙ ap (λ (y : States). fitting well_formed (given y.fit (with_names y d cn sn un)) Ok) is_x
+      ∙ ap (λ (r : Option Request). fitting well_formed r Ok) (sym request_taken)
 
 -- a name that is known is within its size, and one that is not is left out
 name_length : (n : Name) (a : Addr) (t name : List ℕ) → t ≡ known_name n name
@@ -282,20 +282,20 @@ module _ (x : States) (d cn sn un c s u : List ℕ) (is_c : c ≡ known_name x.c
 
     pub gathered_fits : (names o : List ℕ) → o ≡ after (((d ++ c) ++ s) ++ u) names → (q : Places)
         → q ≡ placed (length d) x.client (length c) x.server (length s) x.user (length u)
-        → fitting well_formed (some (request_at o q)) answered ≡ fitting well_formed (given x.fit (with_names x d cn sn un)) answered
+        → fitting well_formed (Some (request_at o q)) Ok ≡ fitting well_formed (given x.fit (with_names x d cn sn un)) Ok
     gathered_fits names o is-o q is-q =
-        ap (λ (r : Request). fitting well_formed (some r) answered)
+        ap (λ (r : Request). fitting well_formed (Some r) Ok)
         (ap (request_at o) is-q ∙ four_placed names o d c s u is-o x.client x.server x.user ∙ names_are)
-        ∙ ap (λ (y : Bool). fitting well_formed (given y (with_names x d cn sn un)) answered) (sym fit)
+        ∙ ap (λ (y : Bool). fitting well_formed (given y (with_names x d cn sn un)) Ok) (sym fit)
 
   pub gathered_unfit : (x.fit && b) ≡ false → (o : List ℕ) (q : Places) → q ≡ unfit
-      → fitting well_formed (some (request_at o q)) answered ≡ fitting well_formed (given x.fit (with_names x d cn sn un)) answered
+      → fitting well_formed (Some (request_at o q)) Ok ≡ fitting well_formed (given x.fit (with_names x d cn sn un)) Ok
   gathered_unfit e o q is-q =
-      ap (λ (p : Places). fitting well_formed (some (request_at o p)) answered) is-q ∙ unfit_refused o
+      ap (λ (p : Places). fitting well_formed (Some (request_at o p)) Ok) is-q ∙ unfit_refused o
       ∙ by x.fit b is_b e
     where
       by : (y z : Bool) → z ≡ well_formed (request_of d (endpoint x.client c) (endpoint x.server s) x.user u) → (y && z) ≡ false
-          → refused (placeless F.BadRequest) ≡ fitting well_formed (given y (with_names x d cn sn un)) answered
+          → Err (placeless F.BadRequest) ≡ fitting well_formed (given y (with_names x d cn sn un)) Ok
       by false z is-z k = refl
       by true z is-z k = rw (← names_are, ← is-z, k)
 
@@ -303,71 +303,71 @@ module _ (x : States) (d cn sn un c s u : List ℕ) (is_c : c ≡ known_name x.c
 
 module _ (port kind high low uid p : ℕ) (is-p : p ≡ port_by port) {B : Type 0} (f : Byuid.FileBind → Outcome B) where
   pub byuid_read : (m : Mark) (a : Addr) → a ≡ address_by port kind high low
-      → fitting address_known (some (Byuid.file_bind m (Byuid.bind p a uid))) f ≡ fitting address_known (Byuid.from_file m (byuid_bind port kind high low uid)) f
+      → fitting address_known (Some (Byuid.file_bind m (Byuid.bind p a uid))) f ≡ fitting address_known (Byuid.from_file m (byuid_bind port kind high low uid)) f
   unfolding port_by address_by byuid_bind
   byuid_read m a is-a = rw (is-p, is-a) (by (is_port port) (address_of kind high low))
     where
       by : (b : Bool) (o : Option Addr)
-          → fitting address_known (some (Byuid.file_bind m (Byuid.bind (when b then port else 0) (when b then get_or o A.Unknown else A.Unknown) uid))) f
+          → fitting address_known (Some (Byuid.file_bind m (Byuid.bind (when b then port else 0) (when b then unwrap_or o A.Unknown else A.Unknown) uid))) f
           ≡ fitting address_known (Byuid.from_file m (o >>= λ x. given b (Byuid.bind port x uid))) f
-      by true none = refl
-      by true (some x) = refl
-      by false none = refl
-      by false (some x) = refl
+      by true None = refl
+      by true (Some x) = refl
+      by false None = refl
+      by false (Some x) = refl
 
   -- an unknown address, taken for a mark outside its kinds, is refused as the mark is
   pub byuid_file_read : (mark : ℕ) (m : Mark) → m ≡ mark_by mark → (a : Addr) → a ≡ address_from mark port kind high low
-      → fitting address_known (some (Byuid.file_bind m (Byuid.bind p a uid))) f ≡ fitting address_known (byuid_file_bind mark port kind high low uid) f
+      → fitting address_known (Some (Byuid.file_bind m (Byuid.bind p a uid))) f ≡ fitting address_known (byuid_file_bind mark port kind high low uid) f
   unfolding address_from byuid_file_bind
   byuid_file_read mark m is_m a is-a = rw (is_m, is-a) (by (mark_of mark))
     where
       by : (o : Option Mark)
           → fitting address_known
-          (some (Byuid.file_bind (get_or o Plain) (Byuid.bind p (when is_some o then address_by port kind high low else A.Unknown) uid))) f
+          (Some (Byuid.file_bind (unwrap_or o Plain) (Byuid.bind p (when is_some o then address_by port kind high low else A.Unknown) uid))) f
           ≡ fitting address_known (o >>= λ x. Byuid.from_file x (byuid_bind port kind high low uid)) f
-      by none = refl
-      by (some x) = byuid_read x (address_by port kind high low) refl
+      by None = refl
+      by (Some x) = byuid_read x (address_by port kind high low) refl
 
 -- the same with the answers of access tests
-no_bind : (room : ℕ) → next_step none room ≡ refused (placeless F.BadRequest)
+no_bind : (room : ℕ) → next_step None room ≡ Err (placeless F.BadRequest)
 unfolding next_step
 no_bind room = refl
 
 module _ (port kind high low uid p : ℕ) (is-p : p ≡ port_by port) (answers : List ℕ) (room : ℕ) where
-  unknown_refused : (q : ℕ) → next_step (asking answers (Byuid.bind q A.Unknown uid)) room ≡ refused (placeless F.BadRequest)
+  unknown_refused : (q : ℕ) → next_step (asking answers (Byuid.bind q A.Unknown uid)) room ≡ Err (placeless F.BadRequest)
   unfolding next_step
   unknown_refused q = by (each access_of answers)
     where
-      by : (o : Option (List Access)) → next_step (o >>= λ xs. some (asked (Byuid.bind q A.Unknown uid) xs)) room ≡ refused (placeless F.BadRequest)
-      by none = refl
-      by (some xs) = refl
+      by : (o : Option (List Access)) → next_step (o >>= λ xs. Some (asked (Byuid.bind q A.Unknown uid) xs)) room ≡ Err (placeless F.BadRequest)
+      by None = refl
+      by (Some xs) = refl
 
   pub authbind_read : (a : Addr) → a ≡ address_by port kind high low
       → next_step (asking answers (Byuid.bind p a uid)) room ≡ next_step (authbind_asked port kind high low uid answers) room
   unfolding port_by address_by byuid_bind authbind_asked
   authbind_read a is-a = rw (is-p, is-a) (by (is_port port) (address_of kind high low))
     where
-      refuses : next_step none room ≡ refused (placeless F.BadRequest)
+      refuses : next_step None room ≡ Err (placeless F.BadRequest)
       refuses = no_bind room
 
       by : (b : Bool) (o : Option Addr)
-          → next_step (asking answers (Byuid.bind (when b then port else 0) (when b then get_or o A.Unknown else A.Unknown) uid)) room
+          → next_step (asking answers (Byuid.bind (when b then port else 0) (when b then unwrap_or o A.Unknown else A.Unknown) uid)) room
           ≡ next_step ((o >>= λ x. given b (Byuid.bind port x uid)) >>= asking answers) room
-      by true none = unknown_refused port ∙ sym refuses
-      by true (some x) = refl
-      by false none = unknown_refused 0 ∙ sym refuses
-      by false (some x) = unknown_refused 0 ∙ sym refuses
+      by true None = unknown_refused port ∙ sym refuses
+      by true (Some x) = refl
+      by false None = unknown_refused 0 ∙ sym refuses
+      by false (Some x) = unknown_refused 0 ∙ sym refuses
 
 module _ (uid protocol port : ℕ) (groups groups' : List ℕ) (x : Target) (is_x : x ≡ target_of protocol port)
     (is-groups : groups' ≡ (when x.fit then groups else replicate 17 0)) where
   pub portacl_read : {B : Type 0} (f : Portacl.Bind → Outcome B)
-      → fitting groups_fit (some (Portacl.bind uid groups' x.protocol x.port)) f ≡ fitting groups_fit (portacl_bind uid groups protocol port) f
+      → fitting groups_fit (Some (Portacl.bind uid groups' x.protocol x.port)) f ≡ fitting groups_fit (portacl_bind uid groups protocol port) f
   unfolding port_by portacl_bind
   portacl_read f = rw (is-groups, is_x) (by (protocol_of protocol) (is_port port))
     where
       by : (o : Option Protocol) (b : Bool)
-          → fitting groups_fit (some (Portacl.bind uid (when is_some o && b then groups else replicate 17 0) (get_or o Tcp) (when b then port else 0))) f
+          → fitting groups_fit (Some (Portacl.bind uid (when is_some o && b then groups else replicate 17 0) (unwrap_or o Tcp) (when b then port else 0))) f
           ≡ fitting groups_fit (o >>= λ q. given b (Portacl.bind uid groups q port)) f
-      by none b = refl
-      by (some q) true = refl
-      by (some q) false = refl
+      by None b = refl
+      by (Some q) true = refl
+      by (Some q) false = refl

@@ -10,12 +10,11 @@
 --   address_answer                             == an address read
 -- Of a refusal all have number, section and line; all else is 0, and of an address its kind is one that no address has.
 -- Assumes nothing: these are definitions.
-use Rattle.std.specs.Prelude.{ℕ, List, length}
+use Rattle.std.specs.Prelude.{ℕ, List, length, Err, None, Ok, Option, Some}
 use Prim.Native.String.{String}
-use Rattle.std.proofs.Math.Option.{Option, none, some}
 use Rattle.text.specs.Text.{bytes}
 use Rattle.section.specs.declared.Refusal.{Refusal}
-use Rattle.section.specs.Refusal.{Outcome, refused, answered, ◌>>=◌, fault_number}
+use Rattle.section.specs.Refusal.{Outcome, ◌>>=◌, fault_number}
 use Rattle.address.specs.declared.Addr.{Addr}
 use Rattle.address.specs.declared.Addr.TheVariants as A
 use Rattle.rules.specs.declared.Answer.{Answer}
@@ -124,8 +123,8 @@ answer_numbers a n = record {
 
 -- "(0 at a refusal)"
 unfoldable pub verdict_answer : Outcome Answer → ℕ → GateAnswer
-verdict_answer (refused r) n = refusal_answer r
-verdict_answer (answered a) n = answer_numbers a n
+verdict_answer (Err r) n = refusal_answer r
+verdict_answer (Ok a) n = answer_numbers a n
 
 -- document 02, request 14: "When it says no, also give the one verdict, file and line that all names get"
 abbrev pub place_numbers : Place → GateAnswer
@@ -141,17 +140,17 @@ place_numbers p = record {
 }
 
 unfoldable pub matters_answer : Outcome (Option Place) → GateAnswer
-matters_answer (refused r) = refusal_answer r
-matters_answer (answered none) = word_answer name_matters.number
-matters_answer (answered (some p)) = place_numbers p
+matters_answer (Err r) = refusal_answer r
+matters_answer (Ok None) = word_answer name_matters.number
+matters_answer (Ok (Some p)) = place_numbers p
 
 unfoldable pub byuid_answer : Outcome ByuidDecision → GateAnswer
-byuid_answer (refused r) = refusal_answer r
-byuid_answer (answered d) = word_answer (byuid_word d).number
+byuid_answer (Err r) = refusal_answer r
+byuid_answer (Ok d) = word_answer (byuid_word d).number
 
 unfoldable pub portacl_answer : Outcome PortaclDecision → GateAnswer
-portacl_answer (refused r) = refusal_answer r
-portacl_answer (answered d) = word_answer (portacl_word d).number
+portacl_answer (Err r) = refusal_answer r
+portacl_answer (Ok d) = word_answer (portacl_word d).number
 
 -- ## Sheets
 
@@ -162,8 +161,8 @@ abbrev pub accepted : GateCheck
 accepted = record { number = 0; section = 0; line = 0 }
 
 unfoldable pub check_answer : Outcome Parts → GateCheck
-check_answer (refused r) = refused_check r
-check_answer (answered p) = accepted
+check_answer (Err r) = refused_check r
+check_answer (Ok p) = accepted
 
 abbrev pub refused_parts : Refusal → GateParts
 refused_parts r = record {
@@ -200,8 +199,8 @@ found_parts p = record {
 }
 
 unfoldable pub parts_answer : Outcome Parts → GateParts
-parts_answer (refused r) = refused_parts r
-parts_answer (answered p) = found_parts p
+parts_answer (Err r) = refused_parts r
+parts_answer (Ok p) = found_parts p
 
 -- ## Outputs and addresses
 
@@ -212,8 +211,8 @@ abbrev pub count_written : ℕ → GateWritten
 count_written n = record { number = 0; section = 0; line = 0; count = n }
 
 unfoldable pub written_answer : Outcome (List ℕ) → GateWritten
-written_answer (refused r) = refused_written r
-written_answer (answered t) = count_written (length t)
+written_answer (Err r) = refused_written r
+written_answer (Ok t) = count_written (length t)
 
 -- document 02, requests 9 and 13: two outputs
 abbrev pub refused_two : Refusal → GateWrittenTwo
@@ -223,8 +222,8 @@ abbrev pub count_two : ℕ → ℕ → GateWrittenTwo
 count_two n m = record { number = 0; section = 0; line = 0; count = n; other_count = m }
 
 unfoldable pub written_two_answer : Outcome (List ℕ × List ℕ) → GateWrittenTwo
-written_two_answer (refused r) = refused_two r
-written_two_answer (answered p) = count_two (length p.0) (length p.1)
+written_two_answer (Err r) = refused_two r
+written_two_answer (Ok p) = count_two (length p.0) (length p.1)
 
 -- a verdict, and the command of the rule that decided, expanded
 pub record Command : Type 0 where
@@ -239,7 +238,7 @@ abbrev pub together : Outcome Answer → (Answer → Outcome (List ℕ)) → Out
 together verdict f = do
   a ← verdict
   t ← f a
-  answered (command a t)
+  Ok (command a t)
 
 abbrev pub with_count : GateAnswer → ℕ → GateCommand
 with_count a n = record {
@@ -256,8 +255,8 @@ with_count a n = record {
 
 -- n: how many elements were looked at for the verdict
 unfoldable pub command_answer : Outcome Command → ℕ → GateCommand
-command_answer (refused r) n = with_count (refusal_answer r) 0
-command_answer (answered c) n = with_count (answer_numbers c.answer n) (length c.text)
+command_answer (Err r) n = with_count (refusal_answer r) 0
+command_answer (Ok c) n = with_count (answer_numbers c.answer n) (length c.text)
 
 abbrev pub refused_next : Refusal → GateNext
 refused_next r = record { number = fault_number r.fault; section = r.section; line = r.line; word = 0; count = 0 }
@@ -267,8 +266,8 @@ next_with w n = record { number = 0; section = 0; line = 0; word = w; count = n 
 
 -- the word, and how many bytes of a name were written
 unfoldable pub next_answer : Outcome Authbind.Step → GateNext
-next_answer (refused r) = refused_next r
-next_answer (answered s) = next_with (step_word s).number (length (Authbind.name_of s))
+next_answer (Err r) = refused_next r
+next_answer (Ok s) = next_with (step_word s).number (length (Authbind.name_of s))
 
 -- no address has this kind, so a refused answer can't be handed on as one
 abbrev pub no_address : ℕ
@@ -286,5 +285,5 @@ address_numbers (A.V4 n) = address_with 4 0 n
 address_numbers (A.V6 high low) = address_with 6 high low
 
 unfoldable pub address_answer : Outcome Addr → GateAddress
-address_answer (refused r) = refused_address r
-address_answer (answered a) = address_numbers a
+address_answer (Err r) = refused_address r
+address_answer (Ok a) = address_numbers a

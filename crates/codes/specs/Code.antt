@@ -6,8 +6,7 @@
 --   placed .., unfit   == the places of four names one after the other; a request that is refused by 13
 --   port_by, address_by, address_from, bind_by == a bind with what is taken for its numbers, and one that is refused by 13
 -- Assumes nothing: these are definitions.
-use Rattle.std.specs.Prelude.{ℕ, ◌+◌, Bool, ◌&&◌, List, [], replicate}
-use Rattle.std.proofs.Math.Option.{get_or}
+use Rattle.std.specs.Prelude.{ℕ, ◌+◌, Bool, ◌&&◌, List, [], replicate, Err, None, Ok, Option, Result, Some, unwrap_or}
 use Rattle.text.specs.Basics.{when◌then◌else◌, is_some}
 use Rattle.section.specs.Section.{part}
 use Rattle.address.specs.declared.Addr.{Addr}
@@ -24,28 +23,12 @@ use Rattle.portacl.specs.declared.Protocol.{Protocol}
 use Rattle.portacl.specs.declared.Protocol.TheVariants.{Tcp}
 use Rattle.portacl.specs.Portacl.{Bind, bind}
 use Rattle.codes.specs.declared.request.HostNumbers.{HostNumbers}
-use Rattle.section.specs.declared.Written.{Written}
-use Rattle.section.specs.declared.Written.TheVariants as W
-use Rattle.address.specs.declared.read.AddressRead.{AddressRead}
-use Rattle.address.specs.declared.read.AddressRead.TheVariants as R
 use Rattle.byuid.specs.declared.Mark.{Mark}
 use Rattle.byuid.specs.declared.Mark.TheVariants.{Plain}
-use Rattle.byuid.specs.declared.Ruling.{Ruling as ByuidRuling}
-use Rattle.byuid.specs.declared.Ruling.TheVariants as B
-use Rattle.portacl.specs.declared.Ruling.{Ruling as PortaclRuling}
-use Rattle.portacl.specs.declared.Ruling.TheVariants as P
-use Rattle.section.specs.declared.WrittenTwo.{WrittenTwo}
-use Rattle.section.specs.declared.WrittenTwo.TheVariants as Two
 use Rattle.authbind.specs.declared.Next.{Next}
 use Rattle.authbind.specs.declared.Next.TheVariants as Step
 use Rattle.rules.specs.declared.Answer.{Answer}
 use Rattle.rules.specs.declared.Reported.{Reported}
-use Rattle.rules.specs.declared.Ruling.{Ruling as VerdictRuling}
-use Rattle.rules.specs.declared.Ruling.TheVariants as Ver
-use Rattle.matters.specs.declared.Matter.{Matter}
-use Rattle.matters.specs.declared.Matter.TheVariants as Mat
-use Rattle.sheet.specs.declared.unpack.Unpacked.{Unpacked}
-use Rattle.sheet.specs.declared.unpack.Unpacked.TheVariants as Un
 use Rattle.codes.specs.declared.GateAnswer.{GateAnswer}
 use Rattle.codes.specs.declared.GateCheck.{GateCheck}
 use Rattle.codes.specs.declared.GateCommand.{GateCommand}
@@ -63,13 +46,13 @@ use Rattle.codes.specs.Requests.{name_state, user_state, address_of, protocol_of
 -- ## Requests
 
 abbrev pub name_by : ℕ → Name
-name_by n = get_or (name_state n) N.Unknown
+name_by n = unwrap_or (name_state n) N.Unknown
 
 abbrev pub user_by : ℕ → User
-user_by n = get_or (user_state n) U.Unknown
+user_by n = unwrap_or (user_state n) U.Unknown
 
 abbrev pub addr_by : ℕ → ℕ → ℕ → Addr
-addr_by kind high low = get_or (address_of kind high low) A.Unknown
+addr_by kind high low = unwrap_or (address_of kind high low) A.Unknown
 
 abbrev pub host_fits : HostNumbers → Bool
 host_fits h = is_some (name_state h.state) && is_some (address_of h.kind h.high h.low)
@@ -112,10 +95,10 @@ unfit = placed 0 nobody 0 nobody 0 U.Unknown 0
 -- ## Binds
 
 abbrev pub protocol_by : ℕ → Protocol
-protocol_by n = get_or (protocol_of n) Tcp
+protocol_by n = unwrap_or (protocol_of n) Tcp
 
 abbrev pub mark_by : ℕ → Mark
-mark_by n = get_or (mark_of n) Plain
+mark_by n = unwrap_or (mark_of n) Plain
 
 unfoldable pub port_by : ℕ → ℕ
 port_by port = when is_port port then port else 0
@@ -137,45 +120,45 @@ bind_by x uid groups = bind uid (when x.fit then groups else replicate 17 0) x.p
 
 -- ## Answers
 
-unfoldable pub byuid_numbers : ByuidRuling → GateAnswer
-byuid_numbers (B.Refused r) = refusal_answer r
-byuid_numbers (B.Answered d) = word_answer (byuid_word d).number
+unfoldable pub byuid_numbers : Result Decision Refusal → GateAnswer
+byuid_numbers (Err r) = refusal_answer r
+byuid_numbers (Ok d) = word_answer (byuid_word d).number
 
-unfoldable pub portacl_numbers : PortaclRuling → GateAnswer
-portacl_numbers (P.Refused r) = refusal_answer r
-portacl_numbers (P.Answered d) = word_answer (portacl_word d).number
+unfoldable pub portacl_numbers : Result Decision Refusal → GateAnswer
+portacl_numbers (Err r) = refusal_answer r
+portacl_numbers (Ok d) = word_answer (portacl_word d).number
 
-abbrev pub ruling_numbers : VerdictRuling → ℕ → GateAnswer
-ruling_numbers (Ver.Refused r) n = refusal_answer r
-ruling_numbers (Ver.Answered a) n = answer_numbers a n
+abbrev pub ruling_numbers : Result Answer Refusal → ℕ → GateAnswer
+ruling_numbers (Err r) n = refusal_answer r
+ruling_numbers (Ok a) n = answer_numbers a n
 
 unfoldable pub verdict_numbers : Reported → GateAnswer
 verdict_numbers x = ruling_numbers x.ruling x.looked
 
-unfoldable pub matter_numbers : Matter → GateAnswer
-matter_numbers (Mat.Refused r) = refusal_answer r
-matter_numbers Mat.Matters = word_answer name_matters.number
-matter_numbers (Mat.Settled p) = place_numbers p
+unfoldable pub matter_numbers : Result (Option Place) Refusal → GateAnswer
+matter_numbers (Err r) = refusal_answer r
+matter_numbers (Ok None) = word_answer name_matters.number
+matter_numbers (Ok (Some p)) = place_numbers p
 
-unfoldable pub check_numbers : Unpacked → GateCheck
-check_numbers (Un.Refused r) = refused_check r
-check_numbers (Un.Parts p) = accepted
+unfoldable pub check_numbers : Result Parts Refusal → GateCheck
+check_numbers (Err r) = refused_check r
+check_numbers (Ok p) = accepted
 
-unfoldable pub parts_numbers : Unpacked → GateParts
-parts_numbers (Un.Refused r) = refused_parts r
-parts_numbers (Un.Parts p) = found_parts p
+unfoldable pub parts_numbers : Result Parts Refusal → GateParts
+parts_numbers (Err r) = refused_parts r
+parts_numbers (Ok p) = found_parts p
 
-unfoldable pub written_numbers : Written → GateWritten
-written_numbers (W.Refused r) = refused_written r
-written_numbers (W.Count n) = count_written n
+unfoldable pub written_numbers : Result ℕ Refusal → GateWritten
+written_numbers (Err r) = refused_written r
+written_numbers (Ok n) = count_written n
 
-unfoldable pub command_written : Answer → ℕ → Written → GateCommand
-command_written a k (W.Refused r) = with_count (refusal_answer r) 0
-command_written a k (W.Count n) = with_count (answer_numbers a k) n
+unfoldable pub command_written : Answer → ℕ → Result ℕ Refusal → GateCommand
+command_written a k (Err r) = with_count (refusal_answer r) 0
+command_written a k (Ok n) = with_count (answer_numbers a k) n
 
-unfoldable pub written_two_numbers : WrittenTwo → GateWrittenTwo
-written_two_numbers (Two.Refused r) = refused_two r
-written_two_numbers (Two.Counts n m) = count_two n m
+unfoldable pub written_two_numbers : Result (ℕ × ℕ) Refusal → GateWrittenTwo
+written_two_numbers (Err r) = refused_two r
+written_two_numbers (Ok (n, m)) = count_two n m
 
 unfoldable pub next_numbers : Next → GateNext
 next_numbers (Step.Refused r) = refused_next r
@@ -185,6 +168,6 @@ next_numbers Step.NotRuled = next_with not_ruled.number 0
 next_numbers (Step.Test n) = next_with test.number n
 next_numbers (Step.Read n) = next_with read.number n
 
-unfoldable pub read_numbers : AddressRead → GateAddress
-read_numbers (R.Refused r) = refused_address r
-read_numbers (R.Address a) = address_numbers a
+unfoldable pub read_numbers : Result Addr Refusal → GateAddress
+read_numbers (Err r) = refused_address r
+read_numbers (Ok a) = address_numbers a

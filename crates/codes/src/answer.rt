@@ -1,11 +1,7 @@
 // What a call answers, as numbers.
 ghost use Rattle.std.specs.Prelude.{◌≡◌};
 ghost use Rattle.rules.specs.Search.{file_section};
-ghost use Rattle.section.specs.declared.Written.TheVariants as W;
-ghost use Rattle.address.specs.declared.read.AddressRead.TheVariants as R;
-ghost use Rattle.sheet.specs.declared.unpack.Unpacked.TheVariants as Un;
 ghost use Rattle.authbind.specs.declared.Next.TheVariants as N;
-ghost use Rattle.section.specs.declared.WrittenTwo.TheVariants as Two;
 ghost use Rattle.codes.specs.Answers.{place_numbers, verdict_word, byuid_word, portacl_word, refusal_answer, word_answer, answer_numbers, found_parts};
 ghost use Rattle.codes.specs.Answers.{with_count, next_with, address_with, address_numbers};
 ghost use Rattle.codes.specs.Code.{matter_numbers, byuid_numbers, portacl_numbers, verdict_numbers, check_numbers, parts_numbers, written_numbers};
@@ -16,12 +12,10 @@ use crate::{
     GateWrittenTwo,
 };
 use address::Addr;
-use address::read::AddressRead;
 use authbind::Next;
-use matters::{Matter, Place};
-use section::{Refusal, Written, WrittenTwo};
+use matters::Place;
+use section::Refusal;
 use sheet::Parts;
-use sheet::unpack::Unpacked;
 
 // The kind of an address that was not read: no address has it.
 pub const NO_ADDRESS: u32 = 255;
@@ -79,22 +73,22 @@ fn portacl_code(d: portacl::Decision) -> u32
 }
 
 // A byuid decision as numbers.
-pub fn byuid_numbers(r: byuid::Ruling) -> GateAnswer
+pub fn byuid_numbers(r: Result<byuid::Decision, Refusal>) -> GateAnswer
     ensures { result ≡ byuid_numbers r }
 {
     match r {
-        byuid::Ruling::Refused(refusal) => refused(refusal),
-        byuid::Ruling::Answered(d) => word(byuid_code(d)),
+        Err(refusal) => refused(refusal),
+        Ok(d) => word(byuid_code(d)),
     }
 }
 
 // A portacl decision as numbers.
-pub fn portacl_numbers(r: portacl::Ruling) -> GateAnswer
+pub fn portacl_numbers(r: Result<portacl::Decision, Refusal>) -> GateAnswer
     ensures { result ≡ portacl_numbers r }
 {
     match r {
-        portacl::Ruling::Refused(refusal) => refused(refusal),
-        portacl::Ruling::Answered(d) => word(portacl_code(d)),
+        Err(refusal) => refused(refusal),
+        Ok(d) => word(portacl_code(d)),
     }
 }
 
@@ -142,8 +136,8 @@ pub fn verdict_numbers(r: rules::Reported) -> GateAnswer
 {
     let ruling = r.ruling;
     match ruling {
-        rules::Ruling::Refused(refusal) => refused(refusal),
-        rules::Ruling::Answered(answer) => verdict_word(answer, r.looked),
+        Err(refusal) => refused(refusal),
+        Ok(answer) => verdict_word(answer, r.looked),
     }
 }
 
@@ -165,18 +159,18 @@ fn place_word(p: Place) -> GateAnswer
 }
 
 // Whether the name matters, as numbers.
-pub fn matter_numbers(m: Matter) -> GateAnswer
+pub fn matter_numbers(m: Result<Option<Place>, Refusal>) -> GateAnswer
     ensures { result ≡ matter_numbers m }
 {
     match m {
-        Matter::Refused(refusal) => refused(refusal),
-        Matter::Matters => word(9),
-        Matter::Settled(place) => place_word(place),
+        Err(refusal) => refused(refusal),
+        Ok(None) => word(9),
+        Ok(Some(place)) => place_word(place),
     }
 }
 
 fn not_accepted(r: Refusal) -> GateCheck
-    ensures { result ≡ check_numbers (Un.Refused r) }
+    ensures { result ≡ check_numbers (Err r) }
 {
     let fault = r.fault;
     GateCheck {
@@ -187,12 +181,12 @@ fn not_accepted(r: Refusal) -> GateCheck
 }
 
 // Whether a sheet is accepted, as numbers.
-pub fn check_numbers(u: Unpacked) -> GateCheck
+pub fn check_numbers(u: Result<Parts, Refusal>) -> GateCheck
     ensures { result ≡ check_numbers u }
 {
     match u {
-        Unpacked::Refused(refusal) => not_accepted(refusal),
-        Unpacked::Parts(_) => GateCheck {
+        Err(refusal) => not_accepted(refusal),
+        Ok(_) => GateCheck {
             number: 0,
             section: 0,
             line: 0,
@@ -201,7 +195,7 @@ pub fn check_numbers(u: Unpacked) -> GateCheck
 }
 
 fn not_unpacked(r: Refusal) -> GateParts
-    ensures { result ≡ parts_numbers (Un.Refused r) }
+    ensures { result ≡ parts_numbers (Err r) }
 {
     let fault = r.fault;
     GateParts {
@@ -247,17 +241,17 @@ fn found_parts(p: Parts) -> GateParts
 }
 
 // The place and length of each text of a sheet, as numbers.
-pub fn parts_numbers(u: Unpacked) -> GateParts
+pub fn parts_numbers(u: Result<Parts, Refusal>) -> GateParts
     ensures { result ≡ parts_numbers u }
 {
     match u {
-        Unpacked::Refused(refusal) => not_unpacked(refusal),
-        Unpacked::Parts(parts) => found_parts(parts),
+        Err(refusal) => not_unpacked(refusal),
+        Ok(parts) => found_parts(parts),
     }
 }
 
 fn not_written(r: Refusal) -> GateWritten
-    ensures { result ≡ written_numbers (W.Refused r) }
+    ensures { result ≡ written_numbers (Err r) }
 {
     let fault = r.fault;
     GateWritten {
@@ -269,12 +263,12 @@ fn not_written(r: Refusal) -> GateWritten
 }
 
 // What a call that writes answers, as numbers.
-pub fn written_numbers(w: Written) -> GateWritten
+pub fn written_numbers(w: Result<usize, Refusal>) -> GateWritten
     ensures { result ≡ written_numbers w }
 {
     match w {
-        Written::Refused(refusal) => not_written(refusal),
-        Written::Count(n) => GateWritten {
+        Err(refusal) => not_written(refusal),
+        Ok(n) => GateWritten {
             number: 0,
             section: 0,
             line: 0,
@@ -284,7 +278,7 @@ pub fn written_numbers(w: Written) -> GateWritten
 }
 
 fn not_written_two(r: Refusal) -> GateWrittenTwo
-    ensures { result ≡ written_two_numbers (Two.Refused r) }
+    ensures { result ≡ written_two_numbers (Err r) }
 {
     let fault = r.fault;
     GateWrittenTwo {
@@ -297,12 +291,12 @@ fn not_written_two(r: Refusal) -> GateWrittenTwo
 }
 
 // What a call that writes into two outputs answers, as numbers.
-pub fn written_two_numbers(w: WrittenTwo) -> GateWrittenTwo
+pub fn written_two_numbers(w: Result<(usize, usize), Refusal>) -> GateWrittenTwo
     ensures { result ≡ written_two_numbers w }
 {
     match w {
-        WrittenTwo::Refused(refusal) => not_written_two(refusal),
-        WrittenTwo::Counts(first, second) => GateWrittenTwo {
+        Err(refusal) => not_written_two(refusal),
+        Ok((first, second)) => GateWrittenTwo {
             number: 0,
             section: 0,
             line: 0,
@@ -337,12 +331,12 @@ pub fn no_command(r: Refusal) -> GateCommand
 }
 
 // A verdict as numbers, where its command was written; else the refusal to write it.
-pub fn command_numbers(a: rules::Answer, looked: u64, w: Written) -> GateCommand
+pub fn command_numbers(a: rules::Answer, looked: u64, w: Result<usize, Refusal>) -> GateCommand
     ensures { result ≡ command_written a looked w }
 {
     match w {
-        Written::Refused(refusal) => no_command(refusal),
-        Written::Count(n) => with_count(verdict_word(a, looked), n),
+        Err(refusal) => no_command(refusal),
+        Ok(n) => with_count(verdict_word(a, looked), n),
     }
 }
 
@@ -386,7 +380,7 @@ pub fn next_numbers(x: Next) -> GateNext
 }
 
 fn not_read(r: Refusal) -> GateAddress
-    ensures { result ≡ read_numbers (R.Refused r) }
+    ensures { result ≡ read_numbers (Err r) }
 {
     let fault = r.fault;
     GateAddress {
@@ -423,11 +417,11 @@ fn address_numbers(a: Addr) -> GateAddress
 }
 
 // An address read, as numbers.
-pub fn read_numbers(r: AddressRead) -> GateAddress
+pub fn read_numbers(r: Result<Addr, Refusal>) -> GateAddress
     ensures { result ≡ read_numbers r }
 {
     match r {
-        AddressRead::Refused(refusal) => not_read(refusal),
-        AddressRead::Address(addr) => address_numbers(addr),
+        Err(refusal) => not_read(refusal),
+        Ok(addr) => address_numbers(addr),
     }
 }

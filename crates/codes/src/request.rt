@@ -1,9 +1,8 @@
 // What the numbers of a request stand for; a number outside its kinds stands for what is refused by 13.
 ghost use Rattle.std.specs.Prelude.{◌≡◌, ◌++◌, ◌≤◌, ◌+◌, length};
-ghost use Rattle.std.proofs.Math.Option.{some};
 ghost use Rattle.text.specs.Basics.{when◌then◌else◌, given, is_some};
 ghost use Rattle.text.specs.Scan.{after};
-ghost use Rattle.section.specs.Refusal.{answered, fitting};
+ghost use Rattle.section.specs.Refusal.{fitting};
 ghost use Rattle.elements.specs.Request.{well_formed};
 ghost use Rattle.elements.specs.Places.{request_at};
 ghost use Rattle.codes.specs.Requests.{name_state, user_state, address_of, protocol_of, mark_of, host_numbers, request_numbers, request, known_name, known_user};
@@ -235,10 +234,10 @@ fn gather(
     user_name: &[u8],
 ) -> Request
     requires { 638 ≤ length names.old }
-    ensures { fitting well_formed (some (request_at names.new result)) answered
+    ensures { fitting well_formed (Some (request_at names.new result)) Ok
         ≡ fitting well_formed
         (given states.fit
-        (with_names states daemon.now client_name.now server_name.now user_name.now)) answered }
+        (with_names states daemon.now client_name.now server_name.now user_name.now)) Ok }
 {
     let client = states.client;
     let server = states.server;
@@ -279,11 +278,11 @@ pub fn read(
     user_name: &[u8],
 ) -> Request
     requires { 638 ≤ length names.old }
-    ensures { fitting well_formed (some (request_at names.new result)) answered
+    ensures { fitting well_formed (Some (request_at names.new result)) Ok
         ≡ fitting well_formed
         (request
         (request_numbers daemon.now (host_numbers client_state client_kind client_high client_low) client_name.now
-        (host_numbers server_state server_kind server_high server_low) server_name.now user user_name.now)) answered }
+        (host_numbers server_state server_kind server_high server_low) server_name.now user user_name.now)) Ok }
 {
     let client = HostNumbers {
         state: client_state,

@@ -2,10 +2,10 @@
 --   daemon_element_case, client_element_case == equal but for case, an element finds the same, where the tables are blind to the case of a name
 --   match_of_case == tables are
 -- Assumes nothing.
+use Rattle.std.specs.Prelude.{None, Option, Some}
 use Prim.Native.Nat.{ℕ}
 use mathlib.Core.Bool.{Bool, true, false, not, ◌&&◌, ◌||◌, true≢false}
 use mathlib.Core.List.{List, [], ◌∷◌, map}
-use mathlib.Core.Option.{Option, none, some}
 use mathlib.Core.Path.{◌≡◌, refl, sym, ap, ap₂, ◌∙◌}
 use borrow.Author.Tests.{eqb-true}
 use lib.Dec.{eqb}
@@ -42,10 +42,10 @@ alike_halves (x ∷ xs) [] a = absurd a
 alike_halves (x ∷ xs) (y ∷ ys) a = by (split_once (bytes "@") xs) (split_once (bytes "@") ys) (alike_split_once (bytes "@") at_clear xs ys a.1)
   where
     by : (o u : Option (List ℕ × List ℕ)) → AlikePair o u → AlikePair (cons_first x o) (cons_first y u)
-    by none none h = tt
-    by none (some q) h = absurd h
-    by (some p) none h = absurd h
-    by (some p) (some q) h = ((a.0, h.0), h.1)
+    by None None h = tt
+    by None (Some q) h = absurd h
+    by (Some p) None h = absurd h
+    by (Some p) (Some q) h = ((a.0, h.0), h.1)
 
 -- ## Names and users
 
@@ -105,9 +105,9 @@ module _ (m : Matcher) (unseen : Unseen m) where
       tail = alike_drop 1 xs ys a
 
       by : (b c : Bool)
-          → (when b then ((when b then given c (drop 1 xs) else none) >>= λ n. some (m n)) else host_pattern ys)
-          ≡ (when b then ((when b then given c (drop 1 ys) else none) >>= λ n. some (m n)) else host_pattern ys)
-      by true true = ap some (unseen (drop 1 xs) (drop 1 ys) tail)
+          → (when b then ((when b then given c (drop 1 xs) else None) >>= λ n. Some (m n)) else host_pattern ys)
+          ≡ (when b then ((when b then given c (drop 1 ys) else None) >>= λ n. Some (m n)) else host_pattern ys)
+      by true true = ap Some (unseen (drop 1 xs) (drop 1 ys) tail)
       by true false = refl
       by false c = refl
 
@@ -115,17 +115,17 @@ module _ (m : Matcher) (unseen : Unseen m) where
 
   daemon_parts_lem : (xs ys : List ℕ) → Alike xs ys → (o u : Option (List ℕ × List ℕ)) → AlikePair o u → daemon_parts m xs o ≡ daemon_parts m ys u
   unfolding daemon_parts
-  daemon_parts_lem xs ys a none none h = rw (alike_daemon_name xs ys a)
-  daemon_parts_lem xs ys a none (some q) h = absurd h
-  daemon_parts_lem xs ys a (some p) none h = absurd h
-  daemon_parts_lem xs ys a (some p) (some q) h = rw (alike_daemon_name p.0 q.0 h.0, alike_pattern_with p.1 q.1 h.1)
+  daemon_parts_lem xs ys a None None h = rw (alike_daemon_name xs ys a)
+  daemon_parts_lem xs ys a None (Some q) h = absurd h
+  daemon_parts_lem xs ys a (Some p) None h = absurd h
+  daemon_parts_lem xs ys a (Some p) (Some q) h = rw (alike_daemon_name p.0 q.0 h.0, alike_pattern_with p.1 q.1 h.1)
 
   client_parts_lem : (xs ys : List ℕ) → Alike xs ys → (o u : Option (List ℕ × List ℕ)) → AlikePair o u → client_parts m xs o ≡ client_parts m ys u
   unfolding client_parts
-  client_parts_lem xs ys a none none h = rw (alike_pattern_with xs ys a)
-  client_parts_lem xs ys a none (some q) h = absurd h
-  client_parts_lem xs ys a (some p) none h = absurd h
-  client_parts_lem xs ys a (some p) (some q) h = rw (alike_user_half p.0 q.0 h.0, alike_pattern_with p.1 q.1 h.1)
+  client_parts_lem xs ys a None None h = rw (alike_pattern_with xs ys a)
+  client_parts_lem xs ys a None (Some q) h = absurd h
+  client_parts_lem xs ys a (Some p) None h = absurd h
+  client_parts_lem xs ys a (Some p) (Some q) h = rw (alike_user_half p.0 q.0 h.0, alike_pattern_with p.1 q.1 h.1)
 
   pub daemon_element_case : (x y : List ℕ) → equal_fold x y ≡ true → daemon_element m x ≡ daemon_element m y
   unfolding daemon_element

@@ -1,13 +1,12 @@
 -- Laws of the elements of daemon and client lists, as the code reads them; and what elements look at:
 -- `daemon_element_request`, `client_element_request`.
 -- Assumes nothing.
+use Rattle.std.specs.Prelude.{None, Option, Some, unwrap_or}
 use Prim.Native.Nat.{ℕ, suc, ◌+◌, ◌-◌, ◌<◌, ◌≤◌}
 use Prim.Native.String.{String}
 use mathlib.Core.Bool.{Bool, true, false, not, ◌&&◌, ◌||◌}
 use mathlib.Core.Bool as Bool
 use mathlib.Core.List.{List, [], ◌∷◌, map}
-use mathlib.Core.Option
-use mathlib.Core.Option.{Option, none, some}
 use mathlib.Core.Path.{◌≡◌, refl, sym, ap, ◌∙◌}
 use native.Mathlib.Numerals.{add-one}
 use native.Mathlib.Omega.{arith}
@@ -56,19 +55,19 @@ at_sign_cons (x ∷ t) h i q =
     (ap (λ (n : ℕ). n + 1) k, omega (arith, index_of_length 64 t))
 
 module _ (e : List ℕ) (at : ℕ) (is_at : at ≡ at_sign e) where
-  pub halves_none : at ≡ length e → halves e ≡ none
+  pub halves_none : at ≡ length e → halves e ≡ None
   unfolding at_sign halves
   halves_none h = by e (sym is_at ∙ h)
     where
-      by : (e : List ℕ) → at_sign e ≡ length e → halves e ≡ none
+      by : (e : List ℕ) → at_sign e ≡ length e → halves e ≡ None
       by [] h = refl
       by (x ∷ t) h = rw (split_once_no_mark 64 t (index_of 64 t) refl (omega arith))
 
-  pub halves_some : (at ≡ length e → ⊥) → halves e ≡ some (take at e, drop (at + 1) e)
+  pub halves_some : (at ≡ length e → ⊥) → halves e ≡ Some (take at e, drop (at + 1) e)
   unfolding at_sign halves
   halves_some h = rw is_at (by e (λ q. h (is_at ∙ q)))
     where
-      by : (e : List ℕ) → (at_sign e ≡ length e → ⊥) → halves e ≡ some (take (at_sign e) e, drop (at_sign e + 1) e)
+      by : (e : List ℕ) → (at_sign e ≡ length e → ⊥) → halves e ≡ Some (take (at_sign e) e, drop (at_sign e + 1) e)
       by [] n = absurd (n refl)
       by (x ∷ t) n = rw (split_once_mark 64 t (index_of 64 t) refl (omega (arith, index_of_length 64 t)), add-one (index_of 64 t), add-one (suc (index_of 64 t)))
 
@@ -145,28 +144,28 @@ module _ (k : ℕ) (tables notes e : List ℕ) (r : Reference) (is-r : r ≡ ele
   reference_naming = ap (λ (x : Reference). x.naming) is-r ∙ by (named_table e)
     where
       by : (o : Option (List ℕ)) → (reference_with k tables notes o).naming ≡ naming_with (naming_of tables notes) o
-      by none = refl
-      by (some n) = refl
+      by None = refl
+      by (Some n) = refl
 
   pub reference_matches : (h : Endpoint) → r.matches ≡ holds (λ n. noted k tables notes n h) (named_table e)
   unfolding element_reference reference_of noted
   reference_matches h = ap (λ (x : Reference). x.matches) is-r ∙ by (named_table e)
     where
       by : (o : Option (List ℕ)) → (reference_with k tables notes o).matches ≡ holds (λ n. noted k tables notes n h) o
-      by none = refl
-      by (some n) = refl
+      by None = refl
+      by (Some n) = refl
 
   pub reference_looked : 1 + r.tried ≡ element_looked (noted_tried k tables notes) e
   unfolding element_reference element_looked reference_of
   reference_looked = ap (λ (x : Reference). 1 + x.tried) is-r ∙ by (named_table e)
     where
       by : (o : Option (List ℕ)) → 1 + (reference_with k tables notes o).tried ≡ looked_with (noted_tried k tables notes) o
-      by none = refl
-      by (some n) = refl
+      by None = refl
+      by (Some n) = refl
 
 -- a whole element that begins with no slash names no table
 module _ (e : List ℕ) (whole : length e ≡ at_sign e) (slashless : first_among "/" e ≡ false) where
-  unnamed : named_table e ≡ none
+  unnamed : named_table e ≡ None
   unfolding named_table table_name
   unnamed = rw (halves_none e (length e) whole refl, slashless)
 
@@ -232,19 +231,19 @@ wildcard_of_cases t P all local known unknown paranoid nothing = by (is_word "AL
 -- a daemon's name and a user half, by the wildcard that they are
 abbrev pub daemon_at : Wildcard → List ℕ → Option (List ℕ → Bool)
 daemon_at W.Nothing t = given (name_fits t) (equal_fold t)
-daemon_at W.All t = some (λ d. true)
-daemon_at W.Local t = none
-daemon_at W.Known t = none
-daemon_at W.Unknown t = none
-daemon_at W.Paranoid t = none
+daemon_at W.All t = Some (λ d. true)
+daemon_at W.Local t = None
+daemon_at W.Known t = None
+daemon_at W.Unknown t = None
+daemon_at W.Paranoid t = None
 
 abbrev pub user_at : Wildcard → List ℕ → Option (Request → Bool)
 user_at W.Nothing t = given (name_fits t) (λ r. user_case r false false (equal_fold t r.user_name))
-user_at W.All t = some (λ r. true)
-user_at W.Local t = none
-user_at W.Known t = some (λ r. user_case r false false true)
-user_at W.Unknown t = some (λ r. user_case r false true false)
-user_at W.Paranoid t = none
+user_at W.All t = Some (λ r. true)
+user_at W.Local t = None
+user_at W.Known t = Some (λ r. user_case r false false true)
+user_at W.Unknown t = Some (λ r. user_case r false true false)
+user_at W.Paranoid t = None
 
 is_plain_name_at : (t : List ℕ) → is_plain_name t ≡ (name_fits t && not (is_some (wildcard_pattern (wildcard_of t))))
 unfolding is_plain_name name_fits
@@ -326,8 +325,8 @@ module _ (t : List ℕ) where
 
 -- of a request, where the host half matches
 abbrev finds : Option (Request → Bool) → Request → Found
-finds none r = No
-finds (some f) r = user_case r Ask (found_if (f r)) (found_if (f r))
+finds None r = No
+finds (Some f) r = user_case r Ask (found_if (f r)) (found_if (f r))
 
 -- no user half looks at more than the user
 user_same : (v : Wildcard) (t : List ℕ) (r : Request) → finds (user_at v t) r ≡ finds (user_at v t) (client_request nobody r.user r.user_name)
@@ -366,18 +365,18 @@ unfolding user_found user_test
 user_found_is t U.NotFetched name = by (user_half t)
   where
     by : (o : Option (Request → Bool)) → ask_if (is_some o) ≡ finds o (client_request nobody U.NotFetched name)
-    by none = refl
-    by (some f) = refl
+    by None = refl
+    by (Some f) = refl
 user_found_is t U.Unknown name = by (user_half t) ∙ sym (rw (user_half_at t) (unknown_same (wildcard_of t) t name))
   where
     by : (o : Option (Request → Bool)) → found_if (holds (λ f. f (client_request nobody U.Unknown [])) o) ≡ finds o (client_request nobody U.Unknown [])
-    by none = refl
-    by (some f) = refl
+    by None = refl
+    by (Some f) = refl
 user_found_is t U.Known name = by (user_half t)
   where
     by : (o : Option (Request → Bool)) → found_if (holds (λ f. f (client_request nobody U.Known name)) o) ≡ finds o (client_request nobody U.Known name)
-    by none = refl
-    by (some f) = refl
+    by None = refl
+    by (Some f) = refl
 
 module _ (t : List ℕ) (u : User) (name : List ℕ) (r : Found) (x : Bool) where
   pub user_found_ask : u ≡ U.NotFetched → x ≡ is_some (user_half t) → r ≡ ask_if x → r ≡ user_found t u name
@@ -394,14 +393,14 @@ module _ (t : List ℕ) (u : User) (name : List ℕ) (r : Found) (x : Bool) wher
 
 -- ## Elements of either list, whole or parted
 
-one_sound : {A B : Type 0} (o : Option A) (f : A → B) → is_some (o >>= λ a. some (f a)) ≡ is_some o
-one_sound none f = refl
-one_sound (some a) f = refl
+one_sound : {A B : Type 0} (o : Option A) (f : A → B) → is_some (o >>= λ a. Some (f a)) ≡ is_some o
+one_sound None f = refl
+one_sound (Some a) f = refl
 
-two_sound : {A B C : Type 0} (o : Option A) (p : Option B) (f : A → B → C) → is_some (o >>= λ a. p >>= λ b. some (f a b)) ≡ (is_some o && is_some p)
-two_sound none p f = refl
-two_sound (some a) none f = refl
-two_sound (some a) (some b) f = refl
+two_sound : {A B C : Type 0} (o : Option A) (p : Option B) (f : A → B → C) → is_some (o >>= λ a. p >>= λ b. Some (f a b)) ≡ (is_some o && is_some p)
+two_sound None p f = refl
+two_sound (Some a) None f = refl
+two_sound (Some a) (Some b) f = refl
 
 -- what stands after the `@`, as the code has it
 abbrev pub after : List ℕ → ℕ → List ℕ
@@ -418,8 +417,8 @@ module _ (m : Matcher) (e : List ℕ) (at : ℕ) (is_at : at ≡ at_sign e) wher
     client_element_whole r q = rw (halves_none e at is_at h) (q ∙ sym (one_sound (pattern_with m e) _))
 
   module _ (h : at ≡ length e → ⊥) (x : Bool) where
-    parted : halves e ≡ some (take at e, after e at)
-    parted = halves_some e at is_at h ∙ ap (λ (s : List ℕ). some (take at e, s)) (sym (take_rest e (at + 1)))
+    parted : halves e ≡ Some (take at e, after e at)
+    parted = halves_some e at is_at h ∙ ap (λ (s : List ℕ). Some (take at e, s)) (sym (take_rest e (at + 1)))
 
     pub daemon_element_both : is_some (daemon_element m e) ≡ (is_some (daemon_name (take at e)) && is_some (pattern_with m (after e at)))
     unfolding daemon_element daemon_parts
@@ -434,10 +433,10 @@ pattern_sound : (m k : Matcher) (e : List ℕ) → is_some (pattern_with m e) �
 unfolding pattern_with
 pattern_sound m k e = by (first_among "/" e) (table_name e)
   where
-    by : (b : Bool) (o : Option (List ℕ)) → is_some (when b then (o >>= λ n. some (m n)) else host_pattern e)
-        ≡ is_some (when b then (o >>= λ n. some (k n)) else host_pattern e)
-    by true none = refl
-    by true (some n) = refl
+    by : (b : Bool) (o : Option (List ℕ)) → is_some (when b then (o >>= λ n. Some (m n)) else host_pattern e)
+        ≡ is_some (when b then (o >>= λ n. Some (k n)) else host_pattern e)
+    by true None = refl
+    by true (Some n) = refl
     by false o = refl
 
 pub daemon_sound : (m k : Matcher) (e : List ℕ) → is_some (daemon_element m e) ≡ is_some (daemon_element k e)
@@ -445,8 +444,8 @@ unfolding daemon_element daemon_parts
 daemon_sound m k e = by (halves e)
   where
     by : (h : Option (List ℕ × List ℕ)) → is_some (daemon_parts m e h) ≡ is_some (daemon_parts k e h)
-    by none = refl
-    by (some p) = two_sound (daemon_name p.0) (pattern_with m p.1) _ ∙ ap (λ (b : Bool). is_some (daemon_name p.0) && b) (pattern_sound m k p.1)
+    by None = refl
+    by (Some p) = two_sound (daemon_name p.0) (pattern_with m p.1) _ ∙ ap (λ (b : Bool). is_some (daemon_name p.0) && b) (pattern_sound m k p.1)
         ∙ sym (two_sound (daemon_name p.0) (pattern_with k p.1) _)
 
 pub client_sound : (m k : Matcher) (e : List ℕ) → is_some (client_element m e) ≡ is_some (client_element k e)
@@ -454,8 +453,8 @@ unfolding client_element client_parts
 client_sound m k e = by (halves e)
   where
     by : (h : Option (List ℕ × List ℕ)) → is_some (client_parts m e h) ≡ is_some (client_parts k e h)
-    by none = one_sound (pattern_with m e) _ ∙ pattern_sound m k e ∙ sym (one_sound (pattern_with k e) _)
-    by (some p) = two_sound (user_half p.0) (pattern_with m p.1) _ ∙ ap (λ (b : Bool). is_some (user_half p.0) && b) (pattern_sound m k p.1)
+    by None = one_sound (pattern_with m e) _ ∙ pattern_sound m k e ∙ sym (one_sound (pattern_with k e) _)
+    by (Some p) = two_sound (user_half p.0) (pattern_with m p.1) _ ∙ ap (λ (b : Bool). is_some (user_half p.0) && b) (pattern_sound m k p.1)
         ∙ sym (two_sound (user_half p.0) (pattern_with k p.1) _)
 
 -- ## What an element finds
@@ -466,9 +465,9 @@ module _ (m : Matcher) (e : List ℕ) (at : ℕ) (is_at : at ≡ at_sign e) (d :
   unfolding daemon_element daemon_parts
   daemon_found_whole h x q r k = rw (halves_none e at is_at h) (k ∙ ap found_if q ∙ by (daemon_name e))
     where
-      by : (o : Option (List ℕ → Bool)) → found_if (holds (λ f. f d) o) ≡ look_at (daemon_request d s) (o >>= λ f. some (λ r. found_if (f r.daemon)))
-      by none = refl
-      by (some f) = refl
+      by : (o : Option (List ℕ → Bool)) → found_if (holds (λ f. f d) o) ≡ look_at (daemon_request d s) (o >>= λ f. Some (λ r. found_if (f r.daemon)))
+      by None = refl
+      by (Some f) = refl
 
   module _ (h : at ≡ length e → ⊥) (x : Bool) (is_x : x ≡ holds (λ f. f d) (daemon_name (take at e))) where
     pub daemon_found_both : look_at (daemon_request d s) (daemon_element m e) ≡ found_if (x && matches_pattern (pattern_with m (after e at)) s)
@@ -476,11 +475,11 @@ module _ (m : Matcher) (e : List ℕ) (at : ℕ) (is_at : at ≡ at_sign e) (d :
     daemon_found_both = rw (parted m e at is_at h x, is_x) (by (daemon_name (take at e)) (pattern_with m (after e at)))
       where
         by : (o : Option (List ℕ → Bool)) (p : Pattern)
-            → look_at (daemon_request d s) (o >>= λ f. p >>= λ g. some (λ r. found_if (f r.daemon && g r.server)))
+            → look_at (daemon_request d s) (o >>= λ f. p >>= λ g. Some (λ r. found_if (f r.daemon && g r.server)))
             ≡ found_if (holds (λ f. f d) o && matches_pattern p s)
-        by none p = refl
-        by (some f) none = ap found_if (sym (Bool.and-false (f d)))
-        by (some f) (some g) = refl
+        by None p = refl
+        by (Some f) None = ap found_if (sym (Bool.and-false (f d)))
+        by (Some f) (Some g) = refl
 
 module _ (m : Matcher) (e : List ℕ) (at : ℕ) (is_at : at ≡ at_sign e) (c : Endpoint) (u : User) (name : List ℕ) where
   pub client_found_whole : at ≡ length e → (x : Bool) → x ≡ matches_pattern (pattern_with m e) c → (r : Found) → r ≡ found_if x → r
@@ -488,9 +487,9 @@ module _ (m : Matcher) (e : List ℕ) (at : ℕ) (is_at : at ≡ at_sign e) (c :
   unfolding client_element client_parts
   client_found_whole h x q r k = rw (halves_none e at is_at h) (k ∙ ap found_if q ∙ by (pattern_with m e))
     where
-      by : (p : Pattern) → found_if (matches_pattern p c) ≡ look_at (client_request c u name) (p >>= λ g. some (λ r. found_if (g r.client)))
-      by none = refl
-      by (some g) = refl
+      by : (p : Pattern) → found_if (matches_pattern p c) ≡ look_at (client_request c u name) (p >>= λ g. Some (λ r. found_if (g r.client)))
+      by None = refl
+      by (Some g) = refl
 
   module _ (h : at ≡ length e → ⊥) (x : Bool) (is_x : x ≡ matches_pattern (pattern_with m (after e at)) c) where
     pub client_found_both : look_at (client_request c u name) (client_element m e) ≡ (when x then user_found (take at e) u name else No)
@@ -500,16 +499,16 @@ module _ (m : Matcher) (e : List ℕ) (at : ℕ) (is_at : at ≡ at_sign e) (c :
         (by (user_half (take at e)) (pattern_with m (after e at)))
       where
         by : (o : Option (Request → Bool)) (p : Pattern)
-            → look_at (client_request c u name) (o >>= λ f. p >>= λ g. some (λ r. when g r.client then user_case r Ask (found_if (f r)) (found_if (f r)) else No))
+            → look_at (client_request c u name) (o >>= λ f. p >>= λ g. Some (λ r. when g r.client then user_case r Ask (found_if (f r)) (found_if (f r)) else No))
             ≡ (when matches_pattern p c then finds o (client_request c u name) else No)
-        by none none = refl
-        by none (some g) = neither (g c)
+        by None None = refl
+        by None (Some g) = neither (g c)
           where
             neither : (b : Bool) → No ≡ (when b then No else No)
             neither true = refl
             neither false = refl
-        by (some f) none = refl
-        by (some f) (some g) = refl
+        by (Some f) None = refl
+        by (Some f) (Some g) = refl
 
 -- ## A table that is looked up before the element is read
 
@@ -520,10 +519,10 @@ module _ (m : Matcher) (b : Bool) where
   pattern_once h t is_b = by (first_among "/" t) (table_name t) is_b
     where
       by : (x : Bool) (o : Option (List ℕ)) → b ≡ holds (λ n. m n h) o
-          → matches_pattern (when x then (o >>= λ n. some (saying b n)) else host_pattern t) h
-          ≡ matches_pattern (when x then (o >>= λ n. some (m n)) else host_pattern t) h
-      by true none q = refl
-      by true (some n) q = q
+          → matches_pattern (when x then (o >>= λ n. Some (saying b n)) else host_pattern t) h
+          ≡ matches_pattern (when x then (o >>= λ n. Some (m n)) else host_pattern t) h
+      by true None q = refl
+      by true (Some n) q = q
       by false o q = refl
 
   pub daemon_once : (q : Request) (e : List ℕ) → b ≡ holds (λ n. m n q.server) (named_table e)
@@ -531,47 +530,47 @@ module _ (m : Matcher) (b : Bool) where
   unfolding daemon_element daemon_parts named_table
   daemon_once q e is_b = by (halves e) is_b
     where
-      through : (f : List ℕ → Bool) (p : Pattern) → look_at q (p >>= λ g. some (λ r. found_if (f r.daemon && g r.server)))
+      through : (f : List ℕ → Bool) (p : Pattern) → look_at q (p >>= λ g. Some (λ r. found_if (f r.daemon && g r.server)))
           ≡ found_if (f q.daemon && matches_pattern p q.server)
-      through f none = ap found_if (sym (Bool.and-false (f q.daemon)))
-      through f (some g) = refl
+      through f None = ap found_if (sym (Bool.and-false (f q.daemon)))
+      through f (Some g) = refl
 
       both : (o : Option (List ℕ → Bool)) (p k : Pattern) → matches_pattern p q.server ≡ matches_pattern k q.server
-          → look_at q (o >>= λ f. p >>= λ g. some (λ r. found_if (f r.daemon && g r.server)))
-          ≡ look_at q (o >>= λ f. k >>= λ g. some (λ r. found_if (f r.daemon && g r.server)))
-      both none p k z = refl
-      both (some f) p k z = through f p ∙ ap (λ (x : Bool). found_if (f q.daemon && x)) z ∙ sym (through f k)
+          → look_at q (o >>= λ f. p >>= λ g. Some (λ r. found_if (f r.daemon && g r.server)))
+          ≡ look_at q (o >>= λ f. k >>= λ g. Some (λ r. found_if (f r.daemon && g r.server)))
+      both None p k z = refl
+      both (Some f) p k z = through f p ∙ ap (λ (x : Bool). found_if (f q.daemon && x)) z ∙ sym (through f k)
 
-      by : (h : Option (List ℕ × List ℕ)) → b ≡ holds (λ n. m n q.server) (table_name (Option.get_or (h >>= λ p. some p.1) e))
+      by : (h : Option (List ℕ × List ℕ)) → b ≡ holds (λ n. m n q.server) (table_name (unwrap_or (h >>= λ p. Some p.1) e))
           → look_at q (daemon_parts (saying b) e h) ≡ look_at q (daemon_parts m e h)
-      by none z = refl
-      by (some p) z = both (daemon_name p.0) (pattern_with (saying b) p.1) (pattern_with m p.1) (pattern_once q.server p.1 z)
+      by None z = refl
+      by (Some p) z = both (daemon_name p.0) (pattern_with (saying b) p.1) (pattern_with m p.1) (pattern_once q.server p.1 z)
 
   pub client_once : (q : Request) (e : List ℕ) → b ≡ holds (λ n. m n q.client) (named_table e)
       → look_at q (client_element (saying b) e) ≡ look_at q (client_element m e)
   unfolding client_element client_parts named_table
   client_once q e is_b = by (halves e) is_b
     where
-      whole : (p : Pattern) → look_at q (p >>= λ g. some (λ r. found_if (g r.client))) ≡ found_if (matches_pattern p q.client)
-      whole none = refl
-      whole (some g) = refl
+      whole : (p : Pattern) → look_at q (p >>= λ g. Some (λ r. found_if (g r.client))) ≡ found_if (matches_pattern p q.client)
+      whole None = refl
+      whole (Some g) = refl
 
       through : (f : Request → Bool) (p : Pattern)
-          → look_at q (p >>= λ g. some (λ r. when g r.client then user_case r Ask (found_if (f r)) (found_if (f r)) else No))
+          → look_at q (p >>= λ g. Some (λ r. when g r.client then user_case r Ask (found_if (f r)) (found_if (f r)) else No))
           ≡ (when matches_pattern p q.client then user_case q Ask (found_if (f q)) (found_if (f q)) else No)
-      through f none = refl
-      through f (some g) = refl
+      through f None = refl
+      through f (Some g) = refl
 
       both : (o : Option (Request → Bool)) (p k : Pattern) → matches_pattern p q.client ≡ matches_pattern k q.client
-          → look_at q (o >>= λ f. p >>= λ g. some (λ r. when g r.client then user_case r Ask (found_if (f r)) (found_if (f r)) else No))
-          ≡ look_at q (o >>= λ f. k >>= λ g. some (λ r. when g r.client then user_case r Ask (found_if (f r)) (found_if (f r)) else No))
-      both none p k z = refl
-      both (some f) p k z = through f p ∙ ap (λ (x : Bool). when x then user_case q Ask (found_if (f q)) (found_if (f q)) else No) z ∙ sym (through f k)
+          → look_at q (o >>= λ f. p >>= λ g. Some (λ r. when g r.client then user_case r Ask (found_if (f r)) (found_if (f r)) else No))
+          ≡ look_at q (o >>= λ f. k >>= λ g. Some (λ r. when g r.client then user_case r Ask (found_if (f r)) (found_if (f r)) else No))
+      both None p k z = refl
+      both (Some f) p k z = through f p ∙ ap (λ (x : Bool). when x then user_case q Ask (found_if (f q)) (found_if (f q)) else No) z ∙ sym (through f k)
 
-      by : (h : Option (List ℕ × List ℕ)) → b ≡ holds (λ n. m n q.client) (table_name (Option.get_or (h >>= λ p. some p.1) e))
+      by : (h : Option (List ℕ × List ℕ)) → b ≡ holds (λ n. m n q.client) (table_name (unwrap_or (h >>= λ p. Some p.1) e))
           → look_at q (client_parts (saying b) e h) ≡ look_at q (client_parts m e h)
-      by none z = whole (pattern_with (saying b) e) ∙ ap found_if (pattern_once q.client e z) ∙ sym (whole (pattern_with m e))
-      by (some p) z = both (user_half p.0) (pattern_with (saying b) p.1) (pattern_with m p.1) (pattern_once q.client p.1 z)
+      by None z = whole (pattern_with (saying b) e) ∙ ap found_if (pattern_once q.client e z) ∙ sym (whole (pattern_with m e))
+      by (Some p) z = both (user_half p.0) (pattern_with (saying b) p.1) (pattern_with m p.1) (pattern_once q.client p.1 z)
 
 -- ## What elements look at
 
@@ -581,20 +580,20 @@ pub daemon_element_request : (m : Matcher) (q : Request) (e : List ℕ) → look
 unfolding daemon_element daemon_parts
 daemon_element_request m q e = by (halves e)
   where
-    whole : (o : Option (List ℕ → Bool)) → look_at q (o >>= λ f. some (λ r. found_if (f r.daemon)))
-        ≡ look_at (daemon_request q.daemon q.server) (o >>= λ f. some (λ r. found_if (f r.daemon)))
-    whole none = refl
-    whole (some f) = refl
+    whole : (o : Option (List ℕ → Bool)) → look_at q (o >>= λ f. Some (λ r. found_if (f r.daemon)))
+        ≡ look_at (daemon_request q.daemon q.server) (o >>= λ f. Some (λ r. found_if (f r.daemon)))
+    whole None = refl
+    whole (Some f) = refl
 
-    both : (o : Option (List ℕ → Bool)) (p : Pattern) → look_at q (o >>= λ f. p >>= λ g. some (λ r. found_if (f r.daemon && g r.server)))
-        ≡ look_at (daemon_request q.daemon q.server) (o >>= λ f. p >>= λ g. some (λ r. found_if (f r.daemon && g r.server)))
-    both none p = refl
-    both (some f) none = refl
-    both (some f) (some g) = refl
+    both : (o : Option (List ℕ → Bool)) (p : Pattern) → look_at q (o >>= λ f. p >>= λ g. Some (λ r. found_if (f r.daemon && g r.server)))
+        ≡ look_at (daemon_request q.daemon q.server) (o >>= λ f. p >>= λ g. Some (λ r. found_if (f r.daemon && g r.server)))
+    both None p = refl
+    both (Some f) None = refl
+    both (Some f) (Some g) = refl
 
     by : (h : Option (List ℕ × List ℕ)) → look_at q (daemon_parts m e h) ≡ look_at (daemon_request q.daemon q.server) (daemon_parts m e h)
-    by none = whole (daemon_name e)
-    by (some p) = both (daemon_name p.0) (pattern_with m p.1)
+    by None = whole (daemon_name e)
+    by (Some p) = both (daemon_name p.0) (pattern_with m p.1)
 
 -- a client element looks at the client and the user alone
 pub client_element_request : (m : Matcher) (q : Request) (e : List ℕ) → look_at q (client_element m e)
@@ -605,20 +604,20 @@ client_element_request m q e = by (halves e)
     r : Request
     r = client_request q.client q.user q.user_name
 
-    whole : (p : Pattern) → look_at q (p >>= λ g. some (λ r. found_if (g r.client))) ≡ look_at r (p >>= λ g. some (λ r. found_if (g r.client)))
-    whole none = refl
-    whole (some g) = refl
+    whole : (p : Pattern) → look_at q (p >>= λ g. Some (λ r. found_if (g r.client))) ≡ look_at r (p >>= λ g. Some (λ r. found_if (g r.client)))
+    whole None = refl
+    whole (Some g) = refl
 
     both : (o : Option (Request → Bool)) (p : Pattern) → finds o q ≡ finds o r
-        → look_at q (o >>= λ f. p >>= λ g. some (λ r. when g r.client then user_case r Ask (found_if (f r)) (found_if (f r)) else No))
-        ≡ look_at r (o >>= λ f. p >>= λ g. some (λ r. when g r.client then user_case r Ask (found_if (f r)) (found_if (f r)) else No))
-    both none p k = refl
-    both (some f) none k = refl
-    both (some f) (some g) k = ap (λ (z : Found). when g q.client then z else No) k
+        → look_at q (o >>= λ f. p >>= λ g. Some (λ r. when g r.client then user_case r Ask (found_if (f r)) (found_if (f r)) else No))
+        ≡ look_at r (o >>= λ f. p >>= λ g. Some (λ r. when g r.client then user_case r Ask (found_if (f r)) (found_if (f r)) else No))
+    both None p k = refl
+    both (Some f) None k = refl
+    both (Some f) (Some g) k = ap (λ (z : Found). when g q.client then z else No) k
 
     by : (h : Option (List ℕ × List ℕ)) → look_at q (client_parts m e h) ≡ look_at r (client_parts m e h)
-    by none = whole (pattern_with m e)
-    by (some p) = both (user_half p.0) (pattern_with m p.1) (finds_same p.0 q ∙ sym (finds_same p.0 r))
+    by None = whole (pattern_with m e)
+    by (Some p) = both (user_half p.0) (pattern_with m p.1) (finds_same p.0 q ∙ sym (finds_same p.0 r))
 
 -- ## Sizes
 

@@ -1,8 +1,8 @@
 -- Examples, computed from the definitions: a definition that answers otherwise is refused here.
 -- Assumes nothing.
+use Rattle.std.specs.Prelude.{None, Some}
 use mathlib.Core.Bool.{true, false}
 use mathlib.Core.List.{[]}
-use mathlib.Core.Option.{none, some}
 use mathlib.Core.Path.{◌≡◌, refl}
 use Rattle.text.specs.Basics.{any, all, first}
 use Rattle.text.specs.Text.{bytes, equal, split_once, lower, equal_fold}
@@ -24,21 +24,21 @@ from_known = request_of (bytes "sshd") (endpoint (record { name = N.Known; addr 
 
 pub record Examples : Type 0 where
   -- "The first `@` not in first place parts an element."
-  pub first_at : halves (bytes "a@b@c") ≡ some (bytes "a", bytes "b@c")
-  pub at_in_first_place : halves (bytes "@a@b") ≡ some (bytes "@a", bytes "b")
+  pub first_at : halves (bytes "a@b@c") ≡ Some (bytes "a", bytes "b@c")
+  pub at_in_first_place : halves (bytes "@a@b") ≡ Some (bytes "@a", bytes "b")
   -- request 1: "9 stays, in rules, for netgroups and for `/` at the start of a daemon element"
   pub client_slash : client_reserved (bytes "/t") ≡ false
   pub daemon_slash : daemon_reserved (bytes "/t") ≡ true
   pub netgroup_after_at : client_reserved (bytes "a@@b") ≡ true
   -- a table stands as an element, or as the half after its `@`; "`/` before no such name is 10"
-  pub table_after_at : named_table (bytes "a@/t") ≡ some (bytes "t")
-  pub table_of_no_name : named_table (bytes "/") ≡ none
+  pub table_after_at : named_table (bytes "a@/t") ≡ Some (bytes "t")
+  pub table_of_no_name : named_table (bytes "/") ≡ None
   -- "LOCAL and PARANOID before `@` .. are 10"
   pub local_name : is_plain_name (bytes "LOCAL") ≡ false
   -- "In daemons: `name@host` against the server's host"
-  pub server_host_lem : look_at from_known (daemon_parts (λ n h. true) [] (some (bytes "sshd", bytes "there"))) ≡ No
+  pub server_host_lem : look_at from_known (daemon_parts (λ n h. true) [] (Some (bytes "sshd", bytes "there"))) ≡ No
   -- ""Ask" comes nowhere else."
-  pub other_host : look_at from_known (client_parts (λ n h. true) [] (some (bytes "root", bytes "here"))) ≡ No
+  pub other_host : look_at from_known (client_parts (λ n h. true) [] (Some (bytes "root", bytes "here"))) ≡ No
 
 pub examples : Examples
 unfolding any all first equal split_once lower equal_fold wildcard is_name_byte name_pattern host_pattern

@@ -1,9 +1,9 @@
 -- Laws of an element that is checked and looked at in one reading, shaped as the calls and tests of the code hand their facts over.
 -- Assumes nothing.
+use Rattle.std.specs.Prelude.{None, Some}
 use Prim.Native.Nat.{ℕ, suc, ◌+◌, ◌-◌, ◌<◌, ◌≤◌}
 use mathlib.Core.Bool.{Bool, true, false, not, ◌&&◌, and_assoc, and-false, and-true as and-true_r, true≢false}
 use mathlib.Core.List.{List, [], ◌∷◌}
-use mathlib.Core.Option.{none, some}
 use mathlib.Core.Path.{◌≡◌, refl, sym, ap, ap₂, ◌∙◌}
 use native.Mathlib.Numerals.{add-one}
 use native.Mathlib.Omega.{arith}
@@ -100,7 +100,7 @@ module _ (t d : List ℕ) (look : Bool) (w : Wildcard) (is-w : w ≡ wildcard_of
   pub daemon_seen_all : w ≡ W.All → r ≡ host_seen true look → r ≡ daemon_seen look (daemon_name t) d
   daemon_seen_all e q = daemon_name_seen t d look w W.All is-w e r (q ∙ ap (host_seen true) (sym (and-true_r look)))
 
-  none_seen : (v : Wildcard) → daemon_at v t ≡ none → w ≡ v → r ≡ host_seen false false → r ≡ daemon_seen look (daemon_name t) d
+  none_seen : (v : Wildcard) → daemon_at v t ≡ None → w ≡ v → r ≡ host_seen false false → r ≡ daemon_seen look (daemon_name t) d
   none_seen v n e q =
       daemon_name_seen t d look w v is-w e r (q ∙ sym (rw n (ap (host_seen false) (and-false look))))
 
@@ -329,7 +329,7 @@ module _ (look matched : Bool) (e : List ℕ) (h : Endpoint) (x : Bool) (is_x : 
   unfolding pattern_seen pattern_with table_name saying
   half_table q is-r = is-r ∙ sym (rw (← is_x, q) (by (is_table_name (drop 1 e))))
     where
-      by : (b : Bool) → pattern_seen look (given b (drop 1 e) >>= λ n. some (saying matched n)) h ≡ host_seen b (look && (b && matched))
+      by : (b : Bool) → pattern_seen look (given b (drop 1 e) >>= λ n. Some (saying matched n)) h ≡ host_seen b (look && (b && matched))
       by true = refl
       by false = refl
 

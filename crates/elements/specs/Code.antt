@@ -11,8 +11,7 @@
 --   held_at q                     == the request q by its places, as it is held
 --   at_sign e                     == the place of the `@` that parts e
 -- Assumes nothing: these are definitions.
-use Rattle.std.specs.Prelude.{ℕ, ◌+◌, Bool, true, false, ◌&&◌, List, [], ◌∷◌, length, drop}
-use Rattle.std.proofs.Math.Option.{Option, none, some}
+use Rattle.std.specs.Prelude.{ℕ, ◌+◌, Bool, true, false, ◌&&◌, List, [], ◌∷◌, length, drop, None, Option, Some}
 use Rattle.text.specs.Basics.{when◌then◌else◌, holds, is_some, all}
 use Rattle.text.specs.Text.{in_range, equal_fold}
 use Rattle.text.specs.Scan.{index_of}
@@ -67,8 +66,8 @@ no_reference = record { naming = N.Sound; matches = false; tried = 0 }
 
 -- what the notes say of the table that an element names
 abbrev pub reference_with : ℕ → List ℕ → List ℕ → Option (List ℕ) → Reference
-reference_with k tables notes none = no_reference
-reference_with k tables notes (some n) = reference_of k tables notes n
+reference_with k tables notes None = no_reference
+reference_with k tables notes (Some n) = reference_of k tables notes n
 
 unfoldable pub element_reference : ℕ → List ℕ → List ℕ → List ℕ → Reference
 element_reference k tables notes e = reference_with k tables notes (named_table e)
@@ -83,8 +82,8 @@ table_seen look matched e = let n : List ℕ = drop 1 e in host_seen (is_table_n
 
 -- how an element names a table; sound where it names none
 abbrev pub naming_with : (List ℕ → Naming) → Option (List ℕ) → Naming
-naming_with f none = N.Sound
-naming_with f (some n) = f n
+naming_with f None = N.Sound
+naming_with f (Some n) = f n
 
 unfoldable pub element_naming : (List ℕ → Naming) → List ℕ → Naming
 element_naming f e = naming_with f (named_table e)

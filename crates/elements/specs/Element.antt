@@ -6,8 +6,7 @@
 --   daemon_element m e, client_element m e == what e finds of a request, none where it is of no kind
 --   element_looked c e == how many elements are looked at with e: itself, and what is tried in the table that it names
 -- Assumes nothing: these are definitions.
-use Rattle.std.specs.Prelude.{ℕ, Bool, true, false, not, ◌&&◌, ◌||◌, List, [], ◌∷◌, length}
-use Rattle.std.proofs.Math.Option.{Option, none, some, get_or}
+use Rattle.std.specs.Prelude.{ℕ, Bool, true, false, not, ◌&&◌, ◌||◌, List, [], ◌∷◌, length, None, Option, Some, unwrap_or}
 use Rattle.text.specs.Basics.{when◌then◌else◌, ◌>>=◌, ◌or_else◌, given, holds, is_some, all}
 use Rattle.text.specs.Text.{bytes, first_among, cons_first, split_once, in_range, equal_fold, is_word}
 use Rattle.patterns.specs.Pattern.{wildcard, is_name_byte}
@@ -26,7 +25,7 @@ found_if false = No
 
 -- "The first `@` not in first place parts an element."
 unfoldable pub halves : List ℕ → Option (List ℕ × List ℕ)
-halves [] = none
+halves [] = None
 halves (x ∷ t) = cons_first x (split_once (bytes "@") t)
 
 -- 9: "an element, or the half after its @, begins with @ or /"; request 1: "9 stays, in rules, for netgroups and for `/` at the
@@ -39,7 +38,7 @@ daemon_reserved e = first_among "/" e || client_reserved e
 
 -- the half of an element that is a host pattern: after its `@`, or the whole
 abbrev pub host_half : List ℕ → List ℕ
-host_half e = get_or (halves e >>= λ p. some p.1) e
+host_half e = unwrap_or (halves e >>= λ p. Some p.1) e
 
 -- the table that stands as an element, or as the half after its `@`
 unfoldable pub named_table : List ℕ → Option (List ℕ)
@@ -63,25 +62,25 @@ user_half t =
 
 -- "In daemons: `name@host` against the server's host"; "A daemon element without `@` is such a name and matches an equal daemon"
 unfoldable pub daemon_parts : Matcher → List ℕ → Option (List ℕ × List ℕ) → Element
-daemon_parts m e none = do
+daemon_parts m e None = do
   f ← daemon_name e
-  some λ r. found_if (f r.daemon)
-daemon_parts m e (some p) = do
+  Some λ r. found_if (f r.daemon)
+daemon_parts m e (Some p) = do
   f ← daemon_name p.0
   g ← pattern_with m p.1
-  some λ r. found_if (f r.daemon && g r.server)
+  Some λ r. found_if (f r.daemon && g r.server)
 
 -- "In clients: `user@host`". "At a `user@host` element whose host half matches, a user not fetched ends the walk with
 -- "ask", .. whatever the user half, even ALL". ""Ask" comes nowhere else." Request 1: "`user@/name` with the user not fetched
 -- asks when the table matches."
 unfoldable pub client_parts : Matcher → List ℕ → Option (List ℕ × List ℕ) → Element
-client_parts m e none = do
+client_parts m e None = do
   g ← pattern_with m e
-  some λ r. found_if (g r.client)
-client_parts m e (some p) = do
+  Some λ r. found_if (g r.client)
+client_parts m e (Some p) = do
   f ← user_half p.0
   g ← pattern_with m p.1
-  some λ r. when g r.client then user_case r Ask (found_if (f r)) (found_if (f r)) else No
+  Some λ r. when g r.client then user_case r Ask (found_if (f r)) (found_if (f r)) else No
 
 unfoldable pub daemon_element : Matcher → List ℕ → Element
 daemon_element m e = daemon_parts m e (halves e)
@@ -91,8 +90,8 @@ client_element m e = client_parts m e (halves e)
 
 -- what looking at an element finds; nothing matches one that is of no kind
 abbrev pub look_at : Request → Element → Found
-look_at r none = No
-look_at r (some f) = f r
+look_at r None = No
+look_at r (Some f) = f r
 
 -- Request 12: "an element with `@` counts once, the one that asks included"; "a table after an `@` is always tried": whatever stands before it
 unfoldable pub element_looked : (List ℕ → ℕ) → List ℕ → ℕ

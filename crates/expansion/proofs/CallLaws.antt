@@ -1,9 +1,9 @@
 -- Laws of the call: the buffers hold the texts that they are to hold, and each check refuses as the definition does.
 -- Assumes nothing.
+use Rattle.std.specs.Prelude.{Err, Result, Some}
 use Prim.Native.Nat.{ℕ, ◌+◌, ◌-◌, ◌<◌, ◌≤◌}
 use native.Mathlib.Omega.{arith}
 use mathlib.Core.Bool.{Bool, true, false, not}
-use mathlib.Core.Option.{some}
 use mathlib.Core.List.{List, [], ◌∷◌, ◌++◌, flat_map, reverse, append_assoc, append-nil}
 use mathlib.Core.Path.{◌≡◌, refl, sym, ap, subst, ◌∙◌}
 use borrow.Author.Tests.{lt-ltb, le-ltb, not-true, not-false}
@@ -15,8 +15,6 @@ use Rattle.text.specs.Number.{decimal}
 use Rattle.text.specs.Scan.{put_at, after}
 use Rattle.section.specs.declared.Fault.TheVariants as F
 use Rattle.section.specs.declared.Refusal.{Refusal}
-use Rattle.section.specs.declared.Written.{Written}
-use Rattle.section.specs.declared.Written.TheVariants as W
 use Rattle.section.specs.Refusal.{Outcome, lowest, placeless, within_room, written_of, lent_after}
 use Rattle.section.specs.Code.{first_holding}
 use Rattle.section.proofs.RefusalLaws.{rising, lowest_first}
@@ -38,7 +36,7 @@ use Rattle.expansion.specs.Code.{Texts, texts_with, texts_of, texts_at, given_at
 use Rattle.expansion.proofs.TextLaws.{inserted_by_request, well_formed_short}
 
 -- what a call answers, and what the output d holds then, by an outcome
-abbrev pub Gave : List ℕ → List ℕ → Written → Outcome (List ℕ) → Type 0
+abbrev pub Gave : List ℕ → List ℕ → Result ℕ Refusal → Outcome (List ℕ) → Type 0
 Gave d o v x = (v ≡ written_of x) × (o ≡ lent_after d x)
 
 -- ## The texts of a request
@@ -86,7 +84,7 @@ module _ (q : Places) (names d o1 o2 o3 o : List ℕ) (w a b n process : ℕ) (w
     pub request_short : well_formed (request_at names q) ≡ true → Short (texts_at names o g)
     request_short w = subst (λ (x : Texts). Short x) (sym texts_are) (well_formed_short (request_at names q) process w)
 
-    pub request_gave : (d o' t : List ℕ) (v : Written) → Gave d o' v (within_room (length d) (expansion_by (texts_at names o g) t))
+    pub request_gave : (d o' t : List ℕ) (v : Result ℕ Refusal) → Gave d o' v (within_room (length d) (expansion_by (texts_at names o g) t))
         → Gave d o' v (within_room (length d) (expansion_by (texts_of (request_at names q) process) t))
     request_gave d o' t v k = subst (λ (x : Texts). Gave d o' v (within_room (length d) (expansion_by x t))) texts_are k
 
@@ -99,16 +97,16 @@ pieces_request r process (literal b ∷ ps) = rw (pieces_request r process ps)
 pieces_request r process (directive y ∷ ps) = rw (inserted_by_request r process y, pieces_request r process ps)
 
 module _ (t : List ℕ) (r : Request) (process : ℕ) (d : List ℕ) (x : Bool) (is_x : x ≡ any_bad_percent t) where
-  pub percent_refused : x ≡ true → (f : Refusal) → f ≡ placeless F.BadPercent → Gave d d (W.Refused f) (expand_trimmed t r process (length d))
+  pub percent_refused : x ≡ true → (f : Refusal) → f ≡ placeless F.BadPercent → Gave d d (Err f) (expand_trimmed t r process (length d))
   unfolding expand_trimmed lowest
   percent_refused e f g = rw (← is_x, e, g) (refl, refl)
 
   module _ (sound : x ≡ false) (y : Bool) (is_y : y ≡ well_formed r) where
-    pub request_refused : y ≡ false → (f : Refusal) → f ≡ placeless F.BadRequest → Gave d d (W.Refused f) (expand_trimmed t r process (length d))
+    pub request_refused : y ≡ false → (f : Refusal) → f ≡ placeless F.BadRequest → Gave d d (Err f) (expand_trimmed t r process (length d))
     unfolding expand_trimmed lowest
     request_refused e f g = rw (← is_x, sound, ← is_y, e, g) (refl, refl)
 
-    pub request_written : y ≡ true → (o : List ℕ) (v : Written) → Gave d o v (within_room (length d) (expansion_by (texts_of r process) t))
+    pub request_written : y ≡ true → (o : List ℕ) (v : Result ℕ Refusal) → Gave d o v (within_room (length d) (expansion_by (texts_of r process) t))
         → Gave d o v (expand_trimmed t r process (length d))
     unfolding expand_trimmed lowest expansion_by
     request_written e o v g = rw (← is_x, sound, ← is_y, e, ← (pieces_request r process (pieces t))) g
@@ -142,7 +140,7 @@ module _ (c o b : List ℕ) (n : ℕ) (is-n : n ≡ length (join c)) (is-o : o �
     line_trimmed : t ≡ trimmed c
     line_trimmed = is-t ∙ rw line_text (sym (trimmed_join c))
 
-    pub line_gave : (x r : Request) → x ≡ r → (process : ℕ) (d p : List ℕ) (v : Written) → Gave d p v (expand_trimmed t x process (length d))
+    pub line_gave : (x r : Request) → x ≡ r → (process : ℕ) (d p : List ℕ) (v : Result ℕ Refusal) → Gave d p v (expand_trimmed t x process (length d))
         → Gave d p v (expand_trimmed (trimmed c) r process (length d))
     line_gave x r is_x process d p v g = rw (← is_x) (subst (λ (u : List ℕ). Gave d p v (expand_trimmed u x process (length d))) line_trimmed g)
 
@@ -165,7 +163,7 @@ module _ (c : List ℕ) (r : Request) (process : ℕ) (d : List ℕ) (j : Joined
   unfolding rising
   rising_faults = lowest_first ((F.BadByte, has_bad_byte (join c)) ∷ (F.LongLine, is_too_long (join c)) ∷ (F.BadPercent, has_bad_percent c) ∷ []) refl
 
-  pub byte_refused : j.clean ≡ false → (f : Refusal) → f ≡ placeless F.BadByte → Gave d d (W.Refused f) (expand c (some r) process (length d))
+  pub byte_refused : j.clean ≡ false → (f : Refusal) → f ≡ placeless F.BadByte → Gave d d (Err f) (expand c (Some r) process (length d))
   unfolding expand first_holding
   byte_refused e f g = rw (rising_faults, not-false (has_bad_byte (join c)) (sym is_clean ∙ e), g) (refl, refl)
 
@@ -173,13 +171,13 @@ module _ (c : List ℕ) (r : Request) (process : ℕ) (d : List ℕ) (j : Joined
   line_length h = omega (arith, is_len)
 
   module _ (e : j.clean ≡ true) where
-    pub length_refused : 2047 < j.len → (f : Refusal) → f ≡ placeless F.LongLine → Gave d d (W.Refused f) (expand c (some r) process (length d))
+    pub length_refused : 2047 < j.len → (f : Refusal) → f ≡ placeless F.LongLine → Gave d d (Err f) (expand c (Some r) process (length d))
     unfolding expand first_holding
     length_refused h f g =
         let l : 2047 < length (join c) = omega (arith, is_len) in
         rw (rising_faults, not-true (has_bad_byte (join c)) (sym is_clean ∙ e), lt-ltb 2047 (length (join c)) l, g) (refl, refl)
 
-    pub line_written : j.len ≤ 2047 → (o : List ℕ) (v : Written) → Gave d o v (expand_trimmed (trimmed c) (held r) process (length d))
-        → Gave d o v (expand c (some r) process (length d))
+    pub line_written : j.len ≤ 2047 → (o : List ℕ) (v : Result ℕ Refusal) → Gave d o v (expand_trimmed (trimmed c) (held r) process (length d))
+        → Gave d o v (expand c (Some r) process (length d))
     unfolding expand expand_trimmed expansion has_bad_percent any_bad_percent lowest
     line_written h o v g = rw (not-true (has_bad_byte (join c)) (sym is_clean ∙ e), le-ltb 2047 (length (join c)) (line_length h)) (rw (held_fits r) at g)

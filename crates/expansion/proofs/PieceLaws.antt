@@ -1,5 +1,6 @@
 -- Laws of reading a command from its left, and of measuring and writing what each piece writes.
 -- Assumes nothing.
+use Rattle.std.specs.Prelude.{Err, Ok}
 use Prim.Native.Nat.{ℕ, zero, suc, ◌+◌, ◌*◌, ◌<◌, ◌≤◌}
 use native.Mathlib.Numerals.{add-one}
 use native.Mathlib.Omega.{arith}
@@ -15,7 +16,6 @@ use Rattle.text.specs.Scan.{put_at, after}
 use Rattle.text.proofs.PasteLaws.{put_first}
 use Rattle.section.specs.declared.Fault.TheVariants as F
 use Rattle.section.specs.declared.Refusal.{Refusal}
-use Rattle.section.specs.declared.Written.TheVariants as W
 use Rattle.section.specs.Refusal.{Outcome, placeless, within_room, written_of, lent_after}
 use Rattle.address_format.proofs.WriteText.{Wrote, wrote_nil, wrote_byte, front_room, rest_room, rest_all}
 use Rattle.lines.specs.Command.{pieces}
@@ -157,12 +157,12 @@ module _ (x : Texts) (t d : List ℕ) (n : ℕ) (is-n : n ≡ length (expansion_
   abbrev outcome : Outcome (List ℕ)
   outcome = within_room (length d) (expansion_by x t)
 
-  pub room_refused : length d < n → (r : Refusal) → r ≡ placeless F.NoRoom → (W.Refused r ≡ written_of outcome) × (d ≡ lent_after d outcome)
+  pub room_refused : length d < n → (r : Refusal) → r ≡ placeless F.NoRoom → (Err r ≡ written_of outcome) × (d ≡ lent_after d outcome)
   room_refused h r e = let l : length d < length (expansion_by x t) = omega arith in rw (lt-ltb (length d) (length (expansion_by x t)) l, e) (refl, refl)
 
   pub room_count : n ≤ length d → (p : List ℕ) (k : ℕ) → (k ≡ length (expansion_by x t)) × (p ≡ put_at d 0 (expansion_by x t))
-      → (W.Count k ≡ written_of outcome) × (p ≡ lent_after d outcome)
+      → (Ok k ≡ written_of outcome) × (p ≡ lent_after d outcome)
   unfolding after
   room_count h p k w =
       let l : length (expansion_by x t) ≤ length d = omega arith in
-      rw (le-ltb (length d) (length (expansion_by x t)) l) (ap (λ (m : ℕ). W.Count m) w.0, put_first d p (expansion_by x t) w.1)
+      rw (le-ltb (length d) (length (expansion_by x t)) l) (ap (λ (m : ℕ). Ok m) w.0, put_first d p (expansion_by x t) w.1)

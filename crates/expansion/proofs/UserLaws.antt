@@ -1,9 +1,9 @@
 -- Demand 3, second half: a command that uses neither %u nor %c expands alike for two users.
 -- Assumes nothing.
+use Rattle.std.specs.Prelude.{Some}
 use Prim.Native.Nat.{ℕ}
 use mathlib.Core.Bool.{false, ◌||◌}
 use mathlib.Core.List.{List, [], ◌∷◌, flat_map}
-use mathlib.Core.Option.{some}
 use mathlib.Core.Path.{◌≡◌, refl}
 use lib.Dec.{eqb}
 use Rattle.text.specs.Basics.{first, any}
@@ -44,6 +44,6 @@ module _ (r : Request) (u u' : User) (t t' : List ℕ) (n : ℕ) where
 
 -- the whole call in the same room, refusals too, where both users fit or neither does
 pub expand_same : (r : Request) (u u' : User) (t t' : List ℕ) (n : ℕ) (c : List ℕ) (room : ℕ) → well_formed (with_user r u t) ≡ well_formed (with_user r u' t')
-    → uses_user c ≡ false → expand c (some (with_user r u t)) n room ≡ expand c (some (with_user r u' t')) n room
+    → uses_user c ≡ false → expand c (Some (with_user r u t)) n room ≡ expand c (Some (with_user r u' t')) n room
 unfolding expand
 expand_same r u u' t t' n c room e h = rw (e, expansion_same (held r) u u' t t' n c h)

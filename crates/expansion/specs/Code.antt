@@ -5,9 +5,8 @@
 --   expansion_by x t    == what the joined and trimmed command t writes
 --   expand_trimmed t .. == the call for a command t that is joined and trimmed
 -- Assumes nothing: these are definitions.
-use Rattle.std.specs.Prelude.{ℕ, ◌-◌, ◌≤◌, Bool, true, false, not, ◌&&◌, ◌||◌, eqb, length}
+use Rattle.std.specs.Prelude.{ℕ, ◌-◌, ◌≤◌, Bool, true, false, not, ◌&&◌, ◌||◌, eqb, length, Some}
 use mathlib.Core.List.{List, [], ◌∷◌, ◌++◌, map, flat_map}
-use Rattle.std.proofs.Math.Option.{some}
 use Rattle.text.specs.Basics.{when◌then◌else◌}
 use Rattle.text.specs.Text.{bytes}
 use Rattle.text.specs.Number.{decimal}
@@ -141,4 +140,4 @@ pub record Short (x : Texts) : Type 0 where
 unfoldable pub expand_trimmed : List ℕ → Request → ℕ → ℕ → Outcome (List ℕ)
 expand_trimmed t r process room =
     at_place 0 0 (lowest ((F.BadPercent, any_bad_percent t) ∷ []))
-    before fitting well_formed (some r) (λ r. within_room room (flat_map (piece_text r process) (pieces t)))
+    before fitting well_formed (Some r) (λ r. within_room room (flat_map (piece_text r process) (pieces t)))

@@ -3,10 +3,9 @@
 --   uses_user c         == c uses %u or %c
 --   expand c o p room  == the call: every check, then the expansion for the request in o, into room bytes
 -- Assumes nothing: these are definitions.
-use Rattle.std.specs.Prelude.{ℕ, Bool, ◌||◌, eqb}
+use Rattle.std.specs.Prelude.{ℕ, Bool, ◌||◌, eqb, Option, unwrap_or}
 use Prim.Native.Char.{Char, code}
 use mathlib.Core.List.{List, [], ◌∷◌, ◌++◌, map, flat_map}
-use Rattle.std.proofs.Math.Option.{Option, get_or}
 use Rattle.text.specs.Basics.{when◌then◌else◌, given, any, first}
 use Rattle.text.specs.Text.{bytes, among, is_digit, is_letter}
 use Rattle.text.specs.Number.{decimal}
@@ -27,7 +26,7 @@ host_text h = when name_known h then h.name else addr_text h.host.addr
 
 -- what the byte y after a `%` stands for: the eleven letters and `%%`
 unfoldable pub inserted : Request → ℕ → ℕ → List ℕ
-inserted r process y = get_or (first listed
+inserted r process y = unwrap_or (first listed
     (("a", addr_text r.client.host.addr) ∷ ("A", addr_text r.server.host.addr)
     ∷ ("n", name_text r.client) ∷ ("N", name_text r.server)
     ∷ ("h", host_text r.client) ∷ ("H", host_text r.server)

@@ -7,7 +7,6 @@
 pub mod directive;
 pub mod write;
 
-ghost use Rattle.std.proofs.Math.Option.{some};
 ghost use Rattle.std.specs.Prelude.{◌≡◌, true, ◌||◌, ◌≤◌, length};
 ghost use Rattle.text.specs.Text.{is_letter, is_digit, among};
 ghost use Rattle.section.specs.Refusal.{within_room, written_of, lent_after};
@@ -24,7 +23,8 @@ use address_format::put_address;
 use elements::request::{Request, fits};
 use lines::command::{has_bad_percent, trim};
 use lines::line::{join_into, joined};
-use section::{Fault, Part, Written};
+use section::Fault;
+use section::Part;
 
 // Whether b is one of the marks `@%-_=+:,./`.
 fn is_safe_mark(b: u8) -> bool
@@ -80,7 +80,7 @@ fn expand_request<'a>(
     names: &'a [u8],
     request: Request,
     process: u32,
-) -> Written
+) -> Result<usize, Refusal>
     requires { (length t.now ≤ 2047) × (well_formed (request_at names.now request) ≡ true) }
     ensures answer { result
         ≡ written_of (within_room (length out.old) (expansion_by (texts_of (request_at names.now request) process) t.now)) }
@@ -107,19 +107,19 @@ fn expand_trimmed<'a>(
     names: &'a [u8],
     request: Request,
     process: u32,
-) -> Written
+) -> Result<usize, Refusal>
     requires { length t.now ≤ 2047 }
     ensures answer { result ≡ written_of (expand_trimmed t.now (request_at names.now request) process (length out.old)) }
     ensures holds { out.new
         ≡ lent_after out.old (expand_trimmed t.now (request_at names.now request) process (length out.old)) }
 {
     if has_bad_percent(t) {
-        return Written::Refused(section::placeless(Fault::BadPercent));
+        return Err(section::placeless(Fault::BadPercent));
     }
     if fits(names, request) {
         return expand_request(out, t, names, request, process);
     }
-    Written::Refused(section::placeless(Fault::BadRequest))
+    Err(section::placeless(Fault::BadRequest))
 }
 
 // Expands a command whose bytes may stand in a line, and which has at most 2,047 of them when joined, for the request as it is held.
@@ -129,7 +129,7 @@ fn expand_line<'a>(
     names: &'a [u8],
     request: Request,
     process: u32,
-) -> Written
+) -> Result<usize, Refusal>
     requires { length (join command.now) ≤ 2047 }
     ensures answer { result
         ≡ written_of (expand_trimmed (trimmed command.now) (heldAs (request_at names.now request)) process (length out.old)) }
@@ -151,11 +151,11 @@ pub fn expand<'a>(
     names: &'a [u8],
     request: Request,
     process: u32,
-) -> Written
+) -> Result<usize, Refusal>
     ensures answer { result
-        ≡ written_of (expandBy command.now (some (request_at names.now request)) process (length out.old)) }
+        ≡ written_of (expandBy command.now (Some (request_at names.now request)) process (length out.old)) }
     ensures holds { out.new
-        ≡ lent_after out.old (expandBy command.now (some (request_at names.now request)) process (length out.old)) }
+        ≡ lent_after out.old (expandBy command.now (Some (request_at names.now request)) process (length out.old)) }
 {
     let measured = joined(command);
     let len = measured.len;
@@ -164,7 +164,7 @@ pub fn expand<'a>(
         if len <= 2047 {
             return expand_line(out, command, names, request, process);
         }
-        return Written::Refused(section::placeless(Fault::LongLine));
+        return Err(section::placeless(Fault::LongLine));
     }
-    Written::Refused(section::placeless(Fault::BadByte))
+    Err(section::placeless(Fault::BadByte))
 }

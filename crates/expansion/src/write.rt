@@ -8,7 +8,7 @@ ghost use Rattle.section.specs.Refusal.{within_room, written_of, lent_after};
 ghost use Rattle.expansion.specs.Code.{texts_at, Short, expansion_by};
 
 use crate::directive::{Given, inserted_length, put_inserted};
-use section::{Fault, Written};
+use section::Fault;
 
 // The byte at k, 0 past the end, which no directive is.
 fn byte_at(s: &[u8], k: usize) -> u8
@@ -74,7 +74,7 @@ pub fn write_expansion<'a>(
     names: &'a [u8],
     texts: &'a [u8],
     g: Given,
-) -> Written
+) -> Result<usize, Refusal>
     requires { (length t.now ≤ 2047) × Short (texts_at names.now texts.now g) }
     ensures answer { result
         ≡ written_of (within_room (length out.old) (expansion_by (texts_at names.now texts.now g) t.now)) }
@@ -84,8 +84,8 @@ pub fn write_expansion<'a>(
 {
     let n = expansion_length(t, names, texts, g);
     if out.len() < n {
-        return Written::Refused(section::placeless(Fault::NoRoom));
+        return Err(section::placeless(Fault::NoRoom));
     }
     let count = put_expansion(out, t, names, texts, g);
-    Written::Count(count)
+    Ok(count)
 }

@@ -1,30 +1,26 @@
 -- What each call answers, from what the calls in it answered.
 -- Assumes nothing.
+use Rattle.std.specs.Prelude.{Err, None, Ok, Option, Result, Some, unwrap_or}
 use Prim.Native.Nat.{ℕ}
 use mathlib.Core.Bool.{Bool, true, false, true≢false}
 use mathlib.Core.List.{List, [], ◌∷◌}
-use mathlib.Core.Option.{Option, none, some, get_or}
 use mathlib.Core.Path.{◌≡◌, refl, sym, ap, ap₂, ◌∙◌}
 use lib.ListN.{length, replicate}
 use Rattle.text.specs.Basics.{when◌then◌else◌, ◌or_else◌, is_some}
 use Rattle.section.specs.declared.Fault.TheVariants as F
 use Rattle.section.specs.declared.Refusal.{Refusal}
-use Rattle.section.specs.declared.Written.{Written}
-use Rattle.section.specs.declared.Written.TheVariants as W
 use Rattle.section.specs.Section as S
 use Rattle.section.specs.Section.{bytes_at, over_limit}
-use Rattle.section.specs.Refusal.{Outcome, refused, answered, placeless, ◌>>=◌, at_place, lowest, ◌before◌, fitting, within_room, written_of, lent_after}
+use Rattle.section.specs.Refusal.{Outcome, placeless, ◌>>=◌, at_place, lowest, ◌before◌, fitting, within_room, written_of, lent_after}
 use Rattle.section.proofs.RefusalLaws.{fitting_same}
 use Rattle.address.specs.declared.Addr.{Addr}
 use Rattle.address.specs.declared.Addr.TheVariants as A
-use Rattle.address.specs.declared.read.AddressRead.{AddressRead}
 use Rattle.address.specs.Address.{as_read, read_address, write_address}
 use Rattle.elements.specs.declared.request.Request.{Request as Places}
 use Rattle.elements.specs.Request.{Request, well_formed, held}
 use Rattle.elements.specs.Places.{request_at}
 use Rattle.rules.specs.declared.Answer.{Answer}
 use Rattle.rules.specs.declared.Reported.{Reported}
-use Rattle.rules.specs.declared.Ruling.TheVariants as Ver
 use Rattle.rules.specs.Looked.{looked, number_of, looked_over, reported}
 use Rattle.tables.specs.Tried.{capped}
 use Rattle.tables.specs.Table.{Table, tables_of, tables_frame, match_of}
@@ -36,20 +32,17 @@ use Rattle.lines.specs.Command.{has_bad_percent}
 use Rattle.byuid.specs.declared.Decision.{Decision as ByuidDecision}
 use Rattle.byuid.specs.declared.Mark.{Mark}
 use Rattle.byuid.specs.declared.Mark.TheVariants.{Plain}
-use Rattle.byuid.specs.declared.Ruling.{Ruling as ByuidRuling}
 use Rattle.byuid.specs.Byuid as Byuid
 use Rattle.byuid.specs.Byuid.{byuid_fault, byuid_decision, decide_byuid}
 use Rattle.authbind.specs.declared.Next.{Next}
 use Rattle.authbind.specs.Authbind.{Step, asking, next_step, name_written, next_of}
 use Rattle.portacl.specs.declared.Decision.{Decision as PortaclDecision}
-use Rattle.portacl.specs.declared.Ruling.{Ruling as PortaclRuling}
 use Rattle.portacl.specs.declared.Settings.{Settings}
 use Rattle.portacl.specs.Portacl as Portacl
 use Rattle.portacl.specs.Portacl.{portacl_fault, portacl_decision, decide_portacl}
 use Rattle.sheet.specs.declared.Parts.{Parts}
 use Rattle.sheet.specs.Sheet.{unpack}
 use Rattle.matters.specs.declared.Place.{Place}
-use Rattle.matters.specs.declared.Matter.{Matter}
 use Rattle.matters.specs.Matters.{settled, matters_over, name_matters, name_matters_tables, name_matters_sheet, matter_of}
 use Rattle.station.specs.Station.{in_sheet, decide_sheet, looked_in, looked_sheet, decide_byuid_sheet, decide_portacl_sheet}
 use Rattle.codes.specs.declared.GateAddress.{GateAddress}
@@ -72,76 +65,76 @@ use Rattle.codes.proofs.AnswerLaws.{together_refused, together_kept, together_wr
 
 abbrev decided_in : List ℕ → Option Request → Parts → Outcome Answer
 decided_in sheet o p =
-    decide_over (tables_of (bytes_at sheet p.tables)) (bytes_at sheet p.allow) (bytes_at sheet p.deny) o >>= λ a. answered (in_sheet p a)
+    decide_over (tables_of (bytes_at sheet p.tables)) (bytes_at sheet p.allow) (bytes_at sheet p.deny) o >>= λ a. Ok (in_sheet p a)
 
 module _ (names : List ℕ) (q : Places) (n : RequestNumbers)
-    (same : fitting well_formed (some (request_at names q)) answered ≡ fitting well_formed (request n) answered) where
-  over_read : (ts : List Table) (allow deny : List ℕ) → decide_over ts allow deny (some (request_at names q)) ≡ decide_over ts allow deny (request n)
-  over_read ts allow deny = fitting_same well_formed (λ r. answered (search (match_of ts) allow deny (held r))) (some (request_at names q)) (request n) same
+    (same : fitting well_formed (Some (request_at names q)) Ok ≡ fitting well_formed (request n) Ok) where
+  over_read : (ts : List Table) (allow deny : List ℕ) → decide_over ts allow deny (Some (request_at names q)) ≡ decide_over ts allow deny (request n)
+  over_read ts allow deny = fitting_same well_formed (λ r. Ok (search (match_of ts) allow deny (held r))) (Some (request_at names q)) (request n) same
 
-  looked_read : (ts : List Table) (allow deny : List ℕ) → looked_over ts allow deny (some (request_at names q)) ≡ looked_over ts allow deny (request n)
+  looked_read : (ts : List Table) (allow deny : List ℕ) → looked_over ts allow deny (Some (request_at names q)) ≡ looked_over ts allow deny (request n)
   unfolding looked_over
   looked_read ts allow deny =
-      ap number_of (fitting_same well_formed (λ r. answered (capped (looked ts allow deny (held r)))) (some (request_at names q)) (request n) same)
+      ap number_of (fitting_same well_formed (λ r. Ok (capped (looked ts allow deny (held r)))) (Some (request_at names q)) (request n) same)
 
-  decide_read : (allow deny : List ℕ) → decide allow deny (some (request_at names q)) ≡ decide allow deny (request n)
+  decide_read : (allow deny : List ℕ) → decide allow deny (Some (request_at names q)) ≡ decide allow deny (request n)
   unfolding decide
   decide_read allow deny =
       ap (λ (x : Outcome Answer). (over_limit S.allow allow or_else over_limit S.deny deny or_else hosts_fault S.allow allow or_else hosts_fault S.deny deny
       or_else tables_fault allow deny []) before x) (over_read [] allow deny)
 
-  tables_read_lem : (allow deny tables : List ℕ) → decide_tables allow deny tables (some (request_at names q)) ≡ decide_tables allow deny tables (request n)
+  tables_read_lem : (allow deny tables : List ℕ) → decide_tables allow deny tables (Some (request_at names q)) ≡ decide_tables allow deny tables (request n)
   unfolding decide_tables
   tables_read_lem allow deny tables =
       ap (λ (x : Outcome Answer). (over_limit S.allow allow or_else over_limit S.deny deny or_else tables_frame tables or_else hosts_fault S.allow allow
       or_else hosts_fault S.deny deny or_else tables_fault allow deny tables) before x) (over_read (tables_of tables) allow deny)
 
   pub tables_verdict_by : (allow deny tables : List ℕ) (o : Reported) (a : GateAnswer)
-      → o ≡ reported (decide_tables allow deny tables (some (request_at names q))) (looked_over (tables_of tables) allow deny (some (request_at names q)))
+      → o ≡ reported (decide_tables allow deny tables (Some (request_at names q))) (looked_over (tables_of tables) allow deny (Some (request_at names q)))
       → a ≡ verdict_numbers o → a ≡ verdict_answer (decide_tables allow deny tables (request n)) (looked_over (tables_of tables) allow deny (request n))
   tables_verdict_by allow deny tables o a e f =
       verdict_numbers_lem _ _ o a e f ∙ ap₂ verdict_answer (tables_read_lem allow deny tables) (looked_read (tables_of tables) allow deny)
 
   pub verdict_by : (allow deny : List ℕ) (o : Reported) (a : GateAnswer)
-      → o ≡ reported (decide allow deny (some (request_at names q))) (looked_over [] allow deny (some (request_at names q)))
+      → o ≡ reported (decide allow deny (Some (request_at names q))) (looked_over [] allow deny (Some (request_at names q)))
       → a ≡ verdict_numbers o → a ≡ verdict_answer (decide allow deny (request n)) (looked_over [] allow deny (request n))
   verdict_by allow deny o a e f = verdict_numbers_lem _ _ o a e f ∙ ap₂ verdict_answer (decide_read allow deny) (looked_read [] allow deny)
 
-  sheet_read : (sheet : List ℕ) → decide_sheet sheet (some (request_at names q)) ≡ decide_sheet sheet (request n)
+  sheet_read : (sheet : List ℕ) → decide_sheet sheet (Some (request_at names q)) ≡ decide_sheet sheet (request n)
   unfolding decide_sheet
   sheet_read sheet = by (unpack sheet)
     where
-      by : (u : Outcome Parts) → (u >>= decided_in sheet (some (request_at names q))) ≡ (u >>= decided_in sheet (request n))
-      by (refused r) = refl
-      by (answered p) = ap (λ (x : Outcome Answer). x >>= λ a. answered (in_sheet p a))
+      by : (u : Outcome Parts) → (u >>= decided_in sheet (Some (request_at names q))) ≡ (u >>= decided_in sheet (request n))
+      by (Err r) = refl
+      by (Ok p) = ap (λ (x : Outcome Answer). x >>= λ a. Ok (in_sheet p a))
           (over_read (tables_of (bytes_at sheet p.tables)) (bytes_at sheet p.allow) (bytes_at sheet p.deny))
 
-  sheet_looked_read : (sheet : List ℕ) → looked_sheet sheet (some (request_at names q)) ≡ looked_sheet sheet (request n)
+  sheet_looked_read : (sheet : List ℕ) → looked_sheet sheet (Some (request_at names q)) ≡ looked_sheet sheet (request n)
   unfolding looked_sheet
   sheet_looked_read sheet = by (unpack sheet)
     where
-      by : (u : Outcome Parts) → looked_in sheet (some (request_at names q)) u ≡ looked_in sheet (request n) u
-      by (refused r) = refl
-      by (answered p) = looked_read (tables_of (bytes_at sheet p.tables)) (bytes_at sheet p.allow) (bytes_at sheet p.deny)
+      by : (u : Outcome Parts) → looked_in sheet (Some (request_at names q)) u ≡ looked_in sheet (request n) u
+      by (Err r) = refl
+      by (Ok p) = looked_read (tables_of (bytes_at sheet p.tables)) (bytes_at sheet p.allow) (bytes_at sheet p.deny)
 
   pub sheet_verdict_by : (sheet : List ℕ) (o : Reported) (a : GateAnswer)
-      → o ≡ reported (decide_sheet sheet (some (request_at names q))) (looked_sheet sheet (some (request_at names q)))
+      → o ≡ reported (decide_sheet sheet (Some (request_at names q))) (looked_sheet sheet (Some (request_at names q)))
       → a ≡ verdict_numbers o → a ≡ verdict_answer (decide_sheet sheet (request n)) (looked_sheet sheet (request n))
   sheet_verdict_by sheet o a e f = verdict_numbers_lem _ _ o a e f ∙ ap₂ verdict_answer (sheet_read sheet) (sheet_looked_read sheet)
 
-  over_matters : (ts : List Table) (allow deny : List ℕ) → matters_over ts allow deny (some (request_at names q)) ≡ matters_over ts allow deny (request n)
+  over_matters : (ts : List Table) (allow deny : List ℕ) → matters_over ts allow deny (Some (request_at names q)) ≡ matters_over ts allow deny (request n)
   over_matters ts allow deny =
-      fitting_same well_formed (λ r. answered (settled (match_of ts) allow deny (held r))) (some (request_at names q)) (request n) same
+      fitting_same well_formed (λ r. Ok (settled (match_of ts) allow deny (held r))) (Some (request_at names q)) (request n) same
 
-  pub matters_by : (allow deny : List ℕ) (m : Matter) (a : GateAnswer) → m ≡ matter_of (name_matters allow deny (some (request_at names q)))
+  pub matters_by : (allow deny : List ℕ) (m : Result (Option Place) Refusal) (a : GateAnswer) → m ≡ matter_of (name_matters allow deny (Some (request_at names q)))
       → a ≡ matter_numbers m → a ≡ matters_answer (name_matters allow deny (request n))
   unfolding name_matters
   matters_by allow deny m a e f =
       matter_numbers_lem _ m a e f
       ∙ ap₂ (λ (x : Outcome Answer) (y : Outcome (Option Place)). matters_answer (x >>= λ b. y)) (decide_read allow deny) (over_matters [] allow deny)
 
-  pub tables_matters_by : (allow deny tables : List ℕ) (m : Matter) (a : GateAnswer)
-      → m ≡ matter_of (name_matters_tables allow deny tables (some (request_at names q)))
+  pub tables_matters_by : (allow deny tables : List ℕ) (m : Result (Option Place) Refusal) (a : GateAnswer)
+      → m ≡ matter_of (name_matters_tables allow deny tables (Some (request_at names q)))
       → a ≡ matter_numbers m → a ≡ matters_answer (name_matters_tables allow deny tables (request n))
   unfolding name_matters_tables
   tables_matters_by allow deny tables m a e f =
@@ -149,7 +142,7 @@ module _ (names : List ℕ) (q : Places) (n : RequestNumbers)
       ∙ ap₂ (λ (x : Outcome Answer) (y : Outcome (Option Place)). matters_answer (x >>= λ b. y))
       (tables_read_lem allow deny tables) (over_matters (tables_of tables) allow deny)
 
-  pub sheet_matters_by : (sheet : List ℕ) (m : Matter) (a : GateAnswer) → m ≡ matter_of (name_matters_sheet sheet (some (request_at names q)))
+  pub sheet_matters_by : (sheet : List ℕ) (m : Result (Option Place) Refusal) (a : GateAnswer) → m ≡ matter_of (name_matters_sheet sheet (Some (request_at names q)))
       → a ≡ matter_numbers m → a ≡ matters_answer (name_matters_sheet sheet (request n))
   unfolding name_matters_sheet
   sheet_matters_by sheet m a e f =
@@ -157,24 +150,24 @@ module _ (names : List ℕ) (q : Places) (n : RequestNumbers)
       ∙ ap₂ (λ (x : Outcome Answer) (y : Outcome (Option Place)). matters_answer (x >>= λ b. y)) (sheet_read sheet) (by (unpack sheet))
     where
       by : (u : Outcome Parts) → (u >>= λ p. matters_over (tables_of (bytes_at sheet p.tables)) (bytes_at sheet p.allow) (bytes_at sheet p.deny)
-          (some (request_at names q)))
+          (Some (request_at names q)))
           ≡ (u >>= λ p. matters_over (tables_of (bytes_at sheet p.tables)) (bytes_at sheet p.allow) (bytes_at sheet p.deny) (request n))
-      by (refused r) = refl
-      by (answered p) = over_matters (tables_of (bytes_at sheet p.tables)) (bytes_at sheet p.allow) (bytes_at sheet p.deny)
+      by (Err r) = refl
+      by (Ok p) = over_matters (tables_of (bytes_at sheet p.tables)) (bytes_at sheet p.allow) (bytes_at sheet p.deny)
 
   module _ (command out : List ℕ) (process : ℕ) where
-    expand_read : expand command (some (request_at names q)) process (length out) ≡ expand command (request n) process (length out)
+    expand_read : expand command (Some (request_at names q)) process (length out) ≡ expand command (request n) process (length out)
     unfolding expand
     expand_read =
         ap (λ (x : Outcome (List ℕ)). at_place 0 0
         (lowest ((F.BadByte, has_bad_byte (join command)) ∷ (F.LongLine, is_too_long (join command)) ∷ (F.BadPercent, has_bad_percent command) ∷ [])) before x)
-        (fitting_same well_formed (λ r. within_room (length out) (expansion (held r) process command)) (some (request_at names q)) (request n) same)
+        (fitting_same well_formed (λ r. within_room (length out) (expansion (held r) process command)) (Some (request_at names q)) (request n) same)
 
-    pub expand_answer : (w : Written) (a : GateWritten) → w ≡ written_of (expand command (some (request_at names q)) process (length out))
+    pub expand_answer : (w : Result ℕ Refusal) (a : GateWritten) → w ≡ written_of (expand command (Some (request_at names q)) process (length out))
         → a ≡ written_numbers w → a ≡ written_answer (expand command (request n) process (length out))
     expand_answer w a e f = written_numbers_lem _ w a e f ∙ ap written_answer expand_read
 
-    pub expand_holds : (out' : List ℕ) → out' ≡ lent_after out (expand command (some (request_at names q)) process (length out))
+    pub expand_holds : (out' : List ℕ) → out' ≡ lent_after out (expand command (Some (request_at names q)) process (length out))
         → out' ≡ lent_after out (expand command (request n) process (length out))
     expand_holds out' e = e ∙ ap (lent_after out) expand_read
 
@@ -187,83 +180,83 @@ module _ (names : List ℕ) (q : Places) (n : RequestNumbers)
     commanded : Outcome Command
     commanded = together d (λ a. expand (raw a) (request n) process (length out))
 
-    refusal_answer_lem : (g : Refusal) → x.ruling ≡ Ver.Refused g → (a : GateCommand) → a ≡ with_count (refusal_answer g) 0 → a ≡ command_answer commanded k
+    refusal_answer_lem : (g : Refusal) → x.ruling ≡ Err g → (a : GateCommand) → a ≡ with_count (refusal_answer g) 0 → a ≡ command_answer commanded k
     unfolding commanded
     refusal_answer_lem g e a f = f ∙ together_refused out d k (λ a. expand (raw a) (request n) process (length out)) g (sym ruling_is ∙ e)
 
-    refusal_kept : (g : Refusal) → x.ruling ≡ Ver.Refused g → out ≡ lent_after out (commanded >>= λ c. answered c.text)
+    refusal_kept : (g : Refusal) → x.ruling ≡ Err g → out ≡ lent_after out (commanded >>= λ c. Ok c.text)
     unfolding commanded
     refusal_kept g e = together_kept out d k (λ a. expand (raw a) (request n) process (length out)) g (sym ruling_is ∙ e)
 
-    module _ (b : Answer) (e : x.ruling ≡ Ver.Answered b) (c : List ℕ) (is_c : c ≡ raw b) where
-      expand_raw : expand c (some (request_at names q)) process (length out) ≡ expand (raw b) (request n) process (length out)
+    module _ (b : Answer) (e : x.ruling ≡ Ok b) (c : List ℕ) (is_c : c ≡ raw b) where
+      expand_raw : expand c (Some (request_at names q)) process (length out) ≡ expand (raw b) (request n) process (length out)
       expand_raw = expand_read c out process ∙ ap (λ (s : List ℕ). expand s (request n) process (length out)) is_c
 
-      written_answer_lem : (w : Written) → w ≡ written_of (expand c (some (request_at names q)) process (length out))
+      written_answer_lem : (w : Result ℕ Refusal) → w ≡ written_of (expand c (Some (request_at names q)) process (length out))
           → (a : GateCommand) → a ≡ command_written b x.looked w → a ≡ command_answer commanded k
       unfolding commanded
       written_answer_lem w is-w a f =
           f ∙ ap (λ (y : Reported). command_written b y.looked w) is_x
           ∙ together_written out d k (λ a. expand (raw a) (request n) process (length out)) b (sym ruling_is ∙ e) w (is-w ∙ ap written_of expand_raw)
 
-      written_holds : (o : List ℕ) → o ≡ lent_after out (expand c (some (request_at names q)) process (length out))
-          → o ≡ lent_after out (commanded >>= λ c. answered c.text)
+      written_holds : (o : List ℕ) → o ≡ lent_after out (expand c (Some (request_at names q)) process (length out))
+          → o ≡ lent_after out (commanded >>= λ c. Ok c.text)
       unfolding commanded
       written_holds o f = f ∙ ap (lent_after out) expand_raw ∙ together_holds out d k (λ a. expand (raw a) (request n) process (length out)) b
           (sym ruling_is ∙ e)
 
   module _ (allow deny out : List ℕ) (process : ℕ) (x : Reported)
-      (is_x : x ≡ reported (decide allow deny (some (request_at names q))) (looked_over [] allow deny (some (request_at names q))))
+      (is_x : x ≡ reported (decide allow deny (Some (request_at names q))) (looked_over [] allow deny (Some (request_at names q))))
     where
       by_texts_lem : x ≡ reported (decide allow deny (request n)) (looked_over [] allow deny (request n))
       by_texts_lem = is_x ∙ ap₂ reported (decide_read allow deny) (looked_read [] allow deny)
 
-      pub command_refused : (g : Refusal) → x.ruling ≡ Ver.Refused g → (a : GateCommand) → a ≡ with_count (refusal_answer g) 0 → a
+      pub command_refused : (g : Refusal) → x.ruling ≡ Err g → (a : GateCommand) → a ≡ with_count (refusal_answer g) 0 → a
           ≡ (gate_command allow deny n process out).answer
       unfolding commanded
       command_refused = refusal_answer_lem (decide allow deny (request n)) (looked_over [] allow deny (request n)) (command_bytes allow deny) out process x by_texts_lem
 
-      pub command_kept : (g : Refusal) → x.ruling ≡ Ver.Refused g → out ≡ (gate_command allow deny n process out).out
+      pub command_kept : (g : Refusal) → x.ruling ≡ Err g → out ≡ (gate_command allow deny n process out).out
       unfolding commanded
       command_kept = refusal_kept (decide allow deny (request n)) (looked_over [] allow deny (request n)) (command_bytes allow deny) out process x by_texts_lem
 
-      module _ (b : Answer) (e : x.ruling ≡ Ver.Answered b) (c : List ℕ) (is_c : c ≡ command_bytes allow deny b) where
-        pub command_answer_lem : (w : Written) → w ≡ written_of (expand c (some (request_at names q)) process (length out))
+      module _ (b : Answer) (e : x.ruling ≡ Ok b) (c : List ℕ) (is_c : c ≡ command_bytes allow deny b) where
+        pub command_answer_lem : (w : Result ℕ Refusal) → w ≡ written_of (expand c (Some (request_at names q)) process (length out))
             → (a : GateCommand) → a ≡ command_written b x.looked w → a ≡ (gate_command allow deny n process out).answer
         unfolding commanded
         command_answer_lem = written_answer_lem (decide allow deny (request n)) (looked_over [] allow deny (request n))
             (command_bytes allow deny) out process x by_texts_lem b e c is_c
 
-        pub command_holds : (o : List ℕ) → o ≡ lent_after out (expand c (some (request_at names q)) process (length out)) → o
+        pub command_holds : (o : List ℕ) → o ≡ lent_after out (expand c (Some (request_at names q)) process (length out)) → o
             ≡ (gate_command allow deny n process out).out
         unfolding commanded
         command_holds = written_holds (decide allow deny (request n)) (looked_over [] allow deny (request n))
             (command_bytes allow deny) out process x by_texts_lem b e c is_c
 
   module _ (sheet out : List ℕ) (process : ℕ) (x : Reported)
-      (is_x : x ≡ reported (decide_sheet sheet (some (request_at names q))) (looked_sheet sheet (some (request_at names q))))
+      (is_x : x ≡ reported (decide_sheet sheet (Some (request_at names q))) (looked_sheet sheet (Some (request_at names q))))
     where
       by_sheet_lem : x ≡ reported (decide_sheet sheet (request n)) (looked_sheet sheet (request n))
       by_sheet_lem = is_x ∙ ap₂ reported (sheet_read sheet) (sheet_looked_read sheet)
 
-      pub sheet_command_refused : (g : Refusal) → x.ruling ≡ Ver.Refused g → (a : GateCommand) → a ≡ with_count (refusal_answer g) 0 → a
+      pub sheet_command_refused : (g : Refusal) → x.ruling ≡ Err g → (a : GateCommand) → a ≡ with_count (refusal_answer g) 0 → a
           ≡ (gate_sheet_command sheet n process out).answer
       unfolding commanded
       sheet_command_refused = refusal_answer_lem (decide_sheet sheet (request n)) (looked_sheet sheet (request n))
           (λ a. bytes_at sheet a.command) out process x by_sheet_lem
 
-      pub sheet_command_kept : (g : Refusal) → x.ruling ≡ Ver.Refused g → out ≡ (gate_sheet_command sheet n process out).out
+      pub sheet_command_kept : (g : Refusal) → x.ruling ≡ Err g → out ≡ (gate_sheet_command sheet n process out).out
       unfolding commanded
       sheet_command_kept = refusal_kept (decide_sheet sheet (request n)) (looked_sheet sheet (request n)) (λ a. bytes_at sheet a.command) out process x by_sheet_lem
 
-      module _ (b : Answer) (e : x.ruling ≡ Ver.Answered b) (c : List ℕ) (is_c : c ≡ bytes_at sheet b.command) where
-        pub sheet_command_answer : (w : Written) → w ≡ written_of (expand c (some (request_at names q)) process (length out))
+      module _ (b : Answer) (e : x.ruling ≡ Ok b) (c : List ℕ) (is_c : c ≡ bytes_at sheet b.command) where
+        pub sheet_command_answer : (w : Result ℕ Refusal) → w ≡ written_of (expand c (Some (request_at names q)) process (length out))
             → (a : GateCommand) → a ≡ command_written b x.looked w → a ≡ (gate_sheet_command sheet n process out).answer
         unfolding commanded
         sheet_command_answer = written_answer_lem (decide_sheet sheet (request n)) (looked_sheet sheet (request n))
             (λ a. bytes_at sheet a.command) out process x by_sheet_lem b e c is_c
 
-        pub sheet_command_holds : (o : List ℕ) → o ≡ lent_after out (expand c (some (request_at names q)) process (length out))
+        pub sheet_command_holds : (o : List ℕ) → o ≡ lent_after out (expand c (Some (request_at names q)) process (length out))
             → o ≡ (gate_sheet_command sheet n process out).out
         unfolding commanded
         sheet_command_holds = written_holds (decide_sheet sheet (request n)) (looked_sheet sheet (request n))
@@ -272,71 +265,71 @@ module _ (names : List ℕ) (q : Places) (n : RequestNumbers)
 -- ## The port decisions
 
 abbrev decided_by : List ℕ → Byuid.FileBind → Outcome ByuidDecision
-decided_by text b = answered (byuid_decision text b.mark b.asked.port b.asked.address b.asked.uid)
+decided_by text b = Ok (byuid_decision text b.mark b.asked.port b.asked.address b.asked.uid)
 
 module _ (mark port kind high low uid : ℕ) (m : Mark) (is_m : m ≡ mark_by mark) (p : ℕ) (is-p : p ≡ port_by port)
-    (b : Addr) (is_b : b ≡ address_from mark port kind high low) (o : ByuidRuling) (a : GateAnswer) (text : List ℕ) where
-  file_bind_read : decide_byuid text (some (Byuid.file_bind m (Byuid.bind p b uid))) ≡ decide_byuid text (byuid_file_bind mark port kind high low uid)
+    (b : Addr) (is_b : b ≡ address_from mark port kind high low) (o : Result Decision Refusal) (a : GateAnswer) (text : List ℕ) where
+  file_bind_read : decide_byuid text (Some (Byuid.file_bind m (Byuid.bind p b uid))) ≡ decide_byuid text (byuid_file_bind mark port kind high low uid)
   unfolding decide_byuid
   file_bind_read =
       ap (λ (x : Outcome ByuidDecision). (over_limit S.byuid text or_else byuid_fault text) before x)
       (byuid_file_read port kind high low uid p is-p (decided_by text) mark m is_m b is_b)
 
-  pub byuid_by : o ≡ Byuid.byuid_ruling (decide_byuid text (some (Byuid.file_bind m (Byuid.bind p b uid)))) → a ≡ byuid_numbers o
+  pub byuid_by : o ≡ Byuid.byuid_ruling (decide_byuid text (Some (Byuid.file_bind m (Byuid.bind p b uid)))) → a ≡ byuid_numbers o
       → a ≡ byuid_answer (decide_byuid text (byuid_file_bind mark port kind high low uid))
   byuid_by e f = byuid_numbers_lem _ o a e f ∙ ap byuid_answer file_bind_read
 
-module _ (port kind high low uid p : ℕ) (b : Addr) (is-p : p ≡ port_by port) (is_b : b ≡ address_by port kind high low) (o : ByuidRuling) (a : GateAnswer) where
+module _ (port kind high low uid p : ℕ) (b : Addr) (is-p : p ≡ port_by port) (is_b : b ≡ address_by port kind high low) (o : Result Decision Refusal) (a : GateAnswer) where
   bind_read : (text : List ℕ)
-      → decide_byuid text (Byuid.from_file Plain (some (Byuid.bind p b uid))) ≡ decide_byuid text (Byuid.from_file Plain (byuid_bind port kind high low uid))
+      → decide_byuid text (Byuid.from_file Plain (Some (Byuid.bind p b uid))) ≡ decide_byuid text (Byuid.from_file Plain (byuid_bind port kind high low uid))
   unfolding decide_byuid
   bind_read text =
       ap (λ (x : Outcome ByuidDecision). (over_limit S.byuid text or_else byuid_fault text) before x)
       (byuid_read port kind high low uid p is-p (decided_by text) Plain b is_b)
 
-  sheet_bind_read : (sheet : List ℕ) → decide_byuid_sheet sheet (some (Byuid.bind p b uid)) ≡ decide_byuid_sheet sheet (byuid_bind port kind high low uid)
+  sheet_bind_read : (sheet : List ℕ) → decide_byuid_sheet sheet (Some (Byuid.bind p b uid)) ≡ decide_byuid_sheet sheet (byuid_bind port kind high low uid)
   unfolding decide_byuid_sheet
   sheet_bind_read sheet = by (unpack sheet)
     where
-      by : (u : Outcome Parts) → (u >>= λ x. decide_byuid (bytes_at sheet x.byuid) (Byuid.from_file Plain (some (Byuid.bind p b uid))))
+      by : (u : Outcome Parts) → (u >>= λ x. decide_byuid (bytes_at sheet x.byuid) (Byuid.from_file Plain (Some (Byuid.bind p b uid))))
           ≡ (u >>= λ x. decide_byuid (bytes_at sheet x.byuid) (Byuid.from_file Plain (byuid_bind port kind high low uid)))
-      by (refused r) = refl
-      by (answered x) = bind_read (bytes_at sheet x.byuid)
+      by (Err r) = refl
+      by (Ok x) = bind_read (bytes_at sheet x.byuid)
 
-  pub sheet_byuid_by : (sheet : List ℕ) → o ≡ Byuid.byuid_ruling (decide_byuid_sheet sheet (some (Byuid.bind p b uid))) → a ≡ byuid_numbers o
+  pub sheet_byuid_by : (sheet : List ℕ) → o ≡ Byuid.byuid_ruling (decide_byuid_sheet sheet (Some (Byuid.bind p b uid))) → a ≡ byuid_numbers o
       → a ≡ byuid_answer (decide_byuid_sheet sheet (byuid_bind port kind high low uid))
   sheet_byuid_by sheet e f = byuid_numbers_lem _ o a e f ∙ ap byuid_answer (sheet_bind_read sheet)
 
 module _ (uid protocol port : ℕ) (s : Settings) (groups groups' : List ℕ) (x : Target)
-    (is_x : x ≡ target_of protocol port) (is-groups : groups' ≡ (when x.fit then groups else replicate 17 0)) (o : PortaclRuling) (a : GateAnswer) where
-  entry_read : (text : List ℕ) → decide_portacl text s (some (Portacl.bind uid groups' x.protocol x.port))
+    (is_x : x ≡ target_of protocol port) (is-groups : groups' ≡ (when x.fit then groups else replicate 17 0)) (o : Result Decision Refusal) (a : GateAnswer) where
+  entry_read : (text : List ℕ) → decide_portacl text s (Some (Portacl.bind uid groups' x.protocol x.port))
       ≡ decide_portacl text s (portacl_bind uid groups protocol port)
   unfolding decide_portacl
   entry_read text =
       ap (λ (y : Outcome PortaclDecision). (over_limit S.portacl text or_else portacl_fault text) before y)
-      (portacl_read uid protocol port groups groups' x is_x is-groups (λ b. answered (portacl_decision text s b)))
+      (portacl_read uid protocol port groups groups' x is_x is-groups (λ b. Ok (portacl_decision text s b)))
 
-  pub portacl_by : (text : List ℕ) → o ≡ Portacl.portacl_ruling (decide_portacl text s (some (Portacl.bind uid groups' x.protocol x.port)))
+  pub portacl_by : (text : List ℕ) → o ≡ Portacl.portacl_ruling (decide_portacl text s (Some (Portacl.bind uid groups' x.protocol x.port)))
       → a ≡ portacl_numbers o → a ≡ portacl_answer (decide_portacl text s (portacl_bind uid groups protocol port))
   portacl_by text e f = portacl_numbers_lem _ o a e f ∙ ap portacl_answer (entry_read text)
 
   sheet_entry_read : (sheet : List ℕ)
-      → decide_portacl_sheet sheet s (some (Portacl.bind uid groups' x.protocol x.port)) ≡ decide_portacl_sheet sheet s (portacl_bind uid groups protocol port)
+      → decide_portacl_sheet sheet s (Some (Portacl.bind uid groups' x.protocol x.port)) ≡ decide_portacl_sheet sheet s (portacl_bind uid groups protocol port)
   unfolding decide_portacl_sheet
   sheet_entry_read sheet = by (unpack sheet)
     where
-      by : (u : Outcome Parts) → (u >>= λ y. decide_portacl (bytes_at sheet y.portacl) s (some (Portacl.bind uid groups' x.protocol x.port)))
+      by : (u : Outcome Parts) → (u >>= λ y. decide_portacl (bytes_at sheet y.portacl) s (Some (Portacl.bind uid groups' x.protocol x.port)))
           ≡ (u >>= λ y. decide_portacl (bytes_at sheet y.portacl) s (portacl_bind uid groups protocol port))
-      by (refused r) = refl
-      by (answered y) = entry_read (bytes_at sheet y.portacl)
+      by (Err r) = refl
+      by (Ok y) = entry_read (bytes_at sheet y.portacl)
 
-  pub sheet_portacl_by : (sheet : List ℕ) → o ≡ Portacl.portacl_ruling (decide_portacl_sheet sheet s (some (Portacl.bind uid groups' x.protocol x.port)))
+  pub sheet_portacl_by : (sheet : List ℕ) → o ≡ Portacl.portacl_ruling (decide_portacl_sheet sheet s (Some (Portacl.bind uid groups' x.protocol x.port)))
       → a ≡ portacl_numbers o → a ≡ portacl_answer (decide_portacl_sheet sheet s (portacl_bind uid groups protocol port))
   sheet_portacl_by sheet e f = portacl_numbers_lem _ o a e f ∙ ap portacl_answer (sheet_entry_read sheet)
 
 -- ## Addresses
 
-pub read_by : (text : List ℕ) (x : AddressRead) (a : GateAddress) → x ≡ as_read (read_address text) → a ≡ read_numbers x → a ≡ address_answer (read_address text)
+pub read_by : (text : List ℕ) (x : Result Addr Refusal) (a : GateAddress) → x ≡ as_read (read_address text) → a ≡ read_numbers x → a ≡ address_answer (read_address text)
 read_by text x a e f = read_numbers_lem _ x a e f
 
 module _ (kind high low : ℕ) (out : List ℕ) (b : Bool) (is_b : b ≡ is_some (address_of kind high low)) where
@@ -344,27 +337,27 @@ module _ (kind high low : ℕ) (out : List ℕ) (b : Bool) (is_b : b ≡ is_some
   unfolding write_by
   write_known e x f = by (address_of kind high low) (sym is_b ∙ e) f
     where
-      by : (o : Option Addr) → is_some o ≡ true → x ≡ get_or o A.Unknown → write_address x (length out)
+      by : (o : Option Addr) → is_some o ≡ true → x ≡ unwrap_or o A.Unknown → write_address x (length out)
           ≡ fitting (λ a. true) o (λ a. write_address a (length out))
-      by none k g = absurd (true≢false (sym k))
-      by (some y) k g = ap (λ (z : Addr). write_address z (length out)) g
+      by None k g = absurd (true≢false (sym k))
+      by (Some y) k g = ap (λ (z : Addr). write_address z (length out)) g
 
-  write_unknown : b ≡ false → (r : Refusal) → r ≡ placeless F.BadRequest → refused r ≡ write_by kind high low (length out)
+  write_unknown : b ≡ false → (r : Refusal) → r ≡ placeless F.BadRequest → Err r ≡ write_by kind high low (length out)
   unfolding write_by
   write_unknown e r f = by (address_of kind high low) (sym is_b ∙ e)
     where
-      by : (o : Option Addr) → is_some o ≡ false → refused r ≡ fitting (λ a. true) o (λ a. write_address a (length out))
-      by none k = ap refused f
-      by (some y) k = absurd (true≢false k)
+      by : (o : Option Addr) → is_some o ≡ false → Err r ≡ fitting (λ a. true) o (λ a. write_address a (length out))
+      by None k = ap Err f
+      by (Some y) k = absurd (true≢false k)
 
-  module _ (w : Written) (a : GateWritten) (is-a : a ≡ written_numbers w) where
+  module _ (w : Result ℕ Refusal) (a : GateWritten) (is-a : a ≡ written_numbers w) where
     pub write_answer : b ≡ true → (x : Addr) → x ≡ addr_by kind high low → w ≡ written_of (write_address x (length out))
         → a ≡ written_answer (write_by kind high low (length out))
     write_answer e x f g = written_numbers_lem _ w a g is-a ∙ ap written_answer (write_known e x f)
 
-    pub write_refusal : b ≡ false → (r : Refusal) → r ≡ placeless F.BadRequest → w ≡ W.Refused r
+    pub write_refusal : b ≡ false → (r : Refusal) → r ≡ placeless F.BadRequest → w ≡ Err r
         → a ≡ written_answer (write_by kind high low (length out))
-    write_refusal e r f g = written_numbers_lem (refused r) w a g is-a ∙ ap written_answer (write_unknown e r f)
+    write_refusal e r f g = written_numbers_lem (Err r) w a g is-a ∙ ap written_answer (write_unknown e r f)
 
   pub write_holds : b ≡ true → (x : Addr) → x ≡ addr_by kind high low → (out' : List ℕ) → out' ≡ lent_after out (write_address x (length out))
       → out' ≡ lent_after out (write_by kind high low (length out))

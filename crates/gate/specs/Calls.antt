@@ -2,8 +2,8 @@
 --   wrote out o, wrote_command out o k, wrote_next out o, wrote_two out other o == what a call with the outcome o answers, and what the lent
 --     outputs hold afterwards; k: how many elements were looked at
 -- Assumes nothing: these are definitions.
-use Rattle.std.specs.Prelude.{ℕ, List, [], length}
-use Rattle.section.specs.Refusal.{Outcome, answered, ◌>>=◌, lent_after, first_after, second_after}
+use Rattle.std.specs.Prelude.{ℕ, List, [], length, Ok}
+use Rattle.section.specs.Refusal.{Outcome, ◌>>=◌, lent_after, first_after, second_after}
 use Rattle.section.specs.Section.{bytes_at}
 use Rattle.address.specs.Address.{read_address}
 use Rattle.tables.specs.Table.{tables_of}
@@ -124,7 +124,7 @@ pub record WroteCommand : Type 0 where
   pub out : List ℕ
 
 abbrev pub wrote_command : List ℕ → Outcome Command → ℕ → WroteCommand
-wrote_command out o k = record { answer = command_answer o k; out = lent_after out (o >>= λ c. answered c.text) }
+wrote_command out o k = record { answer = command_answer o k; out = lent_after out (o >>= λ c. Ok c.text) }
 
 abbrev pub gate_command : List ℕ → List ℕ → RequestNumbers → ℕ → List ℕ → WroteCommand
 gate_command allow deny n process out =

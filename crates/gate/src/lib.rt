@@ -30,8 +30,7 @@ use codes::{
     GateWrittenTwo,
 };
 use portacl::Settings;
-use rules::Ruling;
-use section::{Fault, Written};
+use section::Fault;
 
 // The verdict by two texts.
 #[unsafe(no_mangle)]
@@ -431,8 +430,8 @@ pub extern "C" fn gate_command<'a>(
     let report = rules::decide(allow, deny, &names, request);
     let ruling = report.ruling;
     match ruling {
-        Ruling::Refused(refusal) => codes::answer::no_command(refusal),
-        Ruling::Answered(answer) => codes::answer::command_numbers(
+        Err(refusal) => codes::answer::no_command(refusal),
+        Ok(answer) => codes::answer::command_numbers(
             answer,
             report.looked,
             expansion::expand(
@@ -497,8 +496,8 @@ pub extern "C" fn gate_sheet_command(
     let report = station::decide(sheet, &names, request);
     let ruling = report.ruling;
     match ruling {
-        Ruling::Refused(refusal) => codes::answer::no_command(refusal),
-        Ruling::Answered(answer) => codes::answer::command_numbers(
+        Err(refusal) => codes::answer::no_command(refusal),
+        Ok(answer) => codes::answer::command_numbers(
             answer,
             report.looked,
             expansion::expand(
@@ -530,7 +529,7 @@ pub extern "C" fn gate_write_address(out: &mut [u8], kind: u32, high: u64, low: 
         let a = codes::request::address(kind, high, low);
         return codes::answer::written_numbers(address_format::write_address(out, a));
     }
-    codes::answer::written_numbers(Written::Refused(section::placeless(Fault::BadRequest)))
+    codes::answer::written_numbers(Err(section::placeless(Fault::BadRequest)))
 }
 
 // Which file authbind looks at next for a bind, after the answers of the access tests so far, or the outcome. A name is written at the front of

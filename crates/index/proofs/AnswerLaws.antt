@@ -2,10 +2,10 @@
 --   answer_fits, answer_unfit == the answer to one request is its lone answer
 --   Answering     == the loop that writes them
 -- Assumes nothing.
+use Rattle.std.specs.Prelude.{None, Ok, Option, Some}
 use Prim.Native.Nat.{ℕ, zero, suc, ◌+◌, ◌-◌, ◌*◌, ◌/◌, ◌%◌, ◌≤◌, ◌<◌}
 use mathlib.Core.Bool.{Bool, true, false, ◌&&◌, true≢false}
 use mathlib.Core.List.{List, [], ◌∷◌, ◌++◌, append-nil, append_assoc}
-use mathlib.Core.Option.{Option, none, some}
 use mathlib.Core.Path.{◌≡◌, refl, sym, ap, ap₂, ◌∙◌}
 use native.Mathlib.Omega.{arith}
 use lib.ListN.{length, take, drop, length-append}
@@ -19,7 +19,7 @@ use Rattle.text.proofs.ScanLaws.{take_rest}
 use Rattle.section.specs.declared.Fault.TheVariants as F
 use Rattle.section.specs.declared.Part.{Part}
 use Rattle.section.specs.declared.Refusal.{Refusal}
-use Rattle.section.specs.Refusal.{Outcome, refused, answered, ◌>>=◌, placeless, fitting}
+use Rattle.section.specs.Refusal.{Outcome, ◌>>=◌, placeless, fitting}
 use Rattle.section.specs.Section.{part, bytes_at}
 use Rattle.patterns.specs.declared.Name.{Name}
 use Rattle.patterns.specs.declared.Name.TheVariants as N
@@ -51,8 +51,6 @@ use Rattle.codes.specs.Answers.{refusal_answer, answer_numbers, verdict_answer}
 use Rattle.codes.specs.Code.{states_of, with_names, verdict_numbers}
 use Rattle.codes.proofs.RequestLaws.{request_taken}
 use Rattle.index.specs.declared.requests.Fields.{Fields}
-use Rattle.index.specs.declared.requests.RequestRead.{RequestRead}
-use Rattle.index.specs.declared.requests.RequestRead.TheVariants as R
 use Rattle.index.specs.Index.{two_bytes, answer_bytes, lone_answer, answers_to, parted, read_requests}
 use Rattle.index.specs.Code.{searched_at, fields_at, request_read_of, numbers_in, known_part, user_part, named_at, found_numbers, unfit_numbers, Ready, all_answers}
 use Rattle.index.specs.Code.{Fitting}
@@ -199,14 +197,14 @@ named_request names x f =
     rw (known_part_lem names x.client.name f.client.name, known_part_lem names x.server.name f.server.name, user_part_lem names x.user f.user_name)
 
 -- a request that fits, alone
-lone_found : (sheet : List ℕ) (p : Parts) → unpack sheet ≡ answered p → (r : Request) → well_formed r ≡ true
-    → verdict_answer (decide_sheet sheet (some r)) (looked_sheet sheet (some r))
+lone_found : (sheet : List ℕ) (p : Parts) → unpack sheet ≡ Ok p → (r : Request) → well_formed r ≡ true
+    → verdict_answer (decide_sheet sheet (Some r)) (looked_sheet sheet (Some r))
     ≡ verdict_numbers (refusing_request true (searched_at sheet p (held r)).answer (searched_at sheet p (held r)).looked)
 unfolding decide_sheet looked_sheet looked_over verdict_answer verdict_numbers searched_at
 lone_found sheet p ok r w = rw (ok, w)
 
 -- one that does not
-lone_refused : (sheet : List ℕ) (p : Parts) → unpack sheet ≡ answered p → (c : Bool) (r : Request) → (c && well_formed r) ≡ false
+lone_refused : (sheet : List ℕ) (p : Parts) → unpack sheet ≡ Ok p → (c : Bool) (r : Request) → (c && well_formed r) ≡ false
     → verdict_answer (decide_sheet sheet (given c r)) (looked_sheet sheet (given c r)) ≡ verdict_numbers (refused_report (placeless F.BadRequest))
 unfolding decide_sheet looked_sheet verdict_answer verdict_numbers
 lone_refused sheet p ok false r w = rw ok
@@ -223,7 +221,7 @@ unfit_numbers_lem g is-g r is-r a is-a = is-a ∙ ap verdict_numbers (is-r ∙ a
 
 module _ (sheet : List ℕ) (p : Parts) (allow deny : List ℕ) (ready : Ready sheet p allow deny) (names : List ℕ) (f : Fields) (x : States)
     (is_x : x ≡ states_of f.client.numbers f.server.numbers f.user) (q : Places) (is-q : q ≡ named_at x f) (h : Places) (is-h : h ≡ held_at q) where
-  ok : unpack sheet ≡ answered p
+  ok : unpack sheet ≡ Ok p
   ok = ready.accepted
 
   abbrev own : Request
@@ -253,9 +251,9 @@ module _ (sheet : List ℕ) (p : Parts) (allow deny : List ℕ) (ready : Ready s
     pub answer_fits : (x.fit && b) ≡ true → (a : GateAnswer) → a ≡ found_numbers (searched_at sheet p (request_at names h)) → a ≡ lone
     answer_fits e a is-a =
         let both = and_true x.fit b e in
-        let s : request (numbers_in names f) ≡ some own = asked ∙ ap (λ (c : Bool). given c own) both.0 in
+        let s : request (numbers_in names f) ≡ Some own = asked ∙ ap (λ (c : Bool). given c own) both.0 in
         is-a ∙ ap (λ (r : Request). found_numbers (searched_at sheet p r)) held_own
-        ∙ sym (lone_of (some own) s ∙ lone_found sheet p ok own (sym fits_own ∙ both.1))
+        ∙ sym (lone_of (Some own) s ∙ lone_found sheet p ok own (sym fits_own ∙ both.1))
 
     pub answer_unfit : (x.fit && b) ≡ false → (a : GateAnswer) → a ≡ unfit_numbers → a ≡ lone
     answer_unfit e a is-a =
@@ -269,17 +267,17 @@ length_answers sheet [] = refl
 length_answers sheet (n ∷ ns) =
     length-append (answer_bytes (lone_answer sheet n)) (answers_to sheet ns) ∙ rw (length_answer (lone_answer sheet n), length_answers sheet ns) (omega arith)
 
-then_some : (n : RequestNumbers) (o : Option (List RequestNumbers)) (ns : List RequestNumbers) → and_then n o ≡ some ns
-    → (ms : List RequestNumbers) × ((o ≡ some ms) × (ns ≡ n ∷ ms))
-then_some n none ns e = let z : ◌≡◌ {A = ℕ} 0 1 = cc in absurd (omega arith)
-then_some n (some ms) ns e = (ms, (refl, cc))
+then_some : (n : RequestNumbers) (o : Option (List RequestNumbers)) (ns : List RequestNumbers) → and_then n o ≡ Some ns
+    → (ms : List RequestNumbers) × ((o ≡ Some ms) × (ns ≡ n ∷ ms))
+then_some n None ns e = let z : ◌≡◌ {A = ℕ} 0 1 = cc in absurd (omega arith)
+then_some n (Some ms) ns e = (ms, (refl, cc))
 
 -- the answers to the requests before rest stand at the front of o, and end at next
 pub record Answering (sheet : List ℕ) (all : Option (List RequestNumbers)) (d o : List ℕ) (next : ℕ) (rest : List ℕ) : Type 0 where
   pub left : List RequestNumbers
   pub most : ℕ
   pub done : List ℕ
-  pub parts_left : parted most rest ≡ some left
+  pub parts_left : parted most rest ≡ Some left
   pub whole : all_answers sheet all ≡ done ++ answers_to sheet left
   pub text : o ≡ after done d
   pub place : next ≡ length done
@@ -314,27 +312,27 @@ module _ (sheet : List ℕ) (all : Option (List RequestNumbers)) (d o : List ℕ
   pub answering_text : length rest ≤ 0 → o ≡ after (all_answers sheet all) d
   answering_text h = w.text ∙ ap (λ (s : List ℕ). after s d) (sym (all_done h))
 
-  module _ (h : 0 < length rest) (x : RequestRead) (is_x : x ≡ request_read_of (fields_at rest)) where
-    no_cut : x ≡ R.Cut → ⊥
+  module _ (h : 0 < length rest) (x : Option Fields) (is_x : x ≡ request_read_of (fields_at rest)) where
+    no_cut : x ≡ None → ⊥
     no_cut e = by w.most w.parts_left
       where
-        by : (k : ℕ) → parted k rest ≡ some w.left → ⊥
+        by : (k : ℕ) → parted k rest ≡ Some w.left → ⊥
         by zero k = let z : ◌≡◌ {A = ℕ} 0 1 = cc (sym (parted_none rest h) ∙ k) in omega arith
         by (suc j) k = let z : ◌≡◌ {A = ℕ} 0 1 = cc (sym (parted_cut rest h j x is_x e) ∙ k) in omega arith
 
-    pub answering_cut : x ≡ R.Cut → next ≡ length (all_answers sheet all)
+    pub answering_cut : x ≡ None → next ≡ length (all_answers sheet all)
     answering_cut e = absurd (no_cut e)
 
-    pub answering_cut_text : x ≡ R.Cut → o ≡ after (all_answers sheet all) d
+    pub answering_cut_text : x ≡ None → o ≡ after (all_answers sheet all) d
     answering_cut_text e = absurd (no_cut e)
 
-    module _ (f : Fields) (e : x ≡ R.Request f) where
+    module _ (f : Fields) (e : x ≡ Some f) where
       -- the requests after this one
-      following : (k : ℕ) × ((ms : List RequestNumbers) × ((parted k (drop f.end rest) ≡ some ms) × (w.left ≡ numbers_in rest f ∷ ms)))
+      following : (k : ℕ) × ((ms : List RequestNumbers) × ((parted k (drop f.end rest) ≡ Some ms) × (w.left ≡ numbers_in rest f ∷ ms)))
       following = by w.most w.parts_left
         where
-          by : (k : ℕ) → parted k rest ≡ some w.left
-              → (k : ℕ) × ((ms : List RequestNumbers) × ((parted k (drop f.end rest) ≡ some ms) × (w.left ≡ numbers_in rest f ∷ ms)))
+          by : (k : ℕ) → parted k rest ≡ Some w.left
+              → (k : ℕ) × ((ms : List RequestNumbers) × ((parted k (drop f.end rest) ≡ Some ms) × (w.left ≡ numbers_in rest f ∷ ms)))
           by zero k = let z : ◌≡◌ {A = ℕ} 0 1 = cc (sym (parted_none rest h) ∙ k) in absurd (omega arith)
           by (suc j) k =
               let t = then_some (numbers_in rest f) (parted j (drop f.end rest)) w.left (sym (parted_more rest h j x is_x f e) ∙ k) in

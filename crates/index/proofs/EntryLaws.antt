@@ -3,10 +3,10 @@
 --   Seeks         == the loop over the entries
 --   finds_no, finds_ask, finds_yes == what a rule finds by its two lists
 -- Assumes nothing.
+use Rattle.std.specs.Prelude.{None, Option, Some}
 use Prim.Native.Nat.{ℕ, ◌+◌, ◌-◌, ◌*◌, ◌≤◌, ◌<◌}
 use mathlib.Core.Bool.{Bool, true, false, not}
 use mathlib.Core.List.{List, [], ◌∷◌, ◌++◌, append_assoc}
-use mathlib.Core.Option.{Option, none, some}
 use mathlib.Core.Path.{◌≡◌, refl, sym, ap, ap₂, subst, ◌∙◌}
 use native.Mathlib.Omega.{arith}
 use borrow.Author.Tests.{ltb-true, ltb-false, lt-ltb, le-ltb}
@@ -51,8 +51,6 @@ use Rattle.rules.specs.FileCode.{Query, query_found, query_looked}
 use Rattle.sheet.specs.declared.Parts.{Parts}
 use Rattle.index.specs.declared.Range.{Range}
 use Rattle.index.specs.declared.Entry.{Entry}
-use Rattle.index.specs.declared.search.Sought.{Sought}
-use Rattle.index.specs.declared.search.Sought.TheVariants as S
 use Rattle.index.specs.declared.search.Seeking.{Seeking}
 use Rattle.index.specs.Index.{range, rules_at, two_bytes, entry_bytes, table_bytes}
 use Rattle.index.specs.Code.{number_from, range_at, entry_at, SmallRange, Small, AllSmall, Table, between, joined_list, list_at, command_start, command_text}
@@ -286,25 +284,25 @@ module _ (sheet : List ℕ) (e : Entry) (p : ℕ) (is-p : p ≡ command_start e)
   command_full h = ap (λ (c : Bool). part p (when c then 0 else length u)) (sym h) ∙ command_is
 
 module _ (sheet : List ℕ) (base : ℕ) (v : Verdict) (f : File) (e : Entry) (x : Found) where
-  pub answers_no : x ≡ Found.No → S.Nothing ≡ sought_of (rule_answer_at sheet base v f e x)
+  pub answers_no : x ≡ Found.No → None ≡ sought_of (rule_answer_at sheet base v f e x)
   answers_no h = rw h
 
-  pub answers_ask : x ≡ Found.Ask → S.Answer (answer Ver.Ask f e.lines.start (part base 0)) ≡ sought_of (rule_answer_at sheet base v f e x)
+  pub answers_ask : x ≡ Found.Ask → Some (answer Ver.Ask f e.lines.start (part base 0)) ≡ sought_of (rule_answer_at sheet base v f e x)
   answers_ask h = rw h
 
   pub answers_yes : x ≡ Found.Yes → (c : Part) → c ≡ entry_command sheet e
-      → S.Answer (answer v f e.lines.start c) ≡ sought_of (rule_answer_at sheet base v f e x)
+      → Some (answer v f e.lines.start c) ≡ sought_of (rule_answer_at sheet base v f e x)
   answers_yes h c is_c = rw (h, is_c)
 
 -- ## The loop over the entries
 
-sought_some : (o : Option Answer) (a : Answer) → sought_of o ≡ S.Answer a → o ≡ some a
-sought_some none a e = let z : ◌≡◌ {A = ℕ} 0 1 = cc in absurd (omega arith)
-sought_some (some b) a e = cc
+sought_some : (o : Option Answer) (a : Answer) → sought_of o ≡ Some a → o ≡ Some a
+sought_some None a e = let z : ◌≡◌ {A = ℕ} 0 1 = cc in absurd (omega arith)
+sought_some (Some b) a e = cc
 
-sought_none : (o : Option Answer) → sought_of o ≡ S.Nothing → o ≡ none
-sought_none none e = refl
-sought_none (some b) e = let z : ◌≡◌ {A = ℕ} 0 1 = cc in absurd (omega arith)
+sought_none : (o : Option Answer) → sought_of o ≡ None → o ≡ None
+sought_none None e = refl
+sought_none (Some b) e = let z : ◌≡◌ {A = ℕ} 0 1 = cc in absurd (omega arith)
 
 cons_left : (es : List Entry) (rest : List ℕ) → rest ≡ table_bytes es → 32 ≤ length rest → (e : Entry) × ((fs : List Entry) × (es ≡ e ∷ fs))
 unfolding table_bytes
@@ -343,7 +341,7 @@ module _ (sheet : List ℕ) (base : ℕ) (v : Verdict) (f : File) (q : Query) wh
   }
 
   module _ (whole : List Entry) (rest : List ℕ) (k : ℕ) (w : Seeks whole rest k) where
-    pub seeks_end : length rest < 32 → ◌≡◌ {A = Seeking} (record { sought = S.Nothing; looked = k }) (seek_in sheet base v f q whole)
+    pub seeks_end : length rest < 32 → ◌≡◌ {A = Seeking} (record { sought = None; looked = k }) (seek_in sheet base v f q whole)
     unfolding seek_in first sum_until
     seeks_end h =
         let n : w.left ≡ [] = nil_left w.left rest w.bytes h in
@@ -384,7 +382,7 @@ module _ (sheet : List ℕ) (base : ℕ) (v : Verdict) (f : File) (q : Query) wh
 
       module _ (e : Entry) (is-e : e ≡ entry_at rest) (x : Looked)
           (is_x : x ≡ looked_for (query_found q (entry_rule sheet e)) (capped (query_looked q (entry_rule sheet e))))
-          (n : ℕ) (is-n : n ≡ capped (k + x.looked)) (o : Sought) (is-o : o ≡ sought_of (rule_answer_at sheet base v f e x.found)) where
+          (n : ℕ) (is-n : n ≡ capped (k + x.looked)) (o : Option Answer) (is-o : o ≡ sought_of (rule_answer_at sheet base v f e x.found)) where
         is_head : e ≡ head
         is_head = is-e ∙ head_is
 
@@ -399,19 +397,19 @@ module _ (sheet : List ℕ) (base : ℕ) (v : Verdict) (f : File) (q : Query) wh
         looked_here = is-n ∙ ap (λ (z : Looked). capped (k + z.looked)) is_x
             ∙ ap (λ (z : Entry). capped (k + capped (query_looked q (entry_rule sheet z)))) is_head
 
-        pub seeks_found : (a : Answer) → o ≡ S.Answer a → ◌≡◌ {A = Seeking} (record { sought = S.Answer a; looked = n }) (seek_in sheet base v f q whole)
+        pub seeks_found : (a : Answer) → o ≡ Some a → ◌≡◌ {A = Seeking} (record { sought = Some a; looked = n }) (seek_in sheet base v f q whole)
         unfolding seek_in
         seeks_found a g =
-            let s : ans head ≡ some a = sym answer_here ∙ sought_some (rule_answer_at sheet base v f e x.found) a (sym is-o ∙ g) in
+            let s : ans head ≡ Some a = sym answer_here ∙ sought_some (rule_answer_at sheet base v f e x.found) a (sym is-o ∙ g) in
             let z : k + (entry_looked sheet q head + 0) ≡ k + entry_looked sheet q head = omega arith in
             sym (ap₂ seeking
             (finds_on ∙ ap (λ (u : Option Answer). u or_else first ans others) s)
             (counts_on ∙ ap (λ (u : Option Answer). capped (k + (entry_looked sheet q head + (when is_some u then 0 else upto others)))) s
             ∙ ap capped z ∙ sym (capped_add k (entry_looked sheet q head)) ∙ sym looked_here))
 
-        pub seeks_more : o ≡ S.Nothing → Seeks whole (take (length rest - 32) (drop 32 rest)) n
+        pub seeks_more : o ≡ None → Seeks whole (take (length rest - 32) (drop 32 rest)) n
         seeks_more g =
-            let s : ans head ≡ none = sym answer_here ∙ sought_none (rule_answer_at sheet base v f e x.found) (sym is-o ∙ g) in
+            let s : ans head ≡ None = sym answer_here ∙ sought_none (rule_answer_at sheet base v f e x.found) (sym is-o ∙ g) in
             record {
               left = others;
               bytes = rest_on;
@@ -426,10 +424,10 @@ module _ (sheet : List ℕ) (base : ℕ) (v : Verdict) (f : File) (q : Query) wh
 -- ## Both texts
 
 module _ (n : ℕ) (y : Seeking) (k : ℕ) (is-k : k ≡ capped (n + y.looked)) where
-  pub ended_answer : (a : Answer) → y.sought ≡ S.Answer a → searched a k ≡ ended_by n y
+  pub ended_answer : (a : Answer) → y.sought ≡ Some a → searched a k ≡ ended_by n y
   ended_answer a e = rw (is-k, e)
 
-  pub ended_nothing : y.sought ≡ S.Nothing → searched (answer Ver.Granted Neither 0 (part 0 0)) k ≡ ended_by n y
+  pub ended_nothing : y.sought ≡ None → searched (answer Ver.Granted Neither 0 (part 0 0)) k ≡ ended_by n y
   ended_nothing e = rw (is-k, e)
 
 module _ (sheet : List ℕ) (p : Parts) (q : Query) (x : Seeking)
@@ -441,9 +439,9 @@ module _ (sheet : List ℕ) (p : Parts) (q : Query) (x : Seeking)
   unfolding seek_both
   both_is = ap (λ (z : Seeking). seek_then z.sought z.looked second) (sym is_x)
 
-  pub both_answer : (a : Answer) → x.sought ≡ S.Answer a → searched a x.looked ≡ seek_both sheet p q
-  both_answer a e = sym (both_is ∙ ap (λ (z : Sought). seek_then z x.looked second) e)
+  pub both_answer : (a : Answer) → x.sought ≡ Some a → searched a x.looked ≡ seek_both sheet p q
+  both_answer a e = sym (both_is ∙ ap (λ (z : Option Answer). seek_then z x.looked second) e)
 
-  pub both_ended : x.sought ≡ S.Nothing → (y : Seeking) → y ≡ second → (r : Searched) → r ≡ ended_by x.looked y → r ≡ seek_both sheet p q
+  pub both_ended : x.sought ≡ None → (y : Seeking) → y ≡ second → (r : Searched) → r ≡ ended_by x.looked y → r ≡ seek_both sheet p q
   both_ended e y is_y r is-r =
-      is-r ∙ ap (ended_by x.looked) is_y ∙ sym (both_is ∙ ap (λ (z : Sought). seek_then z x.looked second) e)
+      is-r ∙ ap (ended_by x.looked) is_y ∙ sym (both_is ∙ ap (λ (z : Option Answer). seek_then z x.looked second) e)

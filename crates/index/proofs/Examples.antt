@@ -1,8 +1,8 @@
 -- The example of docs/FORMATS.md, and edges of the forms.
 -- Assumes nothing.
+use Rattle.std.specs.Prelude.{None, Some}
 use Prim.Native.Nat.{ℕ}
 use mathlib.Core.List.{List, [], ◌∷◌, ◌++◌}
-use mathlib.Core.Option.{none, some}
 use mathlib.Core.Path.{◌≡◌, refl}
 use Rattle.text.specs.Basics.{any, all}
 use Rattle.text.specs.Text.{bytes, split}
@@ -43,9 +43,9 @@ pub record Table : Type 0 where
   pub with_command : rule_table 0 (lines (bytes "a:b:c\n"))
       ≡ record { lines = range 1 1; rule = range 0 5; daemons = range 0 1; clients = range 2 3 } ∷ []
   pub request : read_requests asked
-      ≡ some (request_numbers (bytes "in.ftpd") (host_numbers 0 4 0 167838211) [] (host_numbers 0 0 0 0) [] 1 [] ∷ [])
-  pub none_asked : read_requests [] ≡ some []
-  pub cut_short : read_requests (3 ∷ bytes "in") ≡ none
+      ≡ Some (request_numbers (bytes "in.ftpd") (host_numbers 0 4 0 167838211) [] (host_numbers 0 0 0 0) [] 1 [] ∷ [])
+  pub none_asked : read_requests [] ≡ Some []
+  pub cut_short : read_requests (3 ∷ bytes "in") ≡ None
 
 pub table : Table
 unfolding index_bytes table_bytes entry_bytes two_bytes to_digits from_digits rule_table rule_entry lines logical_lines split split_separator join any all read_text

@@ -2,12 +2,12 @@
 --   other_list  == what such a list finds and looks at
 --   other_byte, other_more, other_word, other_last == the loop that looks for one
 -- Assumes nothing.
+use Rattle.std.specs.Prelude.{None, Some}
 use Prim.Native.Nat.{ℕ, ◌+◌, ◌≤◌, ◌<◌}
 use native.Mathlib.Numerals.{add-one}
 use native.Mathlib.Omega.{arith}
 use mathlib.Core.Bool.{Bool, true, false, not, ◌&&◌, ◌||◌, true≢false}
 use mathlib.Core.List.{List, [], ◌∷◌}
-use mathlib.Core.Option.{Option, none, some}
 use mathlib.Core.Path.{◌≡◌, refl, sym, ap, ◌∙◌}
 use borrow.Author.Tests.{eqb-false, ne_eqb}
 use lib.Dec.{eqb}
@@ -79,12 +79,12 @@ unfolding words non_empty
 one_word [] h n = absurd (n refl)
 one_word (x ∷ t) h n = rw (split_whole (x ∷ t) h)
 
-no_sign_lem : (t : List ℕ) → all is_whole t ≡ true → split_once (bytes "@") t ≡ none
+no_sign_lem : (t : List ℕ) → all is_whole t ≡ true → split_once (bytes "@") t ≡ None
 unfolding split_once all equal
 no_sign_lem [] h = refl
 no_sign_lem (y ∷ r) h = let p = and_true (is_whole y) (all is_whole r) h in rw ((whole_byte y p.0).signless, no_sign_lem r p.1)
 
-whole_halves : (s : List ℕ) → all is_whole s ≡ true → halves s ≡ none
+whole_halves : (s : List ℕ) → all is_whole s ≡ true → halves s ≡ None
 unfolding halves all
 whole_halves [] h = refl
 whole_halves (x ∷ t) h = rw (no_sign_lem t (and_true (is_whole x) (all is_whole t) h).1)
@@ -94,7 +94,7 @@ unfolding all any
 whole_slash [] h = refl
 whole_slash (x ∷ t) h = rw (whole_byte x (and_true (is_whole x) (all is_whole t) h).0).slashless
 
-unnamed : (s : List ℕ) → all is_whole s ≡ true → named_table s ≡ none
+unnamed : (s : List ℕ) → all is_whole s ≡ true → named_table s ≡ None
 unfolding named_table table_name
 unnamed s h = rw (whole_halves s h, whole_slash s h)
 
@@ -130,7 +130,7 @@ finds_no : (s d : List ℕ) → Other s d → (m : Matcher) (h : Endpoint) → l
 unfolding daemon_element daemon_parts daemon_name
 finds_no s d o m h = rw (whole_halves s o.whole, o.not_all) (by (is_plain_name s))
   where
-    by : (b : Bool) → look_at (daemon_request d h) ((none or_else given b (equal_fold s)) >>= λ f. some (λ r. found_if (f r.daemon))) ≡ No
+    by : (b : Bool) → look_at (daemon_request d h) ((None or_else given b (equal_fold s)) >>= λ f. Some (λ r. found_if (f r.daemon))) ≡ No
     by false = refl
     by true = rw o.differs
 

@@ -3,10 +3,10 @@
 --   fields_within == a request ends within the bytes, and after its start
 --   Parting       == the loop that counts requests
 -- Assumes nothing.
+use Rattle.std.specs.Prelude.{None, Option, Some}
 use Prim.Native.Nat.{ℕ, zero, suc, ◌+◌, ◌-◌, ◌*◌, ◌≤◌, ◌<◌}
 use mathlib.Core.Bool.{Bool, true, false, true≢false}
 use mathlib.Core.List.{List, [], ◌∷◌}
-use mathlib.Core.Option.{Option, none, some}
 use mathlib.Core.Path.{◌≡◌, refl, sym, ap, ap₂, subst, ◌∙◌}
 use native.Mathlib.Numerals.{add-one}
 use native.Mathlib.Omega.{arith}
@@ -24,16 +24,8 @@ use Rattle.sheet.proofs.ReadLaws.{count_of_four}
 use Rattle.sheet.proofs.FrameLaws.{take_drop_take}
 use Rattle.codes.specs.declared.request.HostNumbers.{HostNumbers}
 use Rattle.codes.specs.Requests.{RequestNumbers, host_numbers, request_numbers}
-use Rattle.index.specs.declared.requests.TextRead.{TextRead}
-use Rattle.index.specs.declared.requests.TextRead.TheVariants as T
 use Rattle.index.specs.declared.requests.HostFields.{HostFields}
-use Rattle.index.specs.declared.requests.HostRead.{HostRead}
-use Rattle.index.specs.declared.requests.HostRead.TheVariants as H
 use Rattle.index.specs.declared.requests.Fields.{Fields}
-use Rattle.index.specs.declared.requests.RequestRead.{RequestRead}
-use Rattle.index.specs.declared.requests.RequestRead.TheVariants as R
-use Rattle.index.specs.declared.requests.Counted.{Counted}
-use Rattle.index.specs.declared.requests.Counted.TheVariants as C
 use Rattle.index.specs.Index.{cut, number_at, read_text, read_host, read_request, parted, read_requests}
 use Rattle.index.specs.Code.{number_from, text_at, text_read_of, numbers_at, host_fields, host_at, host_read_of, fields_of, user_from, hosts_from, fields_at}
 use Rattle.index.specs.Code.{request_read_of, counted_of, numbers_in}
@@ -83,31 +75,31 @@ one_byte s at h =
 -- ## A text
 
 module _ (t : List ℕ) (at : ℕ) where
-  pub text_past : length t ≤ at → T.Cut ≡ text_read_of (text_at at t)
+  pub text_past : length t ≤ at → None ≡ text_read_of (text_at at t)
   unfolding text_at
   text_past h = rw (le-leb (length t) at h)
 
   module _ (h : at < length t) (n : ℕ) (is-n : n ≡ get_or t at 0) where
-    pub text_cut : length t - at ≤ n → T.Cut ≡ text_read_of (text_at at t)
+    pub text_cut : length t - at ≤ n → None ≡ text_read_of (text_at at t)
     unfolding text_at
     text_cut k = rw (lt-leb (length t) at h, ← is-n, le-leb (length t - at) n k)
 
-    pub text_whole : n < length t - at → T.Text (part (at + 1) n) ≡ text_read_of (text_at at t)
+    pub text_whole : n < length t - at → Some (part (at + 1) n) ≡ text_read_of (text_at at t)
     unfolding text_at
     text_whole k = rw (lt-leb (length t) at h, ← is-n, lt-leb (length t - at) n k)
 
-text_none : (o : Option Part) → text_read_of o ≡ T.Cut → o ≡ none
-text_none none e = refl
-text_none (some p) e = let z : ◌≡◌ {A = ℕ} 0 1 = cc in absurd (omega arith)
+text_none : (o : Option Part) → text_read_of o ≡ None → o ≡ None
+text_none None e = refl
+text_none (Some p) e = let z : ◌≡◌ {A = ℕ} 0 1 = cc in absurd (omega arith)
 
-text_some : (o : Option Part) (p : Part) → text_read_of o ≡ T.Text p → o ≡ some p
-text_some none p e = let z : ◌≡◌ {A = ℕ} 0 1 = cc in absurd (omega arith)
-text_some (some q) p e = cc
+text_some : (o : Option Part) (p : Part) → text_read_of o ≡ Some p → o ≡ Some p
+text_some None p e = let z : ◌≡◌ {A = ℕ} 0 1 = cc in absurd (omega arith)
+text_some (Some q) p e = cc
 
 -- what was read of a text at its place
 abbrev text_by : List ℕ → Option Part → Option (List ℕ × List ℕ)
-text_by s none = none
-text_by s (some p) = some (bytes_at s p, drop (part_end p) s)
+text_by s None = None
+text_by s (Some p) = Some (bytes_at s p, drop (part_end p) s)
 
 text_placed : (s : List ℕ) (at : ℕ) → read_text (drop at s) ≡ text_by s (text_at at s)
 unfolding read_text text_at
@@ -115,25 +107,25 @@ text_placed s at = by (leb (length s) at) refl
   where
     -- the count, and the text after it
     second : at < length s → (b : Bool) → leb (length s - at) (get_or s at 0) ≡ b
-        → cut (number_at 0 1 (take 1 (drop at s))) (drop 1 (drop at s)) ≡ text_by s (when b then none else some (part (at + 1) (get_or s at 0)))
+        → cut (number_at 0 1 (take 1 (drop at s))) (drop 1 (drop at s)) ≡ text_by s (when b then None else Some (part (at + 1) (get_or s at 0)))
     second h b e =
         let n : number_at 0 1 (take 1 (drop at s)) ≡ get_or s at 0 = ap (from_digits 256 0) (take-take 1 1 (drop at s) (omega arith)) ∙ one_byte s at h in
         let l : length (drop (at + 1) s) ≡ length s - (at + 1) = length-drop (at + 1) s in
         ap₂ (λ (k : ℕ) (t : List ℕ). cut k t) n (drop-drop 1 at s) ∙ tell b e
       where
         tell : (b : Bool) → leb (length s - at) (get_or s at 0) ≡ b → cut (get_or s at 0) (drop (at + 1) s)
-            ≡ text_by s (when b then none else some (part (at + 1) (get_or s at 0)))
+            ≡ text_by s (when b then None else Some (part (at + 1) (get_or s at 0)))
         tell true e =
             let k : length s - at ≤ get_or s at 0 = leb-true (length s - at) (get_or s at 0) e in
             rw (lt-leb (get_or s at 0) (length (drop (at + 1) s)) (omega (arith, length-drop (at + 1) s)))
         tell false e =
             let k : get_or s at 0 < length s - at = leb-false (length s - at) (get_or s at 0) e in
             rw (le-leb (get_or s at 0) (length (drop (at + 1) s)) (omega (arith, length-drop (at + 1) s)))
-            (ap (λ (t : List ℕ). some (take (get_or s at 0) (drop (at + 1) s), t)) (drop-drop (get_or s at 0) (at + 1) s))
+            (ap (λ (t : List ℕ). Some (take (get_or s at 0) (drop (at + 1) s), t)) (drop-drop (get_or s at 0) (at + 1) s))
 
     by : (b : Bool) → leb (length s) at ≡ b
         → (cut 1 (drop at s) >>= λ n. cut (number_at 0 1 n.0) n.1)
-        ≡ text_by s (when b then none else when leb (length s - at) (get_or s at 0) then none else some (part (at + 1) (get_or s at 0)))
+        ≡ text_by s (when b then None else when leb (length s - at) (get_or s at 0) then None else Some (part (at + 1) (get_or s at 0)))
     by true e =
         let k : length s ≤ at = leb-true (length s) at e in
         rw (lt-leb 1 (length (drop at s)) (omega (arith, length-drop at s)))
@@ -141,12 +133,12 @@ text_placed s at = by (leb (length s) at) refl
         let k : at < length s = leb-false (length s) at e in
         rw (le-leb 1 (length (drop at s)) (omega (arith, length-drop at s))) (second k (leb (length s - at) (get_or s at 0)) refl)
 
-pub text_within : (s : List ℕ) (at : ℕ) (p : Part) → text_at at s ≡ some p → (at < part_end p) × (part_end p ≤ length s)
+pub text_within : (s : List ℕ) (at : ℕ) (p : Part) → text_at at s ≡ Some p → (at < part_end p) × (part_end p ≤ length s)
 unfolding text_at
 text_within s at p e = by (leb (length s) at) (leb (length s - at) (get_or s at 0)) refl refl e
   where
     by : (b c : Bool) → leb (length s) at ≡ b → leb (length s - at) (get_or s at 0) ≡ c
-        → (when b then none else when c then none else some (part (at + 1) (get_or s at 0))) ≡ some p → (at < part_end p) × (part_end p ≤ length s)
+        → (when b then None else when c then None else Some (part (at + 1) (get_or s at 0))) ≡ Some p → (at < part_end p) × (part_end p ≤ length s)
     by true c f g k = let z : ◌≡◌ {A = ℕ} 0 1 = cc k in absurd (omega arith)
     by false true f g k = let z : ◌≡◌ {A = ℕ} 0 1 = cc k in absurd (omega arith)
     by false false f g k =
@@ -163,30 +155,30 @@ unfolding numbers_at
 numbers_read s at state kind high low is_state is-kind is_high is_low = rw (is_state, is-kind, is_high, is_low)
 
 module _ (t : List ℕ) (at : ℕ) where
-  pub host_short : length t - at < 18 → H.Cut ≡ host_read_of (host_at at t)
+  pub host_short : length t - at < 18 → None ≡ host_read_of (host_at at t)
   unfolding host_at
   host_short h = rw (lt-ltb (length t - at) 18 h)
 
-  module _ (h : 18 ≤ length t - at) (x : TextRead) (is_x : x ≡ text_read_of (text_at (at + 18) t)) where
-    pub host_cut : x ≡ T.Cut → H.Cut ≡ host_read_of (host_at at t)
+  module _ (h : 18 ≤ length t - at) (x : Option Part) (is_x : x ≡ text_read_of (text_at (at + 18) t)) where
+    pub host_cut : x ≡ None → None ≡ host_read_of (host_at at t)
     unfolding host_at
     host_cut e = rw (le-ltb (length t - at) 18 h, text_none (text_at (at + 18) t) (sym is_x ∙ e))
 
-    pub host_whole : (p : Part) → x ≡ T.Text p → (n : HostNumbers) → n ≡ numbers_at at t → H.Host (host_fields n p) ≡ host_read_of (host_at at t)
+    pub host_whole : (p : Part) → x ≡ Some p → (n : HostNumbers) → n ≡ numbers_at at t → Some (host_fields n p) ≡ host_read_of (host_at at t)
     unfolding host_at
     host_whole p e n is-n = rw (le-ltb (length t - at) 18 h, text_some (text_at (at + 18) t) p (sym is_x ∙ e), is-n)
 
-host_none : (o : Option HostFields) → host_read_of o ≡ H.Cut → o ≡ none
-host_none none e = refl
-host_none (some p) e = let z : ◌≡◌ {A = ℕ} 0 1 = cc in absurd (omega arith)
+host_none : (o : Option HostFields) → host_read_of o ≡ None → o ≡ None
+host_none None e = refl
+host_none (Some p) e = let z : ◌≡◌ {A = ℕ} 0 1 = cc in absurd (omega arith)
 
-host_some : (o : Option HostFields) (p : HostFields) → host_read_of o ≡ H.Host p → o ≡ some p
-host_some none p e = let z : ◌≡◌ {A = ℕ} 0 1 = cc in absurd (omega arith)
-host_some (some q) p e = cc
+host_some : (o : Option HostFields) (p : HostFields) → host_read_of o ≡ Some p → o ≡ Some p
+host_some None p e = let z : ◌≡◌ {A = ℕ} 0 1 = cc in absurd (omega arith)
+host_some (Some q) p e = cc
 
 abbrev host_placed : List ℕ → Option HostFields → Option ((HostNumbers × List ℕ) × List ℕ)
-host_placed s none = none
-host_placed s (some h) = some ((h.numbers, bytes_at s h.name), drop (part_end h.name) s)
+host_placed s None = None
+host_placed s (Some h) = Some ((h.numbers, bytes_at s h.name), drop (part_end h.name) s)
 
 -- the numbers at the front of a host
 head_numbers : (s : List ℕ) (at : ℕ) → at + 18 ≤ length s
@@ -213,7 +205,7 @@ unfolding read_host host_at
 host_placed_lem s at h = by (ltb (length s - at) 18) refl
   where
     named : (o : Option Part) → read_text (drop 18 (drop at s)) ≡ text_by s o → at + 18 ≤ length s
-        → (read_text (drop 18 (drop at s)) >>= λ name. some (
+        → (read_text (drop 18 (drop at s)) >>= λ name. Some (
           (
             host_numbers (number_at 0 1 (take 18 (drop at s))) (number_at 1 1 (take 18 (drop at s)))
                 (number_at 2 8 (take 18 (drop at s))) (number_at 10 8 (take 18 (drop at s))),
@@ -221,14 +213,14 @@ host_placed_lem s at h = by (ltb (length s - at) 18) refl
           ),
           name.1,
         ))
-        ≡ host_placed s (o >>= λ name. some (host_fields (numbers_at at s) name))
-    named none e w = rw e
-    named (some p) e w = rw e (ap (λ (n : HostNumbers). some ((n, bytes_at s p), drop (part_end p) s)) (head_numbers s at w))
+        ≡ host_placed s (o >>= λ name. Some (host_fields (numbers_at at s) name))
+    named None e w = rw e
+    named (Some p) e w = rw e (ap (λ (n : HostNumbers). Some ((n, bytes_at s p), drop (part_end p) s)) (head_numbers s at w))
 
     by : (b : Bool) → ltb (length s - at) 18 ≡ b
-        → (cut 18 (drop at s) >>= λ h. read_text h.1 >>= λ name. some
+        → (cut 18 (drop at s) >>= λ h. read_text h.1 >>= λ name. Some
         ((host_numbers (number_at 0 1 h.0) (number_at 1 1 h.0) (number_at 2 8 h.0) (number_at 10 8 h.0), name.0), name.1))
-        ≡ host_placed s (when b then none else (text_at (at + 18) s >>= λ name. some (host_fields (numbers_at at s) name)))
+        ≡ host_placed s (when b then None else (text_at (at + 18) s >>= λ name. Some (host_fields (numbers_at at s) name)))
     by true e =
         let k : length s - at < 18 = ltb-true (length s - at) 18 e in
         rw (lt-leb 18 (length (drop at s)) (omega (arith, length-drop at s)))
@@ -237,45 +229,45 @@ host_placed_lem s at h = by (ltb (length s - at) 18) refl
         rw (le-leb 18 (length (drop at s)) (omega (arith, length-drop at s)))
         (named (text_at (at + 18) s) (ap read_text (drop-drop 18 at s) ∙ text_placed s (at + 18)) (omega arith))
 
-pub host_within : (s : List ℕ) (at : ℕ) (h : HostFields) → host_at at s ≡ some h → part_end h.name ≤ length s
+pub host_within : (s : List ℕ) (at : ℕ) (h : HostFields) → host_at at s ≡ Some h → part_end h.name ≤ length s
 unfolding host_at
 host_within s at h e = by (ltb (length s - at) 18) (text_at (at + 18) s) refl e
   where
     by : (b : Bool) (o : Option Part) → text_at (at + 18) s ≡ o
-        → (when b then none else (o >>= λ name. some (host_fields (numbers_at at s) name))) ≡ some h → part_end h.name ≤ length s
+        → (when b then None else (o >>= λ name. Some (host_fields (numbers_at at s) name))) ≡ Some h → part_end h.name ≤ length s
     by true o f k = let z : ◌≡◌ {A = ℕ} 0 1 = cc k in absurd (omega arith)
-    by false none f k = let z : ◌≡◌ {A = ℕ} 0 1 = cc k in absurd (omega arith)
-    by false (some p) f k =
+    by false None f k = let z : ◌≡◌ {A = ℕ} 0 1 = cc k in absurd (omega arith)
+    by false (Some p) f k =
         let same : host_fields (numbers_at at s) p ≡ h = cc k in
         subst (λ (h : HostFields). part_end h.name ≤ length s) same (text_within s (at + 18) p f).1
 
 -- ## A request
 
 module _ (d : Part) (c s : HostFields) (t : List ℕ) where
-  pub user_past : length t ≤ part_end s.name → R.Cut ≡ request_read_of (user_from d c s t)
+  pub user_past : length t ≤ part_end s.name → None ≡ request_read_of (user_from d c s t)
   unfolding user_from
   user_past h = rw (le-leb (length t) (part_end s.name) h)
 
-  module _ (h : part_end s.name < length t) (x : TextRead) (is_x : x ≡ text_read_of (text_at (part_end s.name + 1) t)) where
-    pub user_cut : x ≡ T.Cut → R.Cut ≡ request_read_of (user_from d c s t)
+  module _ (h : part_end s.name < length t) (x : Option Part) (is_x : x ≡ text_read_of (text_at (part_end s.name + 1) t)) where
+    pub user_cut : x ≡ None → None ≡ request_read_of (user_from d c s t)
     unfolding user_from
     user_cut e = rw (lt-leb (length t) (part_end s.name) h, text_none (text_at (part_end s.name + 1) t) (sym is_x ∙ e))
 
-    pub user_whole : (p : Part) → x ≡ T.Text p → (u : ℕ) → u ≡ get_or t (part_end s.name) 0
-        → R.Request (fields_of d c s u p) ≡ request_read_of (user_from d c s t)
+    pub user_whole : (p : Part) → x ≡ Some p → (u : ℕ) → u ≡ get_or t (part_end s.name) 0
+        → Some (fields_of d c s u p) ≡ request_read_of (user_from d c s t)
     unfolding user_from
     user_whole p e u is-u = rw (lt-leb (length t) (part_end s.name) h, text_some (text_at (part_end s.name + 1) t) p (sym is_x ∙ e), is-u)
 
-    pub user_end : (p : Part) → x ≡ T.Text p → (m : ℕ) → length t < m → p.place + p.len < m
+    pub user_end : (p : Part) → x ≡ Some p → (m : ℕ) → length t < m → p.place + p.len < m
     user_end p e m h = omega (arith, (text_within t (part_end s.name + 1) p (text_some (text_at (part_end s.name + 1) t) p (sym is_x ∙ e))).1)
 
-module _ (d : Part) (t : List ℕ) (x : HostRead) (is_x : x ≡ host_read_of (host_at (part_end d) t)) where
-  pub hosts_cut : x ≡ H.Cut → R.Cut ≡ request_read_of (hosts_from d t)
+module _ (d : Part) (t : List ℕ) (x : Option HostFields) (is_x : x ≡ host_read_of (host_at (part_end d) t)) where
+  pub hosts_cut : x ≡ None → None ≡ request_read_of (hosts_from d t)
   unfolding hosts_from
   hosts_cut e = rw (host_none (host_at (part_end d) t) (sym is_x ∙ e))
 
-  module _ (c : HostFields) (e : x ≡ H.Host c) where
-    client_is : host_at (part_end d) t ≡ some c
+  module _ (c : HostFields) (e : x ≡ Some c) where
+    client_is : host_at (part_end d) t ≡ Some c
     client_is = host_some (host_at (part_end d) t) c (sym is_x ∙ e)
 
     pub client_within : part_end c.name ≤ length t
@@ -284,64 +276,64 @@ module _ (d : Part) (t : List ℕ) (x : HostRead) (is_x : x ≡ host_read_of (ho
     pub client_end : (m : ℕ) → length t < m → c.name.place + c.name.len < m
     client_end m h = omega (arith, client_within)
 
-    module _ (y : HostRead) (is_y : y ≡ host_read_of (host_at (part_end c.name) t)) where
-      pub hosts_cut_2 : y ≡ H.Cut → R.Cut ≡ request_read_of (hosts_from d t)
+    module _ (y : Option HostFields) (is_y : y ≡ host_read_of (host_at (part_end c.name) t)) where
+      pub hosts_cut_2 : y ≡ None → None ≡ request_read_of (hosts_from d t)
       unfolding hosts_from
       hosts_cut_2 f = rw (client_is, host_none (host_at (part_end c.name) t) (sym is_y ∙ f))
 
-      module _ (s : HostFields) (f : y ≡ H.Host s) where
-        server_is : host_at (part_end c.name) t ≡ some s
+      module _ (s : HostFields) (f : y ≡ Some s) where
+        server_is : host_at (part_end c.name) t ≡ Some s
         server_is = host_some (host_at (part_end c.name) t) s (sym is_y ∙ f)
 
         pub server_within : part_end s.name ≤ length t
         server_within = host_within t (part_end c.name) s server_is
 
-        pub hosts_both : (r : RequestRead) → r ≡ request_read_of (user_from d c s t) → r ≡ request_read_of (hosts_from d t)
+        pub hosts_both : (r : Option Fields) → r ≡ request_read_of (user_from d c s t) → r ≡ request_read_of (hosts_from d t)
         unfolding hosts_from
         hosts_both r is-r = is-r ∙ sym (rw (client_is, server_is))
 
-module _ (t : List ℕ) (x : TextRead) (is_x : x ≡ text_read_of (text_at 0 t)) where
-  pub request_cut : x ≡ T.Cut → R.Cut ≡ request_read_of (fields_at t)
+module _ (t : List ℕ) (x : Option Part) (is_x : x ≡ text_read_of (text_at 0 t)) where
+  pub request_cut : x ≡ None → None ≡ request_read_of (fields_at t)
   unfolding fields_at
   request_cut e = rw (text_none (text_at 0 t) (sym is_x ∙ e))
 
-  module _ (d : Part) (e : x ≡ T.Text d) where
-    daemon_is : text_at 0 t ≡ some d
+  module _ (d : Part) (e : x ≡ Some d) where
+    daemon_is : text_at 0 t ≡ Some d
     daemon_is = text_some (text_at 0 t) d (sym is_x ∙ e)
 
     pub daemon_within : part_end d ≤ length t
     daemon_within = (text_within t 0 d daemon_is).1
 
-    pub request_whole : (r : RequestRead) → r ≡ request_read_of (hosts_from d t) → r ≡ request_read_of (fields_at t)
+    pub request_whole : (r : Option Fields) → r ≡ request_read_of (hosts_from d t) → r ≡ request_read_of (fields_at t)
     unfolding fields_at
     request_whole r is-r = is-r ∙ sym (rw daemon_is)
 
 -- ## What Index reads
 
 abbrev request_by : List ℕ → Option Fields → Option (RequestNumbers × List ℕ)
-request_by s none = none
-request_by s (some f) = some (numbers_in s f, drop f.end s)
+request_by s None = None
+request_by s (Some f) = Some (numbers_in s f, drop f.end s)
 
 module _ (t : List ℕ) where
   -- from the user on
   user_placed : (d : Part) (c s : HostFields)
       → (cut 1 (drop (part_end s.name) t) >>= λ u. read_text u.1 >>= λ n.
-      some (request_numbers (bytes_at t d) c.numbers (bytes_at t c.name) s.numbers (bytes_at t s.name) (number_at 0 1 u.0) n.0, n.1))
+      Some (request_numbers (bytes_at t d) c.numbers (bytes_at t c.name) s.numbers (bytes_at t s.name) (number_at 0 1 u.0) n.0, n.1))
       ≡ request_by t (user_from d c s t)
   unfolding user_from
   user_placed d c s = by (leb (length t) (part_end s.name)) refl
     where
       named : (o : Option Part) → read_text (drop 1 (drop (part_end s.name) t)) ≡ text_by t o → part_end s.name < length t
           → (read_text (drop 1 (drop (part_end s.name) t)) >>= λ n.
-          some (
+          Some (
             request_numbers (bytes_at t d) c.numbers (bytes_at t c.name) s.numbers (bytes_at t s.name)
                 (number_at 0 1 (take 1 (drop (part_end s.name) t))) n.0,
             n.1,
           ))
-          ≡ request_by t (o >>= λ name. some (fields_of d c s (get_or t (part_end s.name) 0) name))
-      named none e w = rw e
-      named (some p) e w =
-          rw e (ap (λ (u : ℕ). some (
+          ≡ request_by t (o >>= λ name. Some (fields_of d c s (get_or t (part_end s.name) 0) name))
+      named None e w = rw e
+      named (Some p) e w =
+          rw e (ap (λ (u : ℕ). Some (
             request_numbers (bytes_at t d) c.numbers (bytes_at t c.name) s.numbers (bytes_at t s.name) u (bytes_at t p),
             drop (part_end p) t,
           ))
@@ -349,8 +341,8 @@ module _ (t : List ℕ) where
 
       by : (b : Bool) → leb (length t) (part_end s.name) ≡ b
           → (cut 1 (drop (part_end s.name) t) >>= λ u. read_text u.1 >>= λ n.
-          some (request_numbers (bytes_at t d) c.numbers (bytes_at t c.name) s.numbers (bytes_at t s.name) (number_at 0 1 u.0) n.0, n.1))
-          ≡ request_by t (when b then none else (text_at (part_end s.name + 1) t >>= λ name. some (fields_of d c s (get_or t (part_end s.name) 0) name)))
+          Some (request_numbers (bytes_at t d) c.numbers (bytes_at t c.name) s.numbers (bytes_at t s.name) (number_at 0 1 u.0) n.0, n.1))
+          ≡ request_by t (when b then None else (text_at (part_end s.name + 1) t >>= λ name. Some (fields_of d c s (get_or t (part_end s.name) 0) name)))
       by true e =
           let k : length t ≤ part_end s.name = leb-true (length t) (part_end s.name) e in
           rw (lt-leb 1 (length (drop (part_end s.name) t)) (omega (arith, length-drop (part_end s.name) t)))
@@ -360,27 +352,27 @@ module _ (t : List ℕ) where
           (named (text_at (part_end s.name + 1) t) (ap read_text (drop-drop 1 (part_end s.name) t) ∙ text_placed t (part_end s.name + 1)) k)
 
   abbrev rest_of : List ℕ → HostNumbers → List ℕ → HostNumbers → List ℕ → List ℕ → Option (RequestNumbers × List ℕ)
-  rest_of d c cn s sn u = cut 1 u >>= λ user. read_text user.1 >>= λ n. some (request_numbers d c cn s sn (number_at 0 1 user.0) n.0, n.1)
+  rest_of d c cn s sn u = cut 1 u >>= λ user. read_text user.1 >>= λ n. Some (request_numbers d c cn s sn (number_at 0 1 user.0) n.0, n.1)
 
   server_placed : (d : Part) (c : HostFields) (o : Option HostFields) → host_at (part_end c.name) t ≡ o → part_end c.name ≤ length t
       → (read_host (drop (part_end c.name) t) >>= λ s. rest_of (bytes_at t d) c.numbers (bytes_at t c.name) s.0.0 s.0.1 s.1)
       ≡ request_by t (o >>= λ s. user_from d c s t)
-  server_placed d c none e w = rw (host_placed_lem t (part_end c.name) w, e)
-  server_placed d c (some s) e w = rw (host_placed_lem t (part_end c.name) w, e) (user_placed d c s)
+  server_placed d c None e w = rw (host_placed_lem t (part_end c.name) w, e)
+  server_placed d c (Some s) e w = rw (host_placed_lem t (part_end c.name) w, e) (user_placed d c s)
 
   client_placed : (d : Part) (o : Option HostFields) → host_at (part_end d) t ≡ o → part_end d ≤ length t
       → (read_host (drop (part_end d) t) >>= λ c. read_host c.1 >>= λ s. rest_of (bytes_at t d) c.0.0 c.0.1 s.0.0 s.0.1 s.1)
       ≡ request_by t (o >>= λ c. host_at (part_end c.name) t >>= λ s. user_from d c s t)
-  client_placed d none e w = rw (host_placed_lem t (part_end d) w, e)
-  client_placed d (some c) e w =
+  client_placed d None e w = rw (host_placed_lem t (part_end d) w, e)
+  client_placed d (Some c) e w =
       rw (host_placed_lem t (part_end d) w, e) (server_placed d c (host_at (part_end c.name) t) refl (host_within t (part_end d) c e))
 
   daemon_placed : (o : Option Part) → text_at 0 t ≡ o
       → (read_text t >>= λ d. read_host d.1 >>= λ c. read_host c.1 >>= λ s. rest_of d.0 c.0.0 c.0.1 s.0.0 s.0.1 s.1)
       ≡ request_by t (o >>= λ d. hosts_from d t)
   unfolding hosts_from
-  daemon_placed none e = rw (text_placed t 0, e)
-  daemon_placed (some d) e = rw (text_placed t 0, e) (client_placed d (host_at (part_end d) t) refl (text_within t 0 d e).1)
+  daemon_placed None e = rw (text_placed t 0, e)
+  daemon_placed (Some d) e = rw (text_placed t 0, e) (client_placed d (host_at (part_end d) t) refl (text_within t 0 d e).1)
 
   pub request_placed : read_request t ≡ request_by t (fields_at t)
   unfolding read_request fields_at
@@ -389,43 +381,43 @@ module _ (t : List ℕ) where
 -- ## Where a request ends
 
 module _ (t : List ℕ) where
-  user_ends : (d : Part) (c s : HostFields) (f : Fields) → user_from d c s t ≡ some f → (0 < f.end) × (f.end ≤ length t)
+  user_ends : (d : Part) (c s : HostFields) (f : Fields) → user_from d c s t ≡ Some f → (0 < f.end) × (f.end ≤ length t)
   unfolding user_from
   user_ends d c s f e = by (leb (length t) (part_end s.name)) (text_at (part_end s.name + 1) t) refl e
     where
       by : (b : Bool) (o : Option Part) → text_at (part_end s.name + 1) t ≡ o
-          → (when b then none else (o >>= λ name. some (fields_of d c s (get_or t (part_end s.name) 0) name))) ≡ some f → (0 < f.end) × (f.end ≤ length t)
+          → (when b then None else (o >>= λ name. Some (fields_of d c s (get_or t (part_end s.name) 0) name))) ≡ Some f → (0 < f.end) × (f.end ≤ length t)
       by true o g k = let z : ◌≡◌ {A = ℕ} 0 1 = cc k in absurd (omega arith)
-      by false none g k = let z : ◌≡◌ {A = ℕ} 0 1 = cc k in absurd (omega arith)
-      by false (some p) g k =
+      by false None g k = let z : ◌≡◌ {A = ℕ} 0 1 = cc k in absurd (omega arith)
+      by false (Some p) g k =
           let same : fields_of d c s (get_or t (part_end s.name) 0) p ≡ f = cc k in
           let w = text_within t (part_end s.name + 1) p g in
           subst (λ (f : Fields). (0 < f.end) × (f.end ≤ length t)) same (omega (arith, w.0), w.1)
 
-  hosts_end : (d : Part) (f : Fields) (o : Option HostFields) → (o >>= λ c. host_at (part_end c.name) t >>= λ s. user_from d c s t) ≡ some f
+  hosts_end : (d : Part) (f : Fields) (o : Option HostFields) → (o >>= λ c. host_at (part_end c.name) t >>= λ s. user_from d c s t) ≡ Some f
       → (0 < f.end) × (f.end ≤ length t)
-  hosts_end d f none e = let z : ◌≡◌ {A = ℕ} 0 1 = cc e in absurd (omega arith)
-  hosts_end d f (some c) e = by (host_at (part_end c.name) t) e
+  hosts_end d f None e = let z : ◌≡◌ {A = ℕ} 0 1 = cc e in absurd (omega arith)
+  hosts_end d f (Some c) e = by (host_at (part_end c.name) t) e
     where
-      by : (o : Option HostFields) → (o >>= λ s. user_from d c s t) ≡ some f → (0 < f.end) × (f.end ≤ length t)
-      by none k = let z : ◌≡◌ {A = ℕ} 0 1 = cc k in absurd (omega arith)
-      by (some s) k = user_ends d c s f k
+      by : (o : Option HostFields) → (o >>= λ s. user_from d c s t) ≡ Some f → (0 < f.end) × (f.end ≤ length t)
+      by None k = let z : ◌≡◌ {A = ℕ} 0 1 = cc k in absurd (omega arith)
+      by (Some s) k = user_ends d c s f k
 
-  fields_end : (f : Fields) (o : Option Part) → (o >>= λ d. hosts_from d t) ≡ some f → (0 < f.end) × (f.end ≤ length t)
+  fields_end : (f : Fields) (o : Option Part) → (o >>= λ d. hosts_from d t) ≡ Some f → (0 < f.end) × (f.end ≤ length t)
   unfolding hosts_from
-  fields_end f none e = let z : ◌≡◌ {A = ℕ} 0 1 = cc e in absurd (omega arith)
-  fields_end f (some d) e = hosts_end d f (host_at (part_end d) t) e
+  fields_end f None e = let z : ◌≡◌ {A = ℕ} 0 1 = cc e in absurd (omega arith)
+  fields_end f (Some d) e = hosts_end d f (host_at (part_end d) t) e
 
-request_none : (o : Option Fields) → request_read_of o ≡ R.Cut → o ≡ none
-request_none none e = refl
-request_none (some p) e = let z : ◌≡◌ {A = ℕ} 0 1 = cc in absurd (omega arith)
+request_none : (o : Option Fields) → request_read_of o ≡ None → o ≡ None
+request_none None e = refl
+request_none (Some p) e = let z : ◌≡◌ {A = ℕ} 0 1 = cc in absurd (omega arith)
 
-request_some : (o : Option Fields) (p : Fields) → request_read_of o ≡ R.Request p → o ≡ some p
-request_some none p e = let z : ◌≡◌ {A = ℕ} 0 1 = cc in absurd (omega arith)
-request_some (some q) p e = cc
+request_some : (o : Option Fields) (p : Fields) → request_read_of o ≡ Some p → o ≡ Some p
+request_some None p e = let z : ◌≡◌ {A = ℕ} 0 1 = cc in absurd (omega arith)
+request_some (Some q) p e = cc
 
-module _ (t : List ℕ) (x : RequestRead) (is_x : x ≡ request_read_of (fields_at t)) (f : Fields) (e : x ≡ R.Request f) where
-  fields_are : fields_at t ≡ some f
+module _ (t : List ℕ) (x : Option Fields) (is_x : x ≡ request_read_of (fields_at t)) (f : Fields) (e : x ≡ Some f) where
+  fields_are : fields_at t ≡ Some f
   fields_are = request_some (fields_at t) f (sym is_x ∙ e)
 
   ends : (0 < f.end) × (f.end ≤ length t)
@@ -443,62 +435,62 @@ module _ (t : List ℕ) (x : RequestRead) (is_x : x ≡ request_read_of (fields_
 
 -- ## Requests one after the other
 
-pub parted_empty : (k : ℕ) (t : List ℕ) → length t ≤ 0 → parted k t ≡ some []
+pub parted_empty : (k : ℕ) (t : List ℕ) → length t ≤ 0 → parted k t ≡ Some []
 unfolding parted
 parted_empty zero [] h = refl
 parted_empty (suc k) [] h = refl
 parted_empty k (x ∷ t) h = absurd (omega arith)
 
-pub parted_none : (t : List ℕ) → 0 < length t → parted 0 t ≡ none
+pub parted_none : (t : List ℕ) → 0 < length t → parted 0 t ≡ None
 unfolding parted
 parted_none [] h = absurd (omega arith)
 parted_none (x ∷ t) h = refl
 
 abbrev pub and_then : RequestNumbers → Option (List RequestNumbers) → Option (List RequestNumbers)
-and_then n none = none
-and_then n (some ns) = some (n ∷ ns)
+and_then n None = None
+and_then n (Some ns) = Some (n ∷ ns)
 
-parted_cons_none : (k x : ℕ) (t : List ℕ) → read_request (x ∷ t) ≡ none → parted (suc k) (x ∷ t) ≡ none
+parted_cons_none : (k x : ℕ) (t : List ℕ) → read_request (x ∷ t) ≡ None → parted (suc k) (x ∷ t) ≡ None
 unfolding parted
 parted_cons_none k x t e = rw e
 
-parted_cons_some : (k x : ℕ) (t : List ℕ) (n : RequestNumbers) (u : List ℕ) → read_request (x ∷ t) ≡ some (n, u)
+parted_cons_some : (k x : ℕ) (t : List ℕ) (n : RequestNumbers) (u : List ℕ) → read_request (x ∷ t) ≡ Some (n, u)
     → parted (suc k) (x ∷ t) ≡ and_then n (parted k u)
 unfolding parted
 parted_cons_some k x t n u e = rw e (by (parted k u))
   where
-    by : (o : Option (List RequestNumbers)) → (o >>= λ rs. some (n ∷ rs)) ≡ and_then n o
-    by none = refl
-    by (some rs) = refl
+    by : (o : Option (List RequestNumbers)) → (o >>= λ rs. Some (n ∷ rs)) ≡ and_then n o
+    by None = refl
+    by (Some rs) = refl
 
-module _ (t : List ℕ) (h : 0 < length t) (k : ℕ) (x : RequestRead) (is_x : x ≡ request_read_of (fields_at t)) where
-  pub parted_cut : x ≡ R.Cut → parted (suc k) t ≡ none
+module _ (t : List ℕ) (h : 0 < length t) (k : ℕ) (x : Option Fields) (is_x : x ≡ request_read_of (fields_at t)) where
+  pub parted_cut : x ≡ None → parted (suc k) t ≡ None
   parted_cut e = by t h (request_placed t ∙ ap (request_by t) (request_none (fields_at t) (sym is_x ∙ e)))
     where
-      by : (t : List ℕ) → 0 < length t → read_request t ≡ none → parted (suc k) t ≡ none
+      by : (t : List ℕ) → 0 < length t → read_request t ≡ None → parted (suc k) t ≡ None
       by [] h e = absurd (omega arith)
       by (x ∷ t) h e = parted_cons_none k x t e
 
-  pub parted_more : (f : Fields) → x ≡ R.Request f → parted (suc k) t ≡ and_then (numbers_in t f) (parted k (drop f.end t))
+  pub parted_more : (f : Fields) → x ≡ Some f → parted (suc k) t ≡ and_then (numbers_in t f) (parted k (drop f.end t))
   parted_more f e = by t h (numbers_in t f) (drop f.end t) (request_placed t ∙ ap (request_by t) (fields_are t x is_x f e))
     where
-      by : (t : List ℕ) → 0 < length t → (n : RequestNumbers) (u : List ℕ) → read_request t ≡ some (n, u) → parted (suc k) t ≡ and_then n (parted k u)
+      by : (t : List ℕ) → 0 < length t → (n : RequestNumbers) (u : List ℕ) → read_request t ≡ Some (n, u) → parted (suc k) t ≡ and_then n (parted k u)
       by [] h n u e = absurd (omega arith)
       by (x ∷ t) h n u e = parted_cons_some k x t n u e
 
 -- ## The loop that counts
 
-abbrev counted_from : ℕ → Option (List RequestNumbers) → Counted
-counted_from k none = C.Unparted
-counted_from k (some ns) = C.Count (k + length ns)
+abbrev counted_from : ℕ → Option (List RequestNumbers) → Option ℕ
+counted_from k None = None
+counted_from k (Some ns) = Some (k + length ns)
 
 counted_start : (o : Option (List RequestNumbers)) → counted_of o ≡ counted_from 0 o
-counted_start none = refl
-counted_start (some ns) = let z : length ns ≡ 0 + length ns = omega arith in ap C.Count z
+counted_start None = refl
+counted_start (Some ns) = let z : length ns ≡ 0 + length ns = omega arith in ap Some z
 
 counted_more : (k : ℕ) (n : RequestNumbers) (o : Option (List RequestNumbers)) → counted_from k (and_then n o) ≡ counted_from (k + 1) o
-counted_more k n none = refl
-counted_more k n (some ns) = let z : k + length (n ∷ ns) ≡ k + 1 + length ns = omega arith in ap C.Count z
+counted_more k n None = refl
+counted_more k n (Some ns) = let z : k + length (n ∷ ns) ≡ k + 1 + length ns = omega arith in ap Some z
 
 -- k requests were counted, and rest is left
 pub record Parting (bytes rest : List ℕ) (k : ℕ) : Type 0 where
@@ -510,27 +502,27 @@ unfolding read_requests
 parting_start bytes = record { few = omega arith; same = counted_start (parted 32 bytes) }
 
 module _ (bytes rest : List ℕ) (k : ℕ) (w : Parting bytes rest k) where
-  pub parting_end : length rest ≤ 0 → C.Count k ≡ counted_of (read_requests bytes)
+  pub parting_end : length rest ≤ 0 → Some k ≡ counted_of (read_requests bytes)
   parting_end h =
       let z : k ≡ k + 0 = omega arith in
-      ap C.Count z ∙ sym (w.same ∙ ap (counted_from k) (parted_empty (32 - k) rest h))
+      ap Some z ∙ sym (w.same ∙ ap (counted_from k) (parted_empty (32 - k) rest h))
 
   module _ (h : 0 < length rest) where
-    pub parting_full : k ≡ 32 → C.Unparted ≡ counted_of (read_requests bytes)
+    pub parting_full : k ≡ 32 → None ≡ counted_of (read_requests bytes)
     parting_full e =
         let z : 32 - k ≡ 0 = omega arith in
         sym (w.same ∙ ap (λ (j : ℕ). counted_from k (parted j rest)) z ∙ ap (counted_from k) (parted_none rest h))
 
-    module _ (n : k ≡ 32 → ⊥) (x : RequestRead) (is_x : x ≡ request_read_of (fields_at rest)) where
+    module _ (n : k ≡ 32 → ⊥) (x : Option Fields) (is_x : x ≡ request_read_of (fields_at rest)) where
       left_is : 32 - k ≡ suc (32 - (k + 1))
       left_is = omega (arith, w.few, n)
 
-      pub parting_cut : x ≡ R.Cut → C.Unparted ≡ counted_of (read_requests bytes)
+      pub parting_cut : x ≡ None → None ≡ counted_of (read_requests bytes)
       parting_cut e =
           sym (w.same ∙ ap (λ (j : ℕ). counted_from k (parted j rest)) left_is
           ∙ ap (counted_from k) (parted_cut rest h (32 - (k + 1)) x is_x e))
 
-      pub parting_more : (f : Fields) → x ≡ R.Request f → Parting bytes (take (length rest - f.end) (drop f.end rest)) (k + 1)
+      pub parting_more : (f : Fields) → x ≡ Some f → Parting bytes (take (length rest - f.end) (drop f.end rest)) (k + 1)
       parting_more f e = record {
         few = omega (arith, w.few, n);
         same =

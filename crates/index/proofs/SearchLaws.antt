@@ -4,10 +4,10 @@
 --   few_tables     == it has at most 64 tables
 --   searched_same  == what is found by notes on the tables
 -- Assumes nothing.
+use Rattle.std.specs.Prelude.{Err, None, Ok, Option, Some, unwrap_or}
 use Prim.Native.Nat.{ℕ, ◌+◌, ◌-◌, ◌*◌, ◌≤◌, ◌<◌}
 use mathlib.Core.Bool.{Bool, true, false, ◌&&◌, ◌||◌, and_assoc}
 use mathlib.Core.List.{List, [], ◌∷◌, ◌++◌, append_assoc}
-use mathlib.Core.Option.{Option, none, some, get_or}
 use mathlib.Core.Path.{◌≡◌, refl, sym, ap, ap₂, ◌∙◌}
 use native.Mathlib.Omega.{arith}
 use borrow.Author.Tests.{ltb-false, lt-ltb, le-ltb}
@@ -23,8 +23,7 @@ use Rattle.text.proofs.ScanLaws.{take_rest, equal_lengths}
 use Rattle.section.specs.declared.Fault.TheVariants as F
 use Rattle.section.specs.declared.Part.{Part}
 use Rattle.section.specs.declared.Refusal.{Refusal}
-use Rattle.section.specs.declared.Written.TheVariants as W
-use Rattle.section.specs.Refusal.{Outcome, refused, answered, refusal, placeless, within_room, written_of, lent_after}
+use Rattle.section.specs.Refusal.{Outcome, refusal, placeless, within_room, written_of, lent_after}
 use Rattle.section.specs.Section as Sec
 use Rattle.section.specs.Section.{part, bytes_at}
 use Rattle.lines.specs.Line.{lines}
@@ -69,7 +68,7 @@ use Rattle.index.proofs.TableLaws.{length_two, length_table, rules_at_most, Two,
 use Rattle.index.proofs.EntryLaws.{number_of}
 use Rattle.index.proofs.TextLaws.{all_small, moved, in_file, Same, text_same}
 
-module _ (sheet : List ℕ) (p : Parts) (ok : unpack sheet ≡ answered p) where
+module _ (sheet : List ℕ) (p : Parts) (ok : unpack sheet ≡ Ok p) where
   abbrev al : List ℕ
   al = bytes_at sheet p.allow
 
@@ -82,7 +81,7 @@ module _ (sheet : List ℕ) (p : Parts) (ok : unpack sheet ≡ answered p) where
   framed : Framed sheet p
   framed = (unpack_answered sheet p ok).0
 
-  sound : texts_fault (texts_at sheet p) ≡ none
+  sound : texts_fault (texts_at sheet p) ≡ None
   sound = (unpack_answered sheet p ok).1
 
   pub allow_inside : p.allow.place + p.allow.len ≤ length sheet
@@ -100,14 +99,14 @@ module _ (sheet : List ℕ) (p : Parts) (ok : unpack sheet ≡ answered p) where
   pub sheet_length : length sheet ≤ 57360
   sheet_length = at_most sheet p ok
 
-  contents : contents_fault al de (bytes_at sheet p.byuid) (bytes_at sheet p.portacl) ta ≡ none
+  contents : contents_fault al de (bytes_at sheet p.byuid) (bytes_at sheet p.portacl) ta ≡ None
   contents =
       let bu : List ℕ = bytes_at sheet p.byuid in
       let po : List ℕ = bytes_at sheet p.portacl in
       (or_else_none (tables_frame ta) (contents_fault al de bu po ta)
       (or_else_none (limits_fault al de bu po) (tables_frame ta or_else contents_fault al de bu po ta) (sym (texts_fault_parts al de bu po ta) ∙ sound)).1).1
 
-  lines_sound : ((hosts_fault Sec.allow al ≡ none) × (hosts_fault Sec.deny de ≡ none)) × (tables_fault al de ta ≡ none)
+  lines_sound : ((hosts_fault Sec.allow al ≡ None) × (hosts_fault Sec.deny de ≡ None)) × (tables_fault al de ta ≡ None)
   unfolding contents_fault lines_fault
   lines_sound =
       let bu : List ℕ = bytes_at sheet p.byuid in
@@ -125,7 +124,7 @@ module _ (sheet : List ℕ) (p : Parts) (ok : unpack sheet ≡ answered p) where
   few_tables = rw tables_whole (ltb-false 64 (length (tables_of ta)) (by (ltb 64 (length (tables_of ta))) (tables_named al de ta lines_sound.1)))
     where
       by : (b : Bool) → ((given (b || ltb 12288 (length ta)) 0 or_else first_table (λ before x. is_unsound x) 1 [] (tables_of ta))
-          >>= λ n. some (refusal F.BadTable 5 n)) ≡ none → b ≡ false
+          >>= λ n. Some (refusal F.BadTable 5 n)) ≡ None → b ≡ false
       by false h = refl
       by true h = let z : ◌≡◌ {A = ℕ} 0 1 = cc in absurd (omega arith)
 
@@ -179,7 +178,7 @@ module _ (sheet : List ℕ) (p : Parts) (ok : unpack sheet ≡ answered p) where
     abbrev end : Answer
     end = answer Ver.Granted Neither 0 (part 0 0)
 
-    both_lines : seek_both sheet p q ≡ searched (in_sheet p (get_or (of_allow_lem or_else of_deny_lem) end)) (capped (total g c al de))
+    both_lines : seek_both sheet p q ≡ searched (in_sheet p (unwrap_or (of_allow_lem or_else of_deny_lem) end)) (capped (total g c al de))
     unfolding seek_both
     both_lines =
         ap₂ (λ (x y : Seeking). seek_then x.sought x.looked y) seek_allow seek_deny
@@ -187,13 +186,13 @@ module _ (sheet : List ℕ) (p : Parts) (ok : unpack sheet ≡ answered p) where
       where
         by : (x y : Option Answer) → of_allow_lem ≡ x → of_deny_lem ≡ y → (n m : ℕ)
             → seek_then (sought_of (in_file p.allow.place x)) (capped n) (seeking (in_file p.deny.place y) (capped m))
-            ≡ searched (in_sheet p (get_or (x or_else y) end)) (capped (n + (when is_some x then 0 else m)))
-        by (some a) y e f n m =
+            ≡ searched (in_sheet p (unwrap_or (x or_else y) end)) (capped (n + (when is_some x then 0 else m)))
+        by (Some a) y e f n m =
             let z : n ≡ n + 0 = omega arith in
             ap₂ (λ (b : Answer) (k : ℕ). searched b (capped k)) (place_of Allow p.allow.place refl a (text_within Ver.Granted Allow g al a e).file) z
-        by none (some b) e f n m =
+        by None (Some b) e f n m =
             ap₂ searched (place_of Deny p.deny.place refl b (text_within Ver.Denied Deny g de b f).file) (capped_left n (capped m) ∙ capped_add n m)
-        by none none e f n m = ap (searched end) (capped_left n (capped m) ∙ capped_add n m)
+        by None None e f n m = ap (searched end) (capped_left n (capped m) ∙ capped_add n m)
 
   -- ## By notes on the tables
 
@@ -236,7 +235,7 @@ module _ (sheet : List ℕ) (p : Parts) (ok : unpack sheet ≡ answered p) where
         let last : Answer = answer Ver.Granted Neither 0 (part 0 0) in
         both_lines query
         ∙ ap₂ searched
-        (ap (λ (g : Rule → Found). in_sheet p (get_or (first (line_answer Ver.Granted Allow g) (lines al) or_else first (line_answer Ver.Denied Deny g)
+        (ap (λ (g : Rule → Found). in_sheet p (unwrap_or (first (line_answer Ver.Granted Allow g) (lines al) or_else first (line_answer Ver.Denied Deny g)
         (lines de)) last)) same_found_lem)
         (ap (λ (g : Rule → Found). capped (total g (query_looked query) al de)) same_found_lem
         ∙ total_near (rule_found (match_of ts) r) (query_looked query) (rule_looked ts r) same_looked al de)
@@ -259,7 +258,7 @@ module _ (sheet : List ℕ) (p : Parts) (allow deny : List ℕ) (ready : Ready s
 
 -- ## The parts of an index
 
-module _ (sheet : List ℕ) (p : Parts) (ok : unpack sheet ≡ answered p) (index : List ℕ) (is-index : index ≡ index_bytes sheet p) where
+module _ (sheet : List ℕ) (p : Parts) (ok : unpack sheet ≡ Ok p) (index : List ℕ) (is-index : index ≡ index_bytes sheet p) where
   abbrev ra : List Entry
   ra = rules_at sheet p.allow
 
@@ -340,7 +339,7 @@ module _ (out : List ℕ) (n m : ℕ) (x y : List ℕ) (o₁ : List ℕ) (k₁ :
         let s₂ : o₂ ≡ after (f ++ x) out = put_more out o₁ o₂ f x k₁ w₂.1 s₁ (omega (arith, w₁.0, length_two n m)) in
         (omega (arith, w₁.0, w₂.0, w₃.0), put_more out o₂ o₃ (f ++ x) y k₂ w₃.1 s₂ (omega (arith, w₁.0, w₂.0, length-append f x, length_two n m)))
 
-module _ (sheet : List ℕ) (p : Parts) (ok : unpack sheet ≡ answered p) (a d : List ℕ) (is-a : a ≡ bytes_at sheet p.allow)
+module _ (sheet : List ℕ) (p : Parts) (ok : unpack sheet ≡ Ok p) (a d : List ℕ) (is-a : a ≡ bytes_at sheet p.allow)
     (is_d : d ≡ bytes_at sheet p.deny) where
   pub allow_fits : p.allow.place + length a ≤ 57360
   allow_fits = rw is-a (omega (arith, allow_inside sheet p ok, allow_length sheet p ok, sheet_length sheet p ok))
@@ -372,17 +371,17 @@ module _ (sheet : List ℕ) (p : Parts) (ok : unpack sheet ≡ answered p) (a d 
       o = within_room (length out) (index_bytes sheet p)
 
       module _ (h : length out < 8 + 32 * (n + m)) where
-        short : o ≡ refused (placeless F.NoRoom)
+        short : o ≡ Err (placeless F.NoRoom)
         short = rw (lt-ltb (length out) (length whole) (omega (arith, whole_length)))
 
-        pub index_no_room : (g : Refusal) → g ≡ placeless F.NoRoom → W.Refused g ≡ written_of o
+        pub index_no_room : (g : Refusal) → g ≡ placeless F.NoRoom → Err g ≡ written_of o
         index_no_room g is-g = rw (short, is-g)
 
         pub index_untouched : out ≡ lent_after out o
         index_untouched = rw short
 
       module _ (h : 8 + 32 * (n + m) ≤ length out) where
-        enough : o ≡ answered (index_bytes sheet p)
+        enough : o ≡ Ok (index_bytes sheet p)
         enough = rw (le-ltb (length out) (length whole) (omega (arith, whole_length)))
 
         pub index_room : 8 + length (table_bytes (rule_table p.allow.place (lines a))) + length
@@ -391,7 +390,7 @@ module _ (sheet : List ℕ) (p : Parts) (ok : unpack sheet ≡ answered p) (a d 
 
         pub index_count : (k : ℕ) → k ≡ 8 + length (table_bytes (rule_table p.allow.place (lines a))) + length
             (table_bytes (rule_table p.deny.place (lines d)))
-            → W.Count k ≡ written_of o
+            → Ok k ≡ written_of o
         index_count k e =
             let z : k ≡ length whole = omega (
               arith,
@@ -402,7 +401,7 @@ module _ (sheet : List ℕ) (p : Parts) (ok : unpack sheet ≡ answered p) (a d 
               is-n,
               is_m,
             ) in
-            ap W.Count z ∙ sym (ap written_of enough)
+            ap Ok z ∙ sym (ap written_of enough)
 
         pub index_text : (q : List ℕ) → q ≡ after index_of out → q ≡ lent_after out o
         unfolding after

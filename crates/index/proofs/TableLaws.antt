@@ -3,10 +3,10 @@
 --   Counting, Writing, Comparing == the loops over the lines
 --   index-same             == an index compared with that of a sheet
 -- Assumes nothing.
+use Rattle.std.specs.Prelude.{None, Option, Some, unwrap_or}
 use Prim.Native.Nat.{ℕ, zero, suc, ◌+◌, ◌-◌, ◌*◌, ◌/◌, ◌≤◌, ◌<◌}
 use mathlib.Core.Bool.{Bool, true, false, not, ◌&&◌, ◌||◌, true≢false}
 use mathlib.Core.List.{List, [], ◌∷◌, ◌++◌, append-nil, append_assoc}
-use mathlib.Core.Option.{Option, none, some, get_or}
 use mathlib.Core.Path.{◌≡◌, refl, sym, ap, ap₂, ◌∙◌}
 use native.Mathlib.Omega.{arith}
 use borrow.Author.Tests.{eqb-true, ltb-true, ltb-false, eq-eqb, ne_eqb}
@@ -45,10 +45,10 @@ separator_index_le inside (x ∷ t) = by (is_separator inside x) (separator_inde
     by false h = omega arith
 
 -- what stands before the first separator, all where there is none
-before_length : (s : List ℕ) → length (get_or (split_separator false s) (s, [])).0 ≡ separator_index false s
+before_length : (s : List ℕ) → length (unwrap_or (split_separator false s) (s, [])).0 ≡ separator_index false s
 before_length s = by (ltb (separator_index false s) (length s)) refl
   where
-    by : (b : Bool) → ltb (separator_index false s) (length s) ≡ b → length (get_or (split_separator false s) (s, [])).0 ≡ separator_index false s
+    by : (b : Bool) → ltb (separator_index false s) (length s) ≡ b → length (unwrap_or (split_separator false s) (s, [])).0 ≡ separator_index false s
     by true e =
         let l : separator_index false s < length s = ltb-true (separator_index false s) (length s) e in
         rw (split_separator_some s (separator_index false s) refl l) (length-take-le (separator_index false s) s (omega arith))
@@ -70,7 +70,7 @@ module _ (base n i : ℕ) (raw : List ℕ) (b : Bool) (j : ℕ) (dropped : lengt
     rule = range (base + i) (base + i + length raw);
     daemons = range (base + i) (base + i + length p.0);
     clients = range (base + i + length p.0 + 1)
-        (base + i + length p.0 + 1 + length (get_or (split_separator false p.1) (p.1, [])).0);
+        (base + i + length p.0 + 1 + length (unwrap_or (split_separator false p.1) (p.1, [])).0);
   }
 
   parted_same : sep < length raw → parted_entry (take sep raw, drop (sep + 1) raw) ≡ entry_by raw (base + i) n j
@@ -83,13 +83,13 @@ module _ (base n i : ℕ) (raw : List ℕ) (b : Bool) (j : ℕ) (dropped : lengt
   entry_of_line = by (first_among "#" (join raw)) (all (among " \t") (join raw)) (ltb sep (length raw)) refl
     where
       by : (c d s : Bool) → ltb sep (length raw) ≡ s
-          → (when c || d then none else (split_separator false raw >>= λ p. some (parted_entry p)))
+          → (when c || d then None else (split_separator false raw >>= λ p. Some (parted_entry p)))
           ≡ given (when c then false else when d then false else s) (entry_by raw (base + i) n j)
       by true d s e = refl
       by false true s e = refl
       by false false true e =
           let l : sep < length raw = ltb-true sep (length raw) e in
-          rw (split_separator_some raw sep refl l) (ap some (parted_same l))
+          rw (split_separator_some raw sep refl l) (ap Some (parted_same l))
       by false false false e = rw (split_separator_none raw sep refl (ltb-false sep (length raw) e))
 
 -- as the calls hand it over

@@ -3,10 +3,10 @@
 --   all_small   == the numbers of the entries of a text have at most four bytes
 --   text_same   == what the entries of a sound text find and look at is what its lines do
 -- Assumes nothing.
+use Rattle.std.specs.Prelude.{None, Option, Some}
 use Prim.Native.Nat.{ℕ, zero, suc, ◌+◌, ◌-◌, ◌*◌, ◌≤◌, ◌<◌}
 use mathlib.Core.Bool.{Bool, true, false, not, ◌&&◌, ◌||◌, true≢false}
 use mathlib.Core.List.{List, [], ◌∷◌}
-use mathlib.Core.Option.{Option, none, some}
 use mathlib.Core.Path.{◌≡◌, refl, sym, ap, ap₂, subst, ◌∙◌}
 use native.Mathlib.Nat.{add-sub_cancel_left}
 use native.Mathlib.Omega.{arith}
@@ -120,7 +120,7 @@ module _ (base : ℕ) (t : List ℕ) (few : base + length t + 2 < 4294967296) wh
 
 -- ## Joined parts are no longer than the joined line
 
-split_le : (s : List ℕ) (x : List ℕ × List ℕ) → split_separator false s ≡ some x → (length x.0 ≤ length s) × (length x.1 ≤ length s)
+split_le : (s : List ℕ) (x : List ℕ × List ℕ) → split_separator false s ≡ Some x → (length x.0 ≤ length s) × (length x.1 ≤ length s)
 split_le s x e = by (ltb (separator_index false s) (length s)) refl
   where
     by : (b : Bool) → ltb (separator_index false s) (length s) ≡ b → (length x.0 ≤ length s) × (length x.1 ≤ length s)
@@ -131,7 +131,7 @@ split_le s x e = by (ltb (separator_index false s) (length s)) refl
         subst (λ (x : List ℕ × List ℕ). (length x.0 ≤ length s) × (length x.1 ≤ length s)) same
         (omega (arith, length-take-le (separator_index false s) s (omega arith)), omega (arith, length-drop (separator_index false s + 1) s))
     by false k =
-        let n : split_separator false s ≡ none = split_separator_none s (separator_index false s) refl (ltb-false (separator_index false s) (length s) k) in
+        let n : split_separator false s ≡ None = split_separator_none s (separator_index false s) refl (ltb-false (separator_index false s) (length s) k) in
         let z : ◌≡◌ {A = ℕ} 0 1 = cc (sym n ∙ e) in absurd (omega arith)
 
 module _ (s : List ℕ) (ruled : separator_index false s < length s) where
@@ -149,29 +149,29 @@ joined_front s = by (ltb (separator_index false s) (length s)) refl
 
 -- ## A sound line
 
-none_both : {A : Type 0} (x y : Option A) → x or_else y ≡ none → (x ≡ none) × (y ≡ none)
-none_both none y e = (refl, e)
-none_both (some a) y e = let z : ◌≡◌ {A = ℕ} 0 1 = cc in absurd (omega arith)
+none_both : {A : Type 0} (x y : Option A) → x or_else y ≡ None → (x ≡ None) × (y ≡ None)
+none_both None y e = (refl, e)
+none_both (Some a) y e = let z : ◌≡◌ {A = ℕ} 0 1 = cc in absurd (omega arith)
 
-place_none : (s n : ℕ) (o : Option Fault) → at_place s n o ≡ none → o ≡ none
-place_none s n none e = refl
-place_none s n (some f) e = let z : ◌≡◌ {A = ℕ} 0 1 = cc in absurd (omega arith)
+place_none : (s n : ℕ) (o : Option Fault) → at_place s n o ≡ None → o ≡ None
+place_none s n None e = refl
+place_none s n (Some f) e = let z : ◌≡◌ {A = ℕ} 0 1 = cc in absurd (omega arith)
 
-lowest_none : (a b c : Bool) → lowest ((F.Unended, a) ∷ (F.BadByte, b) ∷ (F.LongLine, c) ∷ []) ≡ none → c ≡ false
+lowest_none : (a b c : Bool) → lowest ((F.Unended, a) ∷ (F.BadByte, b) ∷ (F.LongLine, c) ∷ []) ≡ None → c ≡ false
 unfolding lowest
 lowest_none true b c e = let z : ◌≡◌ {A = ℕ} 0 1 = cc in absurd (omega arith)
 lowest_none false true c e = let z : ◌≡◌ {A = ℕ} 0 1 = cc in absurd (omega arith)
 lowest_none false false true e = let z : ◌≡◌ {A = ℕ} 0 1 = cc in absurd (omega arith)
 lowest_none false false false e = refl
 
-short_line : (x : Line) → line_fault x ≡ none → length (join x.raw) ≤ 2047
+short_line : (x : Line) → line_fault x ≡ None → length (join x.raw) ≤ 2047
 unfolding line_fault_by
 short_line x e =
     ltb-false 2047 (length (join x.raw))
     (lowest_none (not x.ended) (not (is_comment x) && has_bad_byte (join x.raw)) (is_too_long (join x.raw))
     (none_both
     (lowest ((F.Unended, not x.ended) ∷ (F.BadByte, not (is_comment x) && has_bad_byte (join x.raw)) ∷ (F.LongLine, is_too_long (join x.raw)) ∷ []))
-    (when is_comment x || is_blank x then none else rule_fault (parse_rule x.raw)) e).0)
+    (when is_comment x || is_blank x then None else rule_fault (parse_rule x.raw)) e).0)
 
 -- ## The rule at the places of an entry
 
@@ -180,16 +180,16 @@ abbrev pub moved : ℕ → Answer → Answer
 moved base a = answer a.verdict a.file a.line (part (base + a.command.place) a.command.len)
 
 abbrev pub in_file : ℕ → Option Answer → Option Answer
-in_file base none = none
-in_file base (some a) = some (moved base a)
+in_file base None = None
+in_file base (Some a) = Some (moved base a)
 
 in_file_or_else : (base : ℕ) (x y : Option Answer) → in_file base (x or_else y) ≡ in_file base x or_else in_file base y
-in_file_or_else base none y = refl
-in_file_or_else base (some a) y = refl
+in_file_or_else base None y = refl
+in_file_or_else base (Some a) y = refl
 
 in_file_some : (base : ℕ) (x : Option Answer) → is_some (in_file base x) ≡ is_some x
-in_file_some base none = refl
-in_file_some base (some a) = refl
+in_file_some base None = refl
+in_file_some base (Some a) = refl
 
 rule_same : (ds ds' cs cs' : List (List ℕ)) (k k' : List ℕ) → ds ≡ ds' → cs ≡ cs' → k ≡ k' → rule ds cs k ≡ rule ds' cs' k'
 rule_same ds ds' cs cs' k k' d c e = rw (d, c, e)
@@ -296,11 +296,11 @@ module _ (sheet : List ℕ) (p : Part) (inside : p.place + p.len ≤ length shee
           by true k = ap words (plain (omega (arith, eqb-true n (n + l.joins) k)))
           by false k = rw (le-ltb 2048 (length (join s)) (omega arith))
 
-      pub parsed : length (join raw) ≤ 2047 → parse_rule raw ≡ some (entry_rule sheet e)
+      pub parsed : length (join raw) ≤ 2047 → parse_rule raw ≡ Some (entry_rule sheet e)
       parsed short =
           let jp = joined_parts raw ruled in
           parse_rule_some raw sep refl ruled rest refl second refl
-          ∙ ap some (rule_same (elements (take sep raw)) (list_at (joins_in e) (between e.daemons sheet)) (elements (take second rest))
+          ∙ ap Some (rule_same (elements (take sep raw)) (list_at (joins_in e) (between e.daemons sheet)) (elements (take second rest))
           (list_at (joins_in e) (between e.clients sheet)) (drop (second + 1) rest) (command_text sheet e)
           (list_is (take sep raw) (λ z. join_part raw 0 sep (line_no_newline t i l is-l z)) (omega (arith, jp.0))
           ∙ ap (list_at (joins_in e)) (sym daemons_text))
@@ -312,10 +312,10 @@ module _ (sheet : List ℕ) (p : Part) (inside : p.place + p.len ≤ length shee
         answer_same : (x : Found) → rule_answer_at sheet base v f e x ≡ in_file base (rule_answer v f (line n i raw b) (entry_rule sheet e) x)
         unfolding entry_by entry_command
         answer_same Found.No = refl
-        answer_same Found.Ask = let z : base ≡ base + 0 = omega arith in ap (λ (k : ℕ). some (answer Ver.Ask f n (part k 0))) z
+        answer_same Found.Ask = let z : base ≡ base + 0 = omega arith in ap (λ (k : ℕ). Some (answer Ver.Ask f n (part k 0))) z
         answer_same Found.Yes =
             let c : List ℕ = command_text sheet e in
-            ap₂ (λ (k : ℕ) (w : Bool). some (answer v f n (part k (when w then 0 else length c))))
+            ap₂ (λ (k : ℕ) (w : Bool). Some (answer v f n (part k (when w then 0 else length c))))
             (command_both.1 ∙ ap (λ (s : List ℕ). base + (i + (length raw - length s))) (sym command_both.0))
             (sym (is_empty_trimmed c))
 
@@ -337,21 +337,21 @@ module _ (sheet : List ℕ) (p : Part) (inside : p.place + p.len ≤ length shee
           by false true s k e = absurd (true≢false (sym e))
           by false false s k e = (refl, ltb-true sep (length raw) (k ∙ e))
 
-      unruled_line : has_rule raw ≡ false → (line_answer v f (query_found q) here ≡ none) × (line_count (query_looked q) here ≡ 0)
+      unruled_line : has_rule raw ≡ false → (line_answer v f (query_found q) here ≡ None) × (line_count (query_looked q) here ≡ 0)
       unfolding has_rule line_answer line_count
       unruled_line = by (first_among "#" (join raw)) (all (among " \t") (join raw)) (ltb sep (length raw)) refl
         where
           by : (c d s : Bool) → ltb sep (length raw) ≡ s → (when c then false else when d then false else s) ≡ false
-              → ((when c || d then none else (parse_rule raw >>= λ u. rule_answer v f here u (query_found q u))) ≡ none)
+              → ((when c || d then None else (parse_rule raw >>= λ u. rule_answer v f here u (query_found q u))) ≡ None)
               × ((when c || d then 0 else of_rule (query_looked q) (parse_rule raw)) ≡ 0)
           by true d s k e = (refl, refl)
           by false true s k e = (refl, refl)
           by false false s k e =
-              let z : parse_rule raw ≡ none = parse_rule_none raw sep refl (ltb-false sep (length raw) (k ∙ e)) in
+              let z : parse_rule raw ≡ None = parse_rule_none raw sep refl (ltb-false sep (length raw) (k ∙ e)) in
               (rw z, rw z)
 
       module _ (ruled : has_rule raw ≡ true) (short : length (join raw) ≤ 2047) where
-        parsed_own : parse_rule raw ≡ some own
+        parsed_own : parse_rule raw ≡ Some own
         parsed_own = parsed (ruled_line ruled).1 short
 
         line_is : line_answer v f (query_found q) here ≡ rule_answer v f here own (query_found q own)
@@ -384,14 +384,14 @@ module _ (sheet : List ℕ) (p : Part) (inside : p.place + p.len ≤ length shee
     same_nothing = record { answers = refl; counts = refl }
 
     module _ (x : Line) (ls : List Line) (s : Same ls) where
-      same_passed : rule_entry base x ≡ none → lin x ≡ none → line_count (query_looked q) x ≡ 0 → Same (x ∷ ls)
+      same_passed : rule_entry base x ≡ None → lin x ≡ None → line_count (query_looked q) x ≡ 0 → Same (x ∷ ls)
       unfolding rule_table first sum_until
       same_passed en an co = record {
         answers = rw (en, an) s.answers;
         counts = rw (en, an, co) (s.counts ∙ omega arith);
       }
 
-      same_ruled : (e : Entry) → rule_entry base x ≡ some e → ans e ≡ in_file base (lin x) → entry_looked sheet q e ≡ line_count (query_looked q) x → Same (x ∷ ls)
+      same_ruled : (e : Entry) → rule_entry base x ≡ Some e → ans e ≡ in_file base (lin x) → entry_looked sheet q e ≡ line_count (query_looked q) x → Same (x ∷ ls)
       unfolding rule_table first sum_until
       same_ruled e en an co = record {
         answers = rw en (ap₂ ◌or_else◌ an s.answers ∙ sym (in_file_or_else base (lin x) (first lin ls)));
@@ -408,7 +408,7 @@ module _ (sheet : List ℕ) (p : Part) (inside : p.place + p.len ≤ length shee
         abbrev this : Line
         this = line n i (take (l.end - i) (drop i t)) l.ended
 
-        same_more : (first fault ls ≡ none → Same ls) → first fault (this ∷ ls) ≡ none → Same (this ∷ ls)
+        same_more : (first fault ls ≡ None → Same ls) → first fault (this ∷ ls) ≡ None → Same (this ∷ ls)
         unfolding first
         same_more ih sound =
             let both = none_both (fault this) (first fault ls) sound in
@@ -425,9 +425,9 @@ module _ (sheet : List ℕ) (p : Part) (inside : p.place + p.len ≤ length shee
             by false k y short =
                 same_passed this ls y (entry false k) (unruled_line n i l is-l h v f q k).0 (unruled_line n i l is-l h v f q k).1
 
-      sound_nothing : first fault [] ≡ none → Same []
+      sound_nothing : first fault [] ≡ None → Same []
       sound_nothing e = same_nothing
 
-      pub text_same : hosts_fault s t ≡ none → Same (lines t)
+      pub text_same : hosts_fault s t ≡ None → Same (lines t)
       unfolding hosts_fault
-      text_same = lines_ind t (λ ls. first fault ls ≡ none → Same ls) sound_nothing same_more
+      text_same = lines_ind t (λ ls. first fault ls ≡ None → Same ls) sound_nothing same_more

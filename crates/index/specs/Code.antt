@@ -8,13 +8,12 @@
 --   searched_at sheet p r   == the lone search, its answer in the sheet
 --   text_at, host_at, fields_at == the fields of a request by their places
 -- Assumes nothing: these are definitions.
-use Rattle.std.specs.Prelude.{ℕ, ◌+◌, ◌-◌, ◌≤◌, ◌<◌, Bool, true, false, not, ◌&&◌, ◌||◌, List, [], ◌∷◌, ◌≡◌, length, take, drop, get_or, eqb, leb, ltb}
-use Rattle.std.proofs.Math.Option.{Option, none, some}
+use Rattle.std.specs.Prelude.{ℕ, ◌+◌, ◌-◌, ◌≤◌, ◌<◌, Bool, true, false, not, ◌&&◌, ◌||◌, List, [], ◌∷◌, ◌≡◌, length, take, drop, get_or, eqb, leb, ltb, None, Ok, Option, Some}
 use Rattle.text.specs.Basics.{when◌then◌else◌, ◌>>=◌, is_some, all, first, sum_until}
 use Rattle.text.specs.Text.{among, first_among, split, equal_fold}
 use Rattle.section.specs.declared.Part.{Part}
 use Rattle.section.specs.declared.Fault.TheVariants as F
-use Rattle.section.specs.Refusal.{answered, placeless}
+use Rattle.section.specs.Refusal.{placeless}
 use Rattle.section.specs.Section.{part, bytes_at}
 use Rattle.lines.specs.declared.line.LineSpan.{LineSpan}
 use Rattle.lines.specs.Line.{join, logical_lines}
@@ -51,19 +50,9 @@ use Rattle.codes.specs.Code.{verdict_numbers}
 use Rattle.index.specs.declared.Range.{Range}
 use Rattle.index.specs.declared.Entry.{Entry}
 use Rattle.index.specs.declared.table.LineEntry.{LineEntry}
-use Rattle.index.specs.declared.search.Sought.{Sought}
-use Rattle.index.specs.declared.search.Sought.TheVariants as S
 use Rattle.index.specs.declared.search.Seeking.{Seeking}
-use Rattle.index.specs.declared.requests.TextRead.{TextRead}
-use Rattle.index.specs.declared.requests.TextRead.TheVariants as T
 use Rattle.index.specs.declared.requests.HostFields.{HostFields}
-use Rattle.index.specs.declared.requests.HostRead.{HostRead}
-use Rattle.index.specs.declared.requests.HostRead.TheVariants as H
 use Rattle.index.specs.declared.requests.Fields.{Fields}
-use Rattle.index.specs.declared.requests.RequestRead.{RequestRead}
-use Rattle.index.specs.declared.requests.RequestRead.TheVariants as R
-use Rattle.index.specs.declared.requests.Counted.{Counted}
-use Rattle.index.specs.declared.requests.Counted.TheVariants as C
 use Rattle.index.specs.Index.{range, rule_table, rules_at, entry_bytes, table_bytes, number_at, answers_to}
 
 -- ## The entries of a text
@@ -174,9 +163,9 @@ entry_rule sheet e = record {
 
 -- base: the place of its file
 abbrev pub rule_answer_at : List ℕ → ℕ → Verdict → File → Entry → Found → Option Answer
-rule_answer_at sheet base v f e Found.Yes = some (answer v f e.lines.start (entry_command sheet e))
-rule_answer_at sheet base v f e Found.Ask = some (answer Ask f e.lines.start (part base 0))
-rule_answer_at sheet base v f e Found.No = none
+rule_answer_at sheet base v f e Found.Yes = Some (answer v f e.lines.start (entry_command sheet e))
+rule_answer_at sheet base v f e Found.Ask = Some (answer Ask f e.lines.start (part base 0))
+rule_answer_at sheet base v f e Found.No = None
 
 unfoldable pub entry_answer : List ℕ → ℕ → Verdict → File → Query → Entry → Option Answer
 entry_answer sheet base v f q e = rule_answer_at sheet base v f e (query_found q (entry_rule sheet e))
@@ -186,9 +175,9 @@ entry_looked sheet q e = query_looked q (entry_rule sheet e)
 
 -- ## The search
 
-abbrev pub sought_of : Option Answer → Sought
-sought_of none = S.Nothing
-sought_of (some a) = S.Answer a
+abbrev pub sought_of : Option Answer → Option Answer
+sought_of None = None
+sought_of (Some a) = Some a
 
 abbrev pub seeking : Option Answer → ℕ → Seeking
 seeking o n = record { sought = sought_of o; looked = n }
@@ -198,16 +187,16 @@ seek_in sheet base v f q es =
     seeking (first (entry_answer sheet base v f q) es)
     (capped (sum_until (λ e. is_some (entry_answer sheet base v f q e)) (entry_looked sheet q) es))
 
-abbrev pub last_answer : Sought → Answer
-last_answer S.Nothing = answer Granted Neither 0 (part 0 0)
-last_answer (S.Answer a) = a
+abbrev pub last_answer : Option Answer → Answer
+last_answer None = answer Granted Neither 0 (part 0 0)
+last_answer (Some a) = a
 
 abbrev pub ended_by : ℕ → Seeking → Searched
 ended_by n x = searched (last_answer x.sought) (capped (n + x.looked))
 
-abbrev pub seek_then : Sought → ℕ → Seeking → Searched
-seek_then S.Nothing n y = ended_by n y
-seek_then (S.Answer a) n y = searched a n
+abbrev pub seek_then : Option Answer → ℕ → Seeking → Searched
+seek_then None n y = ended_by n y
+seek_then (Some a) n y = searched a n
 
 unfoldable pub seek_both : List ℕ → Parts → Query → Searched
 seek_both sheet p q =
@@ -222,7 +211,7 @@ searched_at sheet p r =
 
 -- an accepted sheet, and the tables of its index
 pub record Ready (sheet : List ℕ) (p : Parts) (allow deny : List ℕ) : Type 0 where
-  pub accepted : unpack sheet ≡ answered p
+  pub accepted : unpack sheet ≡ Ok p
   pub allow_table : Table allow (rules_at sheet p.allow)
   pub deny_table : Table deny (rules_at sheet p.deny)
 
@@ -230,13 +219,13 @@ pub record Ready (sheet : List ℕ) (p : Parts) (allow deny : List ℕ) : Type 0
 
 unfoldable pub text_at : ℕ → List ℕ → Option Part
 text_at at t =
-    when leb (length t) at then none
-    else when leb (length t - at) (get_or t at 0) then none
-    else some (part (at + 1) (get_or t at 0))
+    when leb (length t) at then None
+    else when leb (length t - at) (get_or t at 0) then None
+    else Some (part (at + 1) (get_or t at 0))
 
-abbrev pub text_read_of : Option Part → TextRead
-text_read_of none = T.Cut
-text_read_of (some p) = T.Text p
+abbrev pub text_read_of : Option Part → Option Part
+text_read_of None = None
+text_read_of (Some p) = Some p
 
 unfoldable pub numbers_at : ℕ → List ℕ → HostNumbers
 numbers_at at t = host_numbers (get_or t at 0) (get_or t (at + 1) 0) (number_at (at + 2) 8 t) (number_at (at + 10) 8 t)
@@ -245,19 +234,19 @@ abbrev pub host_fields : HostNumbers → Part → HostFields
 host_fields n p = record { numbers = n; name = p }
 
 unfoldable pub host_at : ℕ → List ℕ → Option HostFields
-host_at at t = when ltb (length t - at) 18 then none else (text_at (at + 18) t >>= λ name. some (host_fields (numbers_at at t) name))
+host_at at t = when ltb (length t - at) 18 then None else (text_at (at + 18) t >>= λ name. Some (host_fields (numbers_at at t) name))
 
-abbrev pub host_read_of : Option HostFields → HostRead
-host_read_of none = H.Cut
-host_read_of (some h) = H.Host h
+abbrev pub host_read_of : Option HostFields → Option HostFields
+host_read_of None = None
+host_read_of (Some h) = Some h
 
 abbrev pub fields_of : Part → HostFields → HostFields → ℕ → Part → Fields
 fields_of d c s u n = record { daemon = d; client = c; server = s; user = u; user_name = n; end = part_end n }
 
 unfoldable pub user_from : Part → HostFields → HostFields → List ℕ → Option Fields
 user_from d c s t =
-    when leb (length t) (part_end s.name) then none
-    else (text_at (part_end s.name + 1) t >>= λ name. some (fields_of d c s (get_or t (part_end s.name) 0) name))
+    when leb (length t) (part_end s.name) then None
+    else (text_at (part_end s.name + 1) t >>= λ name. Some (fields_of d c s (get_or t (part_end s.name) 0) name))
 
 unfoldable pub hosts_from : Part → List ℕ → Option Fields
 hosts_from d t = do
@@ -270,13 +259,13 @@ fields_at t = do
   d ← text_at 0 t
   hosts_from d t
 
-abbrev pub request_read_of : Option Fields → RequestRead
-request_read_of none = R.Cut
-request_read_of (some f) = R.Request f
+abbrev pub request_read_of : Option Fields → Option Fields
+request_read_of None = None
+request_read_of (Some f) = Some f
 
-abbrev pub counted_of : Option (List RequestNumbers) → Counted
-counted_of none = C.Unparted
-counted_of (some ns) = C.Count (length ns)
+abbrev pub counted_of : Option (List RequestNumbers) → Option ℕ
+counted_of None = None
+counted_of (Some ns) = Some (length ns)
 
 abbrev pub numbers_in : List ℕ → Fields → RequestNumbers
 numbers_in names f =
@@ -314,11 +303,11 @@ abbrev pub unfit_numbers : GateAnswer
 unfit_numbers = verdict_numbers (refused_report (placeless F.BadRequest))
 
 unfoldable pub all_answers : List ℕ → Option (List RequestNumbers) → List ℕ
-all_answers sheet none = []
-all_answers sheet (some ns) = answers_to sheet ns
+all_answers sheet None = []
+all_answers sheet (Some ns) = answers_to sheet ns
 
 -- there are requests, and room for their answers
 pub record Fitting (sheet : List ℕ) (o : Option (List RequestNumbers)) (room : ℕ) : Type 0 where
   pub asked : List RequestNumbers
-  pub parts_asked : o ≡ some asked
+  pub parts_asked : o ≡ Some asked
   pub room_asked : length (answers_to sheet asked) ≤ room

@@ -6,14 +6,13 @@
 --   verdicts sheet index requests room == the call that answers them
 -- Numbers have four bytes, most significant first, unless said.
 -- Assumes nothing: these are definitions.
-use Rattle.std.specs.Prelude.{ℕ, zero, suc, ◌+◌, ◌-◌, ◌/◌, Bool, false, not, ◌||◌, List, [], ◌∷◌, ◌++◌, length, take, drop, leb}
-use Rattle.std.proofs.Math.Option.{Option, none, some, get_or}
+use Rattle.std.specs.Prelude.{ℕ, zero, suc, ◌+◌, ◌-◌, ◌/◌, Bool, false, not, ◌||◌, List, [], ◌∷◌, ◌++◌, length, take, drop, leb, Err, None, Option, Some, unwrap_or}
 use Rattle.text.specs.Basics.{when◌then◌else◌, ◌>>=◌, given}
 use Rattle.text.specs.Text.{equal}
 use Rattle.text.specs.Number.{from_digits, to_digits}
 use Rattle.section.specs.declared.Fault.TheVariants as F
 use Rattle.section.specs.declared.Part.{Part}
-use Rattle.section.specs.Refusal.{Outcome, refused, answered, ◌>>=◌ as ◌>>=ᴼ◌, ◌before◌, placeless, within_room}
+use Rattle.section.specs.Refusal.{Outcome, ◌>>=◌ as ◌>>=ᴼ◌, ◌before◌, placeless, within_room}
 use Rattle.section.specs.Section.{bytes_at}
 use Rattle.lines.specs.Line.{Line, join, lines, is_comment, is_blank}
 use Rattle.lines.specs.Rule.{split_separator}
@@ -39,12 +38,12 @@ dropped_pairs raw = (length raw - length (join raw)) / 2
 -- "where each rule and its lists begin and end": its first and last physical line; then, as places in the sheet, where the rule, its
 -- daemon list and its client list begin, and the place after each. base: the place of the text in the sheet.
 unfoldable pub rule_entry : ℕ → Line → Option Entry
-rule_entry base l = when is_comment l || is_blank l then none else do
+rule_entry base l = when is_comment l || is_blank l then None else do
   p ← split_separator false l.raw
   let start = base + l.place
   let clients = start + length p.0 + 1
-  let q = get_or (split_separator false p.1) (p.1, [])
-  some (record {
+  let q = unwrap_or (split_separator false p.1) (p.1, [])
+  Some (record {
     lines = range l.number (l.number + dropped_pairs l.raw);
     rule = range start (start + length l.raw);
     daemons = range start (start + length p.0);
@@ -52,8 +51,8 @@ rule_entry base l = when is_comment l || is_blank l then none else do
   })
 
 abbrev pub with_entry : Option Entry → List Entry → List Entry
-with_entry none es = es
-with_entry (some e) es = e ∷ es
+with_entry None es = es
+with_entry (Some e) es = e ∷ es
 
 unfoldable pub rule_table : ℕ → List Line → List Entry
 rule_table base [] = []
@@ -107,7 +106,7 @@ unfoldable pub read_host : List ℕ → Option ((HostNumbers × List ℕ) × Lis
 read_host t = do
   h ← cut 18 t
   name ← read_text h.1
-  some ((host_numbers (number_at 0 1 h.0) (number_at 1 1 h.0) (number_at 2 8 h.0) (number_at 10 8 h.0), name.0), name.1)
+  Some ((host_numbers (number_at 0 1 h.0) (number_at 1 1 h.0) (number_at 2 8 h.0) (number_at 10 8 h.0), name.0), name.1)
 
 -- a request: daemon, client, server, user, the user's name, by the numbers that C hands over
 unfoldable pub read_request : List ℕ → Option (RequestNumbers × List ℕ)
@@ -117,17 +116,17 @@ read_request t = do
   server ← read_host client.1
   user ← cut 1 server.1
   name ← read_text user.1
-  some (request_numbers daemon.0 client.0.0 client.0.1 server.0.0 server.0.1 (number_at 0 1 user.0) name.0, name.1)
+  Some (request_numbers daemon.0 client.0.0 client.0.1 server.0.0 server.0.1 (number_at 0 1 user.0) name.0, name.1)
 
 -- at most k requests, one after the other
 unfoldable pub parted : ℕ → List ℕ → Option (List RequestNumbers)
-parted zero [] = some []
-parted zero (x ∷ t) = none
-parted (suc k) [] = some []
+parted zero [] = Some []
+parted zero (x ∷ t) = None
+parted (suc k) [] = Some []
 parted (suc k) (x ∷ t) = do
   r ← read_request (x ∷ t)
   rs ← parted k r.1
-  some (r.0 ∷ rs)
+  Some (r.0 ∷ rs)
 
 -- "up to 32 requests"
 unfoldable pub read_requests : List ℕ → Option (List RequestNumbers)
@@ -152,8 +151,8 @@ answers_to sheet (n ∷ ns) = answer_bytes (lone_answer sheet n) ++ answers_to s
 
 -- "13 for the whole call if there are more than 32 requests or they can't be parted; then 14"
 abbrev pub answer_all : List ℕ → ℕ → Option (List RequestNumbers) → Outcome (List ℕ)
-answer_all sheet room none = refused (placeless F.BadRequest)
-answer_all sheet room (some ns) = within_room room (answers_to sheet ns)
+answer_all sheet room None = Err (placeless F.BadRequest)
+answer_all sheet room (Some ns) = within_room room (answers_to sheet ns)
 
 -- "An index that isn't the one of this very sheet is refused": "21 for a wrong index, after all sheet checks"
 unfoldable pub verdicts : List ℕ → List ℕ → List ℕ → ℕ → Outcome (List ℕ)

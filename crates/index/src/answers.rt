@@ -3,14 +3,15 @@
 //   put_answers(out, .., requests)    == the answers to all requests, written
 ghost use Rattle.std.specs.Prelude.{◌≡◌, ◌+◌, ◌≤◌, length};
 ghost use Rattle.text.specs.Scan.{put_at, after};
-ghost use Rattle.section.specs.Refusal.{answered};
 ghost use Rattle.classes.specs.Class.{Classes};
 ghost use Rattle.elements.specs.Places.{request_at};
 ghost use Rattle.sheet.specs.Sheet.{unpack as unpackOf};
 ghost use Rattle.index.specs.Index.{index_bytes, read_requests, answer_bytes, answers_to, lone_answer};
 ghost use Rattle.index.specs.Code.{searched_at, known_part, user_part, named_at, numbers_in, found_numbers, unfit_numbers, Ready, all_answers, Fitting};
 
-use crate::requests::{Fields, RequestRead, four_at, request_at};
+use crate::requests::Fields;
+use crate::requests::four_at;
+use crate::requests::request_at;
 use crate::search::search;
 use crate::table::put_two;
 use codes::GateAnswer;
@@ -156,10 +157,10 @@ fn put_all(
     let mut at = 0;
     while 0 < rest.len() {
         match request_at(rest) {
-            RequestRead::Cut => {
+            None => {
                 return at;
             }
-            RequestRead::Request(fields) => {
+            Some(fields) => {
                 let answer = answer_to(class, sheet, parts, allow, deny, rest, fields);
                 let next = put_answer(out, at, answer);
                 at = next;
@@ -180,7 +181,7 @@ pub fn put_answers(
     index: &[u8],
     requests: &[u8],
 ) -> usize
-    requires sheet_value { (unpackOf sheet.now ≡ answered parts) × (index.now ≡ index_bytes sheet.now parts) }
+    requires sheet_value { (unpackOf sheet.now ≡ Ok parts) × (index.now ≡ index_bytes sheet.now parts) }
     requires fitting { Fitting sheet.now (read_requests requests.now) (length out.old) }
     ensures count { result ≡ length (all_answers sheet.now (read_requests requests.now)) }
     ensures written { out.new ≡ after (all_answers sheet.now (read_requests requests.now)) out.old }

@@ -11,13 +11,14 @@
 ghost use Rattle.std.specs.Prelude.{◌≡◌, ◌++◌, ◌+◌, ◌≤◌, ◌<◌, length};
 ghost use Rattle.text.specs.Scan.{after};
 ghost use Rattle.lines.specs.Line.{lines};
-ghost use Rattle.section.specs.Refusal.{answered, within_room, written_of, lent_after};
+ghost use Rattle.section.specs.Refusal.{within_room, written_of, lent_after};
 ghost use Rattle.sheet.specs.Sheet.{unpack as unpackOf};
 ghost use Rattle.index.specs.Index.{rule_table, two_bytes, table_bytes, index_bytes, write_index, read_requests, answer_all, verdicts as verdictsBy};
 
-use section::{Fault, Written, part_of};
+use section::Fault;
+use section::part_of;
 use sheet::Parts;
-use sheet::unpack::{Unpacked, unpack};
+use sheet::unpack::unpack;
 
 pub mod answers;
 pub mod requests;
@@ -66,8 +67,8 @@ fn put_index(
 }
 
 // Writes the index of a sheet that is accepted with these parts.
-fn write_parts(out: &mut [u8], sheet: &[u8], parts: Parts) -> Written
-    requires { unpackOf sheet.now ≡ answered parts }
+fn write_parts(out: &mut [u8], sheet: &[u8], parts: Parts) -> Result<usize, Refusal>
+    requires { unpackOf sheet.now ≡ Ok parts }
     ensures answer { result ≡ written_of (within_room (length out.old) (index_bytes sheet.now parts)) }
     ensures holds { out.new
         ≡ lent_after out.old (within_room (length out.old) (index_bytes sheet.now parts)) }
@@ -77,9 +78,9 @@ fn write_parts(out: &mut [u8], sheet: &[u8], parts: Parts) -> Written
     let of_allow = table::count_rules(allow, parts.allow.place);
     let of_deny = table::count_rules(deny, parts.deny.place);
     if out.len() < 8 + 32 * (of_allow + of_deny) {
-        return Written::Refused(section::placeless(Fault::NoRoom));
+        return Err(section::placeless(Fault::NoRoom));
     }
-    Written::Count(put_index(
+    Ok(put_index(
         out,
         of_allow,
         of_deny,
@@ -91,13 +92,13 @@ fn write_parts(out: &mut [u8], sheet: &[u8], parts: Parts) -> Written
 }
 
 // Writes the index of an accepted sheet at the front of out; a refusal leaves out as it was.
-pub fn write_index(out: &mut [u8], sheet: &[u8]) -> Written
+pub fn write_index(out: &mut [u8], sheet: &[u8]) -> Result<usize, Refusal>
     ensures answer { result ≡ written_of (write_index sheet.now (length out.old)) }
     ensures holds { out.new ≡ lent_after out.old (write_index sheet.now (length out.old)) }
 {
     match unpack(sheet) {
-        Unpacked::Refused(refusal) => Written::Refused(refusal),
-        Unpacked::Parts(parts) => write_parts(out, sheet, parts),
+        Err(refusal) => Err(refusal),
+        Ok(parts) => write_parts(out, sheet, parts),
     }
 }
 
@@ -108,25 +109,25 @@ fn answer_parts(
     parts: Parts,
     index: &[u8],
     requests: &[u8],
-) -> Written
-    requires { (unpackOf sheet.now ≡ answered parts) × (index.now ≡ index_bytes sheet.now parts) }
+) -> Result<usize, Refusal>
+    requires { (unpackOf sheet.now ≡ Ok parts) × (index.now ≡ index_bytes sheet.now parts) }
     ensures answer { result ≡ written_of (answer_all sheet.now (length out.old) (read_requests requests.now)) }
     ensures holds { out.new
         ≡ lent_after out.old (answer_all sheet.now (length out.old) (read_requests requests.now)) }
 {
     match requests::count_requests(requests) {
-        requests::Counted::Unparted => Written::Refused(section::placeless(Fault::BadRequest)),
-        requests::Counted::Count(n) => {
+        None => Err(section::placeless(Fault::BadRequest)),
+        Some(n) => {
             if out.len() < 36 * n as usize {
-                return Written::Refused(section::placeless(Fault::NoRoom));
+                return Err(section::placeless(Fault::NoRoom));
             }
-            Written::Count(answers::put_answers(out, sheet, parts, index, requests))
+            Ok(answers::put_answers(out, sheet, parts, index, requests))
         }
     }
 }
 
 // Writes the answers to up to 32 requests by a sheet and its index at the front of out; a refusal leaves out as it was.
-pub fn verdicts(out: &mut [u8], sheet: &[u8], index: &[u8], requests: &[u8]) -> Written
+pub fn verdicts(out: &mut [u8], sheet: &[u8], index: &[u8], requests: &[u8]) -> Result<usize, Refusal>
     ensures answer { result
         ≡ written_of (verdictsBy sheet.now index.now requests.now (length out.old)) }
     ensures holds { out.new
@@ -134,12 +135,12 @@ pub fn verdicts(out: &mut [u8], sheet: &[u8], index: &[u8], requests: &[u8]) -> 
         (verdictsBy sheet.now index.now requests.now (length out.old)) }
 {
     match unpack(sheet) {
-        Unpacked::Refused(refusal) => Written::Refused(refusal),
-        Unpacked::Parts(parts) => {
+        Err(refusal) => Err(refusal),
+        Ok(parts) => {
             if table::is_index(index, sheet, parts) {
                 return answer_parts(out, sheet, parts, index, requests);
             }
-            Written::Refused(section::placeless(Fault::WrongIndex))
+            Err(section::placeless(Fault::WrongIndex))
         }
     }
 }

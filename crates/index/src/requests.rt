@@ -9,24 +9,11 @@ ghost use Rattle.index.specs.Code.{counted_of};
 use codes::request::HostNumbers;
 use section::Part;
 
-// A text after its count: its place, or that the bytes end within it.
-#[derive(Clone, Copy)]
-pub enum TextRead {
-    Cut,
-    Text(Part),
-}
-
 // A host: its numbers, and the place of its name.
 #[derive(Clone, Copy)]
 pub struct HostFields {
     pub numbers: HostNumbers,
     pub name: Part,
-}
-
-#[derive(Clone, Copy)]
-pub enum HostRead {
-    Cut,
-    Host(HostFields),
 }
 
 // A request: its numbers, the places of its texts, and where it ends.
@@ -40,19 +27,6 @@ pub struct Fields {
     pub end: usize,
 }
 
-#[derive(Clone, Copy)]
-pub enum RequestRead {
-    Cut,
-    Request(Fields),
-}
-
-// How many requests there are, or that they can't be parted.
-#[derive(Clone, Copy)]
-pub enum Counted {
-    Unparted,
-    Count(u8),
-}
-
 fn byte_at(bytes: &[u8], at: usize) -> u8
     requires { at < length bytes.now }
     ensures { result ≡ get_or bytes.now at 0 }
@@ -61,17 +35,17 @@ fn byte_at(bytes: &[u8], at: usize) -> u8
 }
 
 // The text after its count at a place.
-fn text_at(bytes: &[u8], at: usize) -> TextRead
+fn text_at(bytes: &[u8], at: usize) -> Option<Part>
     ensures { result ≡ text_read_of (text_at at bytes.now) }
 {
     if bytes.len() <= at {
-        return TextRead::Cut;
+        return None;
     }
     let n = byte_at(bytes, at) as usize;
     if bytes.len() - at <= n {
-        return TextRead::Cut;
+        return None;
     }
-    TextRead::Text(Part {
+    Some(Part {
         place: at + 1,
         len: n,
     })
@@ -113,16 +87,16 @@ fn numbers_at(bytes: &[u8], at: usize) -> HostNumbers
 }
 
 // The host at a place.
-fn host_at(bytes: &[u8], at: usize) -> HostRead
+fn host_at(bytes: &[u8], at: usize) -> Option<HostFields>
     requires { at ≤ length bytes.now }
     ensures { result ≡ host_read_of (host_at at bytes.now) }
 {
     if bytes.len() - at < 18 {
-        return HostRead::Cut;
+        return None;
     }
     match text_at(bytes, at + 18) {
-        TextRead::Cut => HostRead::Cut,
-        TextRead::Text(name) => HostRead::Host(HostFields {
+        None => None,
+        Some(name) => Some(HostFields {
             numbers: numbers_at(bytes, at),
             name,
         }),
@@ -130,17 +104,17 @@ fn host_at(bytes: &[u8], at: usize) -> HostRead
 }
 
 // The fields of a request, read from its user on.
-fn user_from(bytes: &[u8], daemon: Part, client: HostFields, server: HostFields) -> RequestRead
+fn user_from(bytes: &[u8], daemon: Part, client: HostFields, server: HostFields) -> Option<Fields>
     requires { server.name.place + server.name.len ≤ length bytes.now }
     ensures { result ≡ request_read_of (user_from daemon client server bytes.now) }
 {
     let at = server.name.place + server.name.len;
     if bytes.len() <= at {
-        return RequestRead::Cut;
+        return None;
     }
     match text_at(bytes, at + 1) {
-        TextRead::Cut => RequestRead::Cut,
-        TextRead::Text(name) => RequestRead::Request(Fields {
+        None => None,
+        Some(name) => Some(Fields {
             daemon,
             client,
             server,
@@ -152,44 +126,44 @@ fn user_from(bytes: &[u8], daemon: Part, client: HostFields, server: HostFields)
 }
 
 // The fields of a request, read from its client on.
-fn client_from(bytes: &[u8], daemon: Part) -> RequestRead
+fn client_from(bytes: &[u8], daemon: Part) -> Option<Fields>
     requires { daemon.place + daemon.len ≤ length bytes.now }
     ensures { result ≡ request_read_of (hosts_from daemon bytes.now) }
 {
     match host_at(bytes, daemon.place + daemon.len) {
-        HostRead::Cut => RequestRead::Cut,
-        HostRead::Host(client) => match host_at(bytes, client.name.place + client.name.len) {
-            HostRead::Cut => RequestRead::Cut,
-            HostRead::Host(server) => user_from(bytes, daemon, client, server),
+        None => None,
+        Some(client) => match host_at(bytes, client.name.place + client.name.len) {
+            None => None,
+            Some(server) => user_from(bytes, daemon, client, server),
         },
     }
 }
 
 // The fields of the request that bytes begin with.
-pub fn request_at(bytes: &[u8]) -> RequestRead
+pub fn request_at(bytes: &[u8]) -> Option<Fields>
     ensures { result ≡ request_read_of (fields_at bytes.now) }
 {
     match text_at(bytes, 0) {
-        TextRead::Cut => RequestRead::Cut,
-        TextRead::Text(daemon) => client_from(bytes, daemon),
+        None => None,
+        Some(daemon) => client_from(bytes, daemon),
     }
 }
 
 // How many requests there are, at most 32.
-pub fn count_requests(bytes: &[u8]) -> Counted
+pub fn count_requests(bytes: &[u8]) -> Option<u8>
     ensures { result ≡ counted_of (read_requests bytes.now) }
 {
     let mut rest = bytes;
     let mut count: u8 = 0;
     while 0 < rest.len() {
         if count == 32 {
-            return Counted::Unparted;
+            return None;
         }
         match request_at(rest) {
-            RequestRead::Cut => {
-                return Counted::Unparted;
+            None => {
+                return None;
             }
-            RequestRead::Request(fields) => {
+            Some(fields) => {
                 let end = fields.end;
                 let next = &rest[end..];
                 rest = next;
@@ -197,5 +171,5 @@ pub fn count_requests(bytes: &[u8]) -> Counted
             }
         }
     }
-    Counted::Count(count)
+    Some(count)
 }

@@ -33,17 +33,10 @@ use section::{Part, part_of};
 use sheet::Parts;
 use text::equal_fold;
 
-// What the rules of a text find: an answer, or none.
-#[derive(Clone, Copy)]
-pub enum Sought {
-    Nothing,
-    Answer(Answer),
-}
-
 // The same, and how many elements were looked at for it.
 #[derive(Clone, Copy)]
 pub struct Seeking {
-    pub sought: Sought,
+    pub sought: Option<Answer>,
     pub looked: u64,
 }
 
@@ -279,12 +272,12 @@ fn rule_answer(
     file: File,
     entry: Entry,
     found: Found,
-) -> Sought
+) -> Option<Answer>
     ensures { result ≡ sought_of (rule_answer_at sheet.now base verdict file entry found) }
 {
     match found {
-        Found::No => Sought::Nothing,
-        Found::Ask => Sought::Answer(Answer {
+        Found::No => None,
+        Found::Ask => Some(Answer {
             verdict: Verdict::Ask,
             file,
             line: entry.lines.start,
@@ -293,7 +286,7 @@ fn rule_answer(
                 len: 0,
             },
         }),
-        Found::Yes => Sought::Answer(Answer {
+        Found::Yes => Some(Answer {
             verdict,
             file,
             line: entry.lines.start,
@@ -329,10 +322,10 @@ fn seek(
         let so_far = count::add(looked, seen.looked);
         let found = seen.found;
         match rule_answer(sheet, part.place, verdict, file, entry, found) {
-            Sought::Nothing => {}
-            Sought::Answer(a) => {
+            None => {}
+            Some(a) => {
                 return Seeking {
-                    sought: Sought::Answer(a),
+                    sought: Some(a),
                     looked: so_far,
                 };
             }
@@ -342,7 +335,7 @@ fn seek(
         rest = next;
     }
     Seeking {
-        sought: Sought::Nothing,
+        sought: None,
         looked,
     }
 }
@@ -353,11 +346,11 @@ fn ended(looked: u64, last: Seeking) -> Searched
 {
     let sought = last.sought;
     match sought {
-        Sought::Answer(answer) => Searched {
+        Some(answer) => Searched {
             answer,
             looked: count::add(looked, last.looked),
         },
-        Sought::Nothing => Searched {
+        None => Searched {
             answer: Answer {
                 verdict: Verdict::Granted,
                 file: File::Neither,
@@ -400,11 +393,11 @@ fn seek_both(
     );
     let sought = first.sought;
     match sought {
-        Sought::Answer(answer) => Searched {
+        Some(answer) => Searched {
             answer,
             looked: first.looked,
         },
-        Sought::Nothing => ended(
+        None => ended(
             first.looked,
             seek(
                 class,

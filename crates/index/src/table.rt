@@ -6,7 +6,6 @@
 ghost use Rattle.std.specs.Prelude.{◌≡◌, ◌+◌, ◌≤◌, ◌<◌, length, drop};
 ghost use Rattle.text.specs.Text.{equal as equalTo};
 ghost use Rattle.text.specs.Scan.{put_at};
-ghost use Rattle.section.specs.Refusal.{answered};
 ghost use Rattle.lines.specs.Line.{lines};
 ghost use Rattle.lines.specs.Scan.{span_at, scan_line};
 ghost use Rattle.sheet.specs.Sheet.{unpack as unpackOf};
@@ -226,7 +225,7 @@ fn are_two(bytes: &[u8], a: usize, b: usize) -> bool
 
 // Whether the index is the one of a sheet that is accepted with these parts.
 pub fn is_index(index: &[u8], sheet: &[u8], parts: Parts) -> bool
-    requires { unpackOf sheet.now ≡ answered parts }
+    requires { unpackOf sheet.now ≡ Ok parts }
     ensures { result ≡ equalTo index.now (index_bytes sheet.now parts) }
 {
     let allow = part_of(sheet, parts.allow);

@@ -5,10 +5,10 @@
 --   logical_lines_drop, logical_lines_end, first_logical_lines_drop, first_logical_lines_end   the same at a place of a text, for a loop
 --   length_join_line, line_no_newline, join_line, has_bad_byte_line   what the scan tells of the line
 -- Assumes nothing.
+use Rattle.std.specs.Prelude.{None, Option}
 use Prim.Native.Nat.{ℕ, zero, suc, ◌+◌, ◌-◌, ◌*◌, ◌<◌, ◌≤◌}
 use mathlib.Core.Bool.{Bool, true, false, not, ◌&&◌, ◌||◌, or-false, or-true, and-true as and_true_right, and_assoc, true≢false}
 use mathlib.Core.List.{List, [], ◌∷◌, ◌++◌, append-nil, append_assoc, reverse-append}
-use mathlib.Core.Option.{Option, none}
 use mathlib.Core.Path.{◌≡◌, refl, sym, ap, ap₂, ◌∙◌}
 use native.Mathlib.Nat.{add-zero, zero-add, add_assoc, add-sub_cancel, add-sub_cancel_left}
 use native.Mathlib.Numerals.{add-one, add-two}
@@ -371,7 +371,7 @@ pub logical_lines_end : (t : List ℕ) (i n at : ℕ) → length t ≤ i → log
 logical_lines_end t i n at h = rw (drop_of_length-le t h) (logical_lines_nil n at)
 
 pub first_logical_lines_end : {B : Type 0} (f : Line → Option B) (t : List ℕ) (i n at : ℕ) → length t ≤ i
-    → first f (logical_lines n at (split "\n" (drop i t))) ≡ none
+    → first f (logical_lines n at (split "\n" (drop i t))) ≡ None
 unfolding first
 first_logical_lines_end f t i n at h = ap (first f) (logical_lines_end t i n at h)
 

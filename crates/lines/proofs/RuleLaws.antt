@@ -1,5 +1,6 @@
 -- Laws of the separators and of the elements of a list, shaped as the calls and tests of the code hand their facts over.
 -- Assumes nothing.
+use Rattle.std.specs.Prelude.{None, Option, Some}
 use Prim.Native.Nat.{ℕ, zero, suc, ◌+◌, ◌-◌, ◌≤◌, ◌<◌}
 use native.Mathlib.Nat.{add-zero, add-sub_cancel_left}
 use native.Mathlib.Numerals.{add-one}
@@ -7,7 +8,6 @@ use native.Mathlib.Omega.{arith}
 use mathlib.Core.Path.{◌≡◌, refl, sym, ap, ◌∙◌}
 use mathlib.Core.Bool.{Bool, true, false, not, ◌&&◌}
 use mathlib.Core.List.{List, [], ◌∷◌}
-use mathlib.Core.Option.{Option, none, some}
 use lib.Dec.{ltb, eqb, leb-suc-suc}
 use lib.ListN.{length, take, drop, get_or, length-drop, drop_of_length-le}
 use lib.Seq.{drop-cons, drop-drop, drop-length, take_all}
@@ -91,16 +91,16 @@ split_separator_index inside [] = refl
 split_separator_index inside (x ∷ t) = by (is_separator inside x) (split_separator_index (inside_after inside x) t)
   where
     by : (b : Bool) → split_separator (inside_after inside x) t ≡ parted t (separator_index (inside_after inside x) t)
-        → (when b then some ([], t) else cons_first x (split_separator (inside_after inside x) t))
+        → (when b then Some ([], t) else cons_first x (split_separator (inside_after inside x) t))
         ≡ parted (x ∷ t) (when b then 0 else suc (separator_index (inside_after inside x) t))
     by true ih = rw (lt-ltb 0 (suc (length t)) (omega arith))
     by false ih = rw ih (parted_suc x t (separator_index (inside_after inside x) t))
 
 module _ (s : List ℕ) (i : ℕ) (is-i : i ≡ separator_index false s) where
-  pub split_separator_none : length s ≤ i → split_separator false s ≡ none
+  pub split_separator_none : length s ≤ i → split_separator false s ≡ None
   split_separator_none l = rw (split_separator_index false s, ← is-i, le-ltb i (length s) l)
 
-  pub split_separator_some : i < length s → split_separator false s ≡ some (take i s, drop (i + 1) s)
+  pub split_separator_some : i < length s → split_separator false s ≡ Some (take i s, drop (i + 1) s)
   split_separator_some l = rw (split_separator_index false s, ← is-i, lt-ltb i (length s) l, add-one)
 
 -- the search passes n bytes that are no mark
@@ -129,24 +129,24 @@ abbrev pub rule : List (List ℕ) → List (List ℕ) → List ℕ → Rule
 rule ds cs c = record { daemons = ds; clients = cs; command = c }
 
 module _ (raw : List ℕ) (i : ℕ) (is-i : i ≡ separator_index false raw) where
-  pub parse_rule_none : length raw ≤ i → parse_rule raw ≡ none
+  pub parse_rule_none : length raw ≤ i → parse_rule raw ≡ None
   unfolding parse_rule
   parse_rule_none l = rw (split_separator_none raw i is-i l)
 
   module _ (l : i < length raw) (rest : List ℕ) (is-rest : rest ≡ drop (i + 1) raw) (j : ℕ) (is-j : j ≡ separator_index false rest) where
-    pub parse_rule_short : length rest ≤ j → parse_rule raw ≡ some (rule (elements (take i raw)) (elements rest) [])
+    pub parse_rule_short : length rest ≤ j → parse_rule raw ≡ Some (rule (elements (take i raw)) (elements rest) [])
     unfolding parse_rule
     parse_rule_short k = rw (split_separator_some raw i is-i l, ← is-rest, split_separator_none rest j is-j k)
 
-    pub parse_rule_long : j < length rest → parse_rule raw ≡ some (rule (elements (take i raw)) (elements (take j rest)) (drop (j + 1) rest))
+    pub parse_rule_long : j < length rest → parse_rule raw ≡ Some (rule (elements (take i raw)) (elements (take j rest)) (drop (j + 1) rest))
     unfolding parse_rule
     parse_rule_long k = rw (split_separator_some raw i is-i l, ← is-rest, split_separator_some rest j is-j k)
 
     -- both at once: where there is no second separator, j is the end of the rest
-    pub parse_rule_some : parse_rule raw ≡ some (rule (elements (take i raw)) (elements (take j rest)) (drop (j + 1) rest))
+    pub parse_rule_some : parse_rule raw ≡ Some (rule (elements (take i raw)) (elements (take j rest)) (drop (j + 1) rest))
     parse_rule_some = by (ltb j (length rest)) refl
       where
-        by : (b : Bool) → ltb j (length rest) ≡ b → parse_rule raw ≡ some (rule (elements (take i raw)) (elements (take j rest)) (drop (j + 1) rest))
+        by : (b : Bool) → ltb j (length rest) ≡ b → parse_rule raw ≡ Some (rule (elements (take i raw)) (elements (take j rest)) (drop (j + 1) rest))
         by true e = parse_rule_long (ltb-true j (length rest) e)
         by false e =
             let k : length rest ≤ j = ltb-false j (length rest) e in
@@ -156,7 +156,7 @@ module _ (raw : List ℕ) (i : ℕ) (is-i : i ≡ separator_index false raw) whe
 -- the same of the parts as they are lent
 pub parse_rule_parts : (raw : List ℕ) (i : ℕ) → i ≡ separator_index false raw → i < length raw → (rest : List ℕ) → rest ≡ after_separator i raw
     → (j : ℕ) → j ≡ separator_index false rest → (command : List ℕ) → command ≡ after_separator j rest
-    → parse_rule raw ≡ some (rule (elements (take i raw)) (elements (take j rest)) command)
+    → parse_rule raw ≡ Some (rule (elements (take i raw)) (elements (take j rest)) command)
 unfolding after_separator
 parse_rule_parts raw i is-i l rest is-rest j is-j command is-command = rw is-command (parse_rule_some raw i is-i l rest is-rest j is-j)
 
@@ -234,7 +234,7 @@ split_element (x ∷ t) = by (among " \t," x) refl (split_element t)
 
 -- s read by its first element
 pub record Step (s : List ℕ) : Type 0 where
-  pub none : length (first_element s) ≡ 0 → words s ≡ []
+  pub None : length (first_element s) ≡ 0 → words s ≡ []
   pub some : (length (first_element s) ≡ 0 → ⊥) → words s ≡ first_element s ∷ words (after_element s)
   pub less : (length (first_element s) ≡ 0 → ⊥) → length (after_element s) < length s
 
@@ -254,7 +254,7 @@ module _ (x : ℕ) (t : List ℕ) where
 
     step_parting : Step t → Step (x ∷ t)
     step_parting h = record {
-      none = λ z. words_parting ∙ h.none (rw (← first_element_parting) z);
+      None = λ z. words_parting ∙ h.none (rw (← first_element_parting) z);
       some = λ z. rw (words_parting, first_element_parting, after_element_parting) (h.some (λ y. z (rw first_element_parting y)));
       less = λ z. let l : length (after_element t) < length t = h.less (λ y. z (rw first_element_parting y)) in rw after_element_parting (omega arith);
     }
@@ -274,14 +274,14 @@ module _ (x : ℕ) (t : List ℕ) where
 
     step_byte : Step (x ∷ t)
     step_byte = record {
-      none = λ z. absurd (omega (arith, rw first_element_byte at z));
+      None = λ z. absurd (omega (arith, rw first_element_byte at z));
       some = λ z. rw (first_element_byte, after_element_byte) (words_byte (split_element t));
       less = λ z. rw (after_element_byte, length-drop) (omega arith);
     }
 
 pub step : (s : List ℕ) → Step s
 unfolding first_element words split non_empty span_len
-step [] = record { none = λ z. refl; some = λ z. absurd (z refl); less = λ z. absurd (z refl) }
+step [] = record { None = λ z. refl; some = λ z. absurd (z refl); less = λ z. absurd (z refl) }
 step (x ∷ t) = by (among " \t," x) refl (step t)
   where
     by : (b : Bool) → among " \t," x ≡ b → Step t → Step (x ∷ t)

@@ -1,9 +1,9 @@
 -- Laws of checking one list and one rule, shaped as the calls and tests of the code hand their facts over.
 -- Assumes nothing.
+use Rattle.std.specs.Prelude.{Err, None, Ok, Option, Result, Some}
 use Prim.Native.Nat.{ℕ, ◌≤◌, ◌<◌}
 use mathlib.Core.Bool.{Bool, true, false, not, ◌&&◌, ◌||◌, true≢false, or-false, and-true, and-false, and_assoc, or_assoc}
 use mathlib.Core.List.{List, [], ◌∷◌}
-use mathlib.Core.Option.{Option, none, some}
 use mathlib.Core.Path.{◌≡◌, refl, sym, ap, ap₂, fun_ext, ◌∙◌}
 use lib.ListN.{length, take}
 use Rattle.text.specs.Basics.{when◌then◌else◌, ◌or_else◌, given, holds, is_some, any, all}
@@ -22,8 +22,6 @@ use Rattle.elements.specs.Code.{View, Kind, daemon_kind, client_kind, naming_wit
 use Rattle.elements.specs.Element.{daemon_reserved, client_reserved, named_table, daemon_element, client_element}
 use Rattle.elements.proofs.ElementLaws.{daemon_sound, client_sound}
 use Rattle.lists.specs.declared.check.ListCheck.{ListCheck}
-use Rattle.lists.specs.declared.Checked.{Checked}
-use Rattle.lists.specs.declared.Checked.TheVariants as C
 use Rattle.lists.specs.Check.{except_misplaced, rule_fault, rule_names}
 use Rattle.lists.specs.Code.{checked_of, NoNewline, is_missing_name, is_deep_name, missing_by, deep_by, judged_fault}
 use Rattle.lists.specs.ListCode.{is_unsound, checks, is_reserved, is_fault, is_missing, is_deep, names_missing, names_deep, list_start, list_check, list_from}
@@ -105,45 +103,45 @@ list_from_nil kind after c = rw (and-true, or-false, or-false, or-false, or-fals
 -- ## The lowest fault
 
 module _ (d c : ListCheck) (bad : Bool) where
-  pub lowest_of_empty : (d.empty || c.empty) ≡ true → C.Faulty F.NoElement ≡ lowest_of d c bad
+  pub lowest_of_empty : (d.empty || c.empty) ≡ true → Err F.NoElement ≡ lowest_of d c bad
   unfolding lowest_of
   lowest_of_empty e = rw e
 
   module _ (e : (d.empty || c.empty) ≡ false) where
-    pub lowest_of_misplaced : (d.misplaced || c.misplaced) ≡ true → C.Faulty F.MisplacedExcept ≡ lowest_of d c bad
+    pub lowest_of_misplaced : (d.misplaced || c.misplaced) ≡ true → Err F.MisplacedExcept ≡ lowest_of d c bad
     unfolding lowest_of
     lowest_of_misplaced f = rw (e, f)
 
     module _ (f : (d.misplaced || c.misplaced) ≡ false) where
-      pub lowest_of_reserved : (d.reserved || c.reserved) ≡ true → C.Faulty F.ReservedStart ≡ lowest_of d c bad
+      pub lowest_of_reserved : (d.reserved || c.reserved) ≡ true → Err F.ReservedStart ≡ lowest_of d c bad
       unfolding lowest_of
       lowest_of_reserved g = rw (e, f, g)
 
       module _ (g : (d.reserved || c.reserved) ≡ false) where
-        pub lowest_of_unknown : (d.unsound || c.unsound) ≡ true → C.Faulty F.UnknownElement ≡ lowest_of d c bad
+        pub lowest_of_unknown : (d.unsound || c.unsound) ≡ true → Err F.UnknownElement ≡ lowest_of d c bad
         unfolding lowest_of
         lowest_of_unknown h = rw (e, f, g, h)
 
         module _ (h : (d.unsound || c.unsound) ≡ false) where
-          pub lowest_of_percent : bad ≡ true → C.Faulty F.BadPercent ≡ lowest_of d c bad
+          pub lowest_of_percent : bad ≡ true → Err F.BadPercent ≡ lowest_of d c bad
           unfolding lowest_of
           lowest_of_percent i = rw (e, f, g, h, i)
 
-          pub lowest_of_naming : bad ≡ false → (r : Checked) → r ≡ naming_fault_of d c → r ≡ lowest_of d c bad
+          pub lowest_of_naming : bad ≡ false → (r : Result Unit Fault) → r ≡ naming_fault_of d c → r ≡ lowest_of d c bad
           unfolding lowest_of
           lowest_of_naming i r is-r = rw (e, f, g, h, i) is-r
 
 module _ (d c : ListCheck) where
-  pub naming_fault_of_missing : (d.missing || c.missing) ≡ true → C.Faulty F.TableName ≡ naming_fault_of d c
+  pub naming_fault_of_missing : (d.missing || c.missing) ≡ true → Err F.TableName ≡ naming_fault_of d c
   unfolding naming_fault_of
   naming_fault_of_missing e = rw e
 
   module _ (e : (d.missing || c.missing) ≡ false) where
-    pub naming_fault_of_deep : (d.deep || c.deep) ≡ true → C.Faulty F.TooDeep ≡ naming_fault_of d c
+    pub naming_fault_of_deep : (d.deep || c.deep) ≡ true → Err F.TooDeep ≡ naming_fault_of d c
     unfolding naming_fault_of
     naming_fault_of_deep f = rw (e, f)
 
-    pub naming_fault_of_sound : (d.deep || c.deep) ≡ false → C.Sound ≡ naming_fault_of d c
+    pub naming_fault_of_sound : (d.deep || c.deep) ≡ false → Ok tt ≡ naming_fault_of d c
     unfolding naming_fault_of
     naming_fault_of_sound f = rw (e, f)
 
@@ -166,16 +164,16 @@ unfolding element_naming
 naming_missing f e = by (named_table e)
   where
     by : (o : Option (List ℕ)) → is_missing_name (naming_with f o) ≡ holds (λ n. is_missing_name (f n)) o
-    by none = refl
-    by (some n) = refl
+    by None = refl
+    by (Some n) = refl
 
 naming_deep : (f : List ℕ → Naming) (e : List ℕ) → is_deep_name (element_naming f e) ≡ holds (λ n. is_deep_name (f n)) (named_table e)
 unfolding element_naming
 naming_deep f e = by (named_table e)
   where
     by : (o : Option (List ℕ)) → is_deep_name (naming_with f o) ≡ holds (λ n. is_deep_name (f n)) o
-    by none = refl
-    by (some n) = refl
+    by None = refl
+    by (Some n) = refl
 
 -- two tests that agree wherever a third fails, of words where it fails everywhere
 any_where : (u p q : List ℕ → Bool) → ((w : List ℕ) → u w ≡ false → p w ≡ q w) → (ws : List (List ℕ)) → any u ws ≡ false → any p ws ≡ any q ws
@@ -224,7 +222,7 @@ lowest_checked false false false false false false false false false m m' n n' p
     rw ((h refl).0, (h refl).1, (k refl).0, (k refl).1) (by (p || p') (q || q'))
   where
     by : (y z : Bool) → checked_of (given y F.TableName or_else given z F.TooDeep)
-        ≡ (when y then C.Faulty F.TableName else when z then C.Faulty F.TooDeep else C.Sound)
+        ≡ (when y then Err F.TableName else when z then Err F.TooDeep else Ok tt)
     by true z = refl
     by false true = refl
     by false false = refl
@@ -240,7 +238,7 @@ module _ (v : View) (ws : List (List ℕ)) where
   unknown_clients = ap (λ (p : List ℕ → Bool). any p ws) (fun_ext (λ e. ap not (client_sound (λ n h. false) v.client e)))
 
 judged_fault_lists : (v : View) (ds cs : List (List ℕ)) (k : List ℕ)
-    → checked_of (judged_fault v (some (rule ds cs k))) ≡ lowest_of (list_check (daemon_kind v) ds) (list_check (client_kind v) cs) (has_bad_percent k)
+    → checked_of (judged_fault v (Some (rule ds cs k))) ≡ lowest_of (list_check (daemon_kind v) ds) (list_check (client_kind v) cs) (has_bad_percent k)
 unfolding judged_fault rule_fault rule_names list_check rising
 judged_fault_lists v ds cs k =
     rw (
@@ -273,17 +271,17 @@ bad_command_after_is j s k is-k t is-t b is_b = rw (← is-k, ← is-t) is_b
 
 pub rest_fault_is : (v : View) (s : List ℕ) (j : ℕ) (d : ListCheck) → j ≡ separator_index false s → (c : ListCheck)
     → c ≡ list_check (client_kind v) (words (take j s))
-    → (b : Bool) → b ≡ bad_command_after j s → (r : Checked) → r ≡ lowest_of d c b → r ≡ rest_fault v d s
+    → (b : Bool) → b ≡ bad_command_after j s → (r : Result Unit Fault) → r ≡ lowest_of d c b → r ≡ rest_fault v d s
 unfolding rest_fault
 rest_fault_is v s j d is-j c is_c b is_b r is-r = rw (is-r, is_c, is_b, is-j)
 
 module _ (v : View) (t : List ℕ) (i : ℕ) (is-i : i ≡ separator_index false t) where
-  pub check_rule_none : length t ≤ i → C.Faulty F.NoElement ≡ checked_of (judged_fault v (parse_rule t))
+  pub check_rule_none : length t ≤ i → Err F.NoElement ≡ checked_of (judged_fault v (parse_rule t))
   unfolding judged_fault rule_fault
   check_rule_none l = rw (parse_rule_none t i is-i l)
 
   pub check_rule_some : NoNewline t → i < length t → (d : ListCheck) → d ≡ list_check (daemon_kind v) (words (take i t))
-      → (s : List ℕ) → s ≡ after_separator i t → (r : Checked) → r ≡ rest_fault v d s → r ≡ checked_of (judged_fault v (parse_rule t))
+      → (s : List ℕ) → s ≡ after_separator i t → (r : Result Unit Fault) → r ≡ rest_fault v d s → r ≡ checked_of (judged_fault v (parse_rule t))
   unfolding rest_fault
   check_rule_some joined l d is_d s is-s r is-r =
       let k : List ℕ = after_separator (separator_index false s) s in

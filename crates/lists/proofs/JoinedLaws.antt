@@ -1,9 +1,9 @@
 -- The rule in a joined line t, whose first separator stands at i, by the parts that the code lends.
 -- Assumes nothing.
+use Rattle.std.specs.Prelude.{Some}
 use Prim.Native.Nat.{ℕ, ◌+◌, ◌<◌}
 use mathlib.Core.Bool.{false}
 use mathlib.Core.List.{List}
-use mathlib.Core.Option.{some}
 use mathlib.Core.Path.{◌≡◌, refl, ◌∙◌}
 use lib.ListN.{length, take}
 use Rattle.text.proofs.BasicLaws.{all_take, all_drop}
@@ -27,7 +27,7 @@ unfolding after_separator
 after_separator_joined i t h = all_drop is_no_newline (i + 1) t h
 
 pub parse_rule_joined : (t : List ℕ) → NoNewline t → (i : ℕ) → i ≡ separator_index false t → i < length t → (s : List ℕ) → s ≡ after_separator i t
-    → parse_rule t ≡ some (rule (words (take i t)) (client_words s) (after_separator (separator_index false s) s))
+    → parse_rule t ≡ Some (rule (words (take i t)) (client_words s) (after_separator (separator_index false s) s))
 parse_rule_joined t joined i is-i l s is-s =
     let j : ℕ = separator_index false s in
     parse_rule_parts t i is-i l s is-s j refl (after_separator j s) refl

@@ -1,6 +1,7 @@
 -- Laws of the one pass over a list and a rule, in which it is checked and looked at; shaped as the calls and tests of the code hand their
 -- facts over.
 -- Assumes nothing.
+use Rattle.std.specs.Prelude.{Err, Result}
 use Prim.Native.Nat.{ℕ, ◌+◌, ◌≤◌, ◌<◌}
 use native.Mathlib.Omega.{arith}
 use mathlib.Core.Bool.{Bool, true, false, not}
@@ -25,8 +26,6 @@ use Rattle.elements.specs.Code.{View, Kind, daemon_kind, client_kind, sought, co
 use Rattle.tables.specs.Tried.{capped}
 use Rattle.elements.proofs.CountLaws.{capped_lt, capped_small, capped_add, capped_left, capped_then}
 use Rattle.elements.specs.Places.{request_at}
-use Rattle.lists.specs.declared.Checked.{Checked}
-use Rattle.lists.specs.declared.Checked.TheVariants as C
 use Rattle.lists.specs.declared.check.ListCheck.{ListCheck}
 use Rattle.lists.specs.declared.pass.Side.{Side}
 use Rattle.lists.specs.declared.pass.Side.TheVariants as S
@@ -293,10 +292,10 @@ module _ (v : View) (names : List ℕ) (q : Places) (search : Bool) (ws : List (
 
 -- ## One rule
 
-abbrev rule_all : Checked → Found → ℕ → RuleSeen
+abbrev rule_all : Result Unit Fault → Found → ℕ → RuleSeen
 rule_all c f n = record { check = c; found = f; looked = n }
 
-rule_same : {a b : Checked} {f g : Found} {m n : ℕ} → a ≡ b → f ≡ g → m ≡ n → rule_all a f m ≡ rule_all b g n
+rule_same : {a b : (Result Unit Fault)} {f g : Found} {m n : ℕ} → a ≡ b → f ≡ g → m ≡ n → rule_all a f m ≡ rule_all b g n
 rule_same p q r = rw (p, q, r)
 
 sought_yes : (d c : Found) → then_found d (sought (is_yes d) c) ≡ then_found d c
@@ -331,7 +330,7 @@ counted_none false = refl
 pub rest_seen_is : (v : View) (q : Request) (d : ListSeen) (s : List ℕ) (j : ℕ) → j ≡ separator_index false s
     → (y : Bool) → y ≡ is_yes d.found
     → (c : ListSeen) → c ≡ list_seen (client_kind v) (client_finds v q.client q.user q.user_name) y (words (take j s))
-    → (b : Bool) → b ≡ bad_command_after j s → (k : Checked) → k ≡ lowest_of d.check c.check b → (f : Found) → f ≡ then_found d.found c.found
+    → (b : Bool) → b ≡ bad_command_after j s → (k : Result Unit Fault) → k ≡ lowest_of d.check c.check b → (f : Found) → f ≡ then_found d.found c.found
     → (n : ℕ) → n ≡ capped (d.looked + c.looked)
     → rule_all k f n ≡ rest_seen v q d s
 unfolding rest_seen list_seen
@@ -342,7 +341,7 @@ rest_seen_is v q d s j is-j y is_y c is_c b is_b k is-k f is_f n is-n = rule_sam
     (client_words s))))
 
 module _ (v : View) (q : Request) (search : Bool) (t : List ℕ) (i : ℕ) (is-i : i ≡ separator_index false t) where
-  pub rule_seen_none : length t ≤ i → rule_all (C.Faulty F.NoElement) No 0 ≡ rule_seen v q search t
+  pub rule_seen_none : length t ≤ i → rule_all (Err F.NoElement) No 0 ≡ rule_seen v q search t
   unfolding rule_seen
   rule_seen_none l = rule_same (check_rule_none v t i is-i l)
       (sym (ap (sought search) (sym (line_found_none v q t i is-i l)) ∙ sought_no search))

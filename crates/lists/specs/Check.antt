@@ -3,8 +3,7 @@
 --   rule_names p u == the rule u names a table of whose name p holds
 -- Not here: the test of 11 (lines, Command.antt).
 -- Assumes nothing: these are definitions.
-use Rattle.std.specs.Prelude.{ℕ, Bool, false, not, ◌&&◌, ◌||◌, List, [], ◌∷◌}
-use Rattle.std.proofs.Math.Option.{Option, none, some}
+use Rattle.std.specs.Prelude.{ℕ, Bool, false, not, ◌&&◌, ◌||◌, List, [], ◌∷◌, None, Option, Some}
 use Rattle.text.specs.Basics.{when◌then◌else◌, holds, is_some, any, is_empty}
 use Rattle.section.specs.declared.Fault.{Fault}
 use Rattle.section.specs.declared.Fault.TheVariants as F
@@ -34,8 +33,8 @@ has_unknown kind ws = any (λ e. not (is_some (kind e))) (without_except ws)
 
 -- the lowest of 7 to 11; 7 too where there is "no first separator"
 unfoldable pub rule_fault : Option Rule → Option Fault
-rule_fault none = some F.NoElement
-rule_fault (some r) = lowest
+rule_fault None = Some F.NoElement
+rule_fault (Some r) = lowest
     ((F.NoElement, has_no_element r.daemons || has_no_element r.clients)
     ∷ (F.MisplacedExcept, except_misplaced false r.daemons || except_misplaced false r.clients)
     ∷ (F.ReservedStart, any daemon_reserved (without_except r.daemons) || any client_reserved (without_except r.clients))

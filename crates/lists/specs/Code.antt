@@ -5,8 +5,7 @@
 --   line_found v r t, line_looked v r t == what the rule in the joined line t finds of the request r, by the view v of the tables, and looks at
 --   judged_fault v o == the lowest fault of the rule o, and else of the tables that it names
 -- Assumes nothing: these are definitions.
-use Rattle.std.specs.Prelude.{ℕ, Bool, not, true, false, List, ◌≡◌, eqb}
-use Rattle.std.proofs.Math.Option.{Option, none, some}
+use Rattle.std.specs.Prelude.{ℕ, Bool, not, true, false, List, ◌≡◌, eqb, Err, None, Ok, Option, Result, Some}
 use Rattle.text.specs.Basics.{when◌then◌else◌, ◌or_else◌, given, all}
 use Rattle.section.specs.declared.Fault.{Fault}
 use Rattle.section.specs.declared.Fault.TheVariants as F
@@ -17,15 +16,13 @@ use Rattle.elements.specs.declared.Found.{Found}
 use Rattle.elements.specs.declared.Found.TheVariants.{No}
 use Rattle.elements.specs.Request.{Request}
 use Rattle.elements.specs.Code.{View}
-use Rattle.lists.specs.declared.Checked.{Checked}
-use Rattle.lists.specs.declared.Checked.TheVariants.{Sound, Faulty}
 use Rattle.lists.specs.Check.{rule_fault, rule_names}
 use Rattle.lists.specs.Walk.{rule_found_by}
 use Rattle.lists.specs.Looked.{rule_looked_by}
 
-abbrev pub checked_of : Option Fault → Checked
-checked_of none = Sound
-checked_of (some f) = Faulty f
+abbrev pub checked_of : Option Fault → Result Unit Fault
+checked_of None = Ok tt
+checked_of (Some f) = Err f
 
 abbrev pub NoNewline : List ℕ → Type 0
 NoNewline t = all (λ b. not (eqb b 10)) t ≡ true
@@ -35,8 +32,8 @@ abbrev pub view_found : View → Request → Rule → Found
 view_found v = rule_found_by v.server v.client
 
 abbrev pub found_by : View → Request → Option Rule → Found
-found_by v r none = No
-found_by v r (some u) = view_found v r u
+found_by v r None = No
+found_by v r (Some u) = view_found v r u
 
 unfoldable pub line_found : View → Request → List ℕ → Found
 line_found v r t = found_by v r (parse_rule t)
@@ -46,8 +43,8 @@ abbrev pub view_looked : View → Request → Rule → ℕ
 view_looked v = rule_looked_by v.server v.client v.server_tried v.client_tried
 
 abbrev pub looked_of : View → Request → Option Rule → ℕ
-looked_of v r none = 0
-looked_of v r (some u) = view_looked v r u
+looked_of v r None = 0
+looked_of v r (Some u) = view_looked v r u
 
 unfoldable pub line_looked : View → Request → List ℕ → ℕ
 line_looked v r t = looked_of v r (parse_rule t)
@@ -71,8 +68,8 @@ deep_by v n = is_deep_name (v.naming n)
 
 -- the faults of the tables that a rule names, after those of the rule itself
 abbrev pub rules_naming : View → Option Rule → Option Fault
-rules_naming v none = none
-rules_naming v (some u) = given (rule_names (missing_by v) u) F.TableName or_else given (rule_names (deep_by v) u) F.TooDeep
+rules_naming v None = None
+rules_naming v (Some u) = given (rule_names (missing_by v) u) F.TableName or_else given (rule_names (deep_by v) u) F.TooDeep
 
 unfoldable pub judged_fault : View → Option Rule → Option Fault
 judged_fault v o = rule_fault o or_else rules_naming v o

@@ -12,7 +12,7 @@
 --   list_looked m c ws, rest_looked m c ws == what the list ws finds and looks at, before and after an element of it matched
 --   looked_more n l           == l, and n elements that were looked at before it
 -- Assumes nothing: these are definitions.
-use Rattle.std.specs.Prelude.{ℕ, ◌+◌, Bool, true, false, not, ◌&&◌, ◌||◌, List, [], take}
+use Rattle.std.specs.Prelude.{ℕ, ◌+◌, Bool, true, false, not, ◌&&◌, ◌||◌, List, [], take, Err, Ok, Result}
 use Rattle.text.specs.Basics.{when◌then◌else◌, is_some, any, all}
 use Rattle.section.specs.declared.Fault.TheVariants as F
 use Rattle.lines.specs.Rule.{is_except}
@@ -27,8 +27,6 @@ use Rattle.elements.specs.Code.{View, Kind, client_kind, element_fault, daemon_r
 use Rattle.patterns.specs.Host.{Endpoint}
 use Rattle.tables.specs.Tried.{capped}
 use Rattle.elements.specs.Element.{daemon_element, client_element, look_at, element_looked}
-use Rattle.lists.specs.declared.Checked.{Checked}
-use Rattle.lists.specs.declared.Checked.TheVariants as C
 use Rattle.lists.specs.declared.check.ListCheck.{ListCheck}
 use Rattle.lists.specs.Check.{except_misplaced}
 use Rattle.lists.specs.Walk.{on_found, included, excluded}
@@ -106,19 +104,19 @@ list_end c after = checks c.empty (c.misplaced || not after) c.reserved c.unsoun
 
 -- ## Checking a rule
 
-unfoldable pub naming_fault_of : ListCheck → ListCheck → Checked
+unfoldable pub naming_fault_of : ListCheck → ListCheck → Result Unit Fault
 naming_fault_of d c =
-    when d.missing || c.missing then C.Faulty F.TableName
-    else when d.deep || c.deep then C.Faulty F.TooDeep
-    else C.Sound
+    when d.missing || c.missing then Err F.TableName
+    else when d.deep || c.deep then Err F.TooDeep
+    else Ok tt
 
-unfoldable pub lowest_of : ListCheck → ListCheck → Bool → Checked
+unfoldable pub lowest_of : ListCheck → ListCheck → Bool → Result Unit Fault
 lowest_of d c bad =
-    when d.empty || c.empty then C.Faulty F.NoElement
-    else when d.misplaced || c.misplaced then C.Faulty F.MisplacedExcept
-    else when d.reserved || c.reserved then C.Faulty F.ReservedStart
-    else when d.unsound || c.unsound then C.Faulty F.UnknownElement
-    else when bad then C.Faulty F.BadPercent
+    when d.empty || c.empty then Err F.NoElement
+    else when d.misplaced || c.misplaced then Err F.MisplacedExcept
+    else when d.reserved || c.reserved then Err F.ReservedStart
+    else when d.unsound || c.unsound then Err F.UnknownElement
+    else when bad then Err F.BadPercent
     else naming_fault_of d c
 
 -- the client list and the command, where s follows the first separator
@@ -128,7 +126,7 @@ client_words s = words (take (separator_index false s) s)
 abbrev pub bad_command_after : ℕ → List ℕ → Bool
 bad_command_after j s = any_bad_percent (trim_blanks (after_separator j s))
 
-unfoldable pub rest_fault : View → ListCheck → List ℕ → Checked
+unfoldable pub rest_fault : View → ListCheck → List ℕ → Result Unit Fault
 rest_fault v d s = lowest_of d (list_check (client_kind v) (client_words s)) (bad_command_after (separator_index false s) s)
 
 -- ## Looking at a list

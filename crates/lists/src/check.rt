@@ -4,7 +4,6 @@
 ghost use Rattle.std.specs.Prelude.{◌≡◌};
 ghost use Rattle.lists.specs.ListCode.{is_reserved, is_fault, is_missing, is_deep, naming_fault_of, list_start, list_more, list_end, lowest_of, bad_command_after};
 
-use crate::Checked;
 use elements::element::ElementFault;
 use lines::{command, rule};
 use section::Fault;
@@ -150,36 +149,36 @@ pub fn list_end(c: ListCheck, after: bool) -> ListCheck
 }
 
 // The lower fault of the tables that a rule names.
-fn naming_fault(d: ListCheck, c: ListCheck) -> Checked
+fn naming_fault(d: ListCheck, c: ListCheck) -> Result<(), Fault>
     ensures { result ≡ naming_fault_of d c }
 {
     if d.missing | c.missing {
-        return Checked::Faulty(Fault::TableName);
+        return Err(Fault::TableName);
     }
     if d.deep | c.deep {
-        return Checked::Faulty(Fault::TooDeep);
+        return Err(Fault::TooDeep);
     }
-    Checked::Sound
+    Ok(())
 }
 
 // The lowest fault of a rule with the lists d and c; bad: whether a percent of its command is bad.
-pub fn lowest_fault(d: ListCheck, c: ListCheck, bad: bool) -> Checked
+pub fn lowest_fault(d: ListCheck, c: ListCheck, bad: bool) -> Result<(), Fault>
     ensures { result ≡ lowest_of d c bad }
 {
     if d.empty | c.empty {
-        return Checked::Faulty(Fault::NoElement);
+        return Err(Fault::NoElement);
     }
     if d.misplaced | c.misplaced {
-        return Checked::Faulty(Fault::MisplacedExcept);
+        return Err(Fault::MisplacedExcept);
     }
     if d.reserved | c.reserved {
-        return Checked::Faulty(Fault::ReservedStart);
+        return Err(Fault::ReservedStart);
     }
     if d.unsound | c.unsound {
-        return Checked::Faulty(Fault::UnknownElement);
+        return Err(Fault::UnknownElement);
     }
     if bad {
-        return Checked::Faulty(Fault::BadPercent);
+        return Err(Fault::BadPercent);
     }
     naming_fault(d, c)
 }

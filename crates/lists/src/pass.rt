@@ -12,7 +12,6 @@ ghost use Rattle.lists.specs.ListCode.{daemon_finds, client_finds, daemon_counts
 ghost use Rattle.lists.specs.PassCode.{side_start, is_looking, side_end, side_of, side_found, side_more, side_turned, side_step, turned_looks, step_looks, turn};
 ghost use Rattle.lists.specs.PassCode.{pass_start, pass_step, pass_end, list_seen, is_yes, then_found, rest_seen, rule_seen};
 
-use super::Checked;
 use super::check::{ListCheck, bad_command, list_end, list_more, list_start, lowest_fault};
 use super::walk::{clients_included, daemons_included, negated_list};
 use classes::element_at;
@@ -60,7 +59,7 @@ pub struct ListSeen {
 // What a rule gives: its lowest fault, and what it finds and looks at, if it is searched.
 #[derive(Clone, Copy)]
 pub struct RuleSeen {
-    pub check: Checked,
+    pub check: Result<(), Fault>,
     pub found: Found,
     pub looked: u64,
 }
@@ -660,7 +659,7 @@ pub fn pass_rule(
     let i = rule::separator(t);
     if t.len() <= i {
         return RuleSeen {
-            check: Checked::Faulty(Fault::NoElement),
+            check: Err(Fault::NoElement),
             found: Found::No,
             looked: 0,
         };

@@ -1,16 +1,16 @@
 -- What the calls rest on: the verdict's refusals are the same for a request whose user fits and for the same with its user not fetched.
 -- Assumes nothing.
+use Rattle.std.specs.Prelude.{Err, None, Ok, Option, Result, Some}
 use Prim.Native.Nat.{ℕ}
 use mathlib.Core.Bool.{Bool, true, false, not, ◌&&◌, true≢false}
 use mathlib.Core.List.{List, []}
-use mathlib.Core.Option.{Option, none, some}
 use mathlib.Core.Path.{◌≡◌, refl, sym, ap, subst, ◌∙◌}
 use lib.ListN.{length, take}
 use Rattle.text.specs.Basics.{when◌then◌else◌, ◌or_else◌}
 use Rattle.text.specs.Text.{in_range}
 use Rattle.section.specs.declared.Fault.TheVariants as F
 use Rattle.section.specs.declared.Refusal.{Refusal}
-use Rattle.section.specs.Refusal.{Outcome, refused, answered, placeless, ◌>>=◌, ◌before◌}
+use Rattle.section.specs.Refusal.{Outcome, placeless, ◌>>=◌, ◌before◌}
 use Rattle.section.specs.Section as S
 use Rattle.section.specs.Section.{over_limit}
 use Rattle.tables.specs.Table.{Table, Matcher, read_tables, tables_of, tables_frame, match_of}
@@ -26,8 +26,6 @@ use Rattle.elements.proofs.HeldLaws.{held_at_lem}
 use Rattle.rules.specs.declared.Answer.{Answer}
 use Rattle.rules.specs.declared.Verdict.{Verdict}
 use Rattle.rules.specs.declared.Verdict.TheVariants as Ver
-use Rattle.rules.specs.declared.Ruling.{Ruling}
-use Rattle.rules.specs.declared.Ruling.TheVariants as R
 use Rattle.rules.specs.declared.Reported.{Reported}
 use Rattle.rules.specs.Check.{hosts_fault, tables_fault}
 use Rattle.rules.specs.Search.{search, decide_over, decide, decide_tables}
@@ -36,8 +34,6 @@ use Rattle.rules.specs.Code.{lines_fault, contents_fault}
 use Rattle.rules.proofs.UserLaws.{QuietVerdict}
 use Rattle.rules.proofs.NamingLaws.{or_else_nones}
 use Rattle.matters.specs.declared.Place.{Place}
-use Rattle.matters.specs.declared.Matter.{Matter}
-use Rattle.matters.specs.declared.Matter.TheVariants as M
 use Rattle.matters.specs.Matters.{place, place_of, settled, matters_over, name_matters, name_matters_tables, matter_by, matter_of}
 use Rattle.matters.specs.Code.{unfetched_at, unfetched, Unasked, refused_by}
 use Rattle.matters.proofs.SettleLaws.{quiet_settled}
@@ -45,19 +41,19 @@ use Rattle.matters.proofs.SettleLaws.{quiet_settled}
 -- ## The answer to a request whose user is not fetched
 
 module _ (m : Matcher) (allow deny : List ℕ) (r : Request) (a : Answer) (is-a : Unasked m allow deny r (place_of a)) where
-  quiet : (v : Verdict) → a.verdict ≡ v → QuietVerdict v → M.Settled (place_of a) ≡ matter_by (settled m allow deny r)
+  quiet : (v : Verdict) → a.verdict ≡ v → QuietVerdict v → Ok (Some (place_of a)) ≡ matter_by (settled m allow deny r)
   unfolding Unasked
   quiet v e q =
       let s : (search m allow deny (unfetched r)).verdict ≡ v = ap (λ (p : Place). p.verdict) is-a ∙ e in
-      rw (quiet_settled m allow deny r r.user_name (subst QuietVerdict (sym s) q)) (ap M.Settled (sym is-a))
+      rw (quiet_settled m allow deny r r.user_name (subst QuietVerdict (sym s) q)) (ap Ok (Some (sym is-a)))
 
-  pub by_granted : (v : Verdict) → v ≡ a.verdict → v ≡ Ver.Granted → M.Settled (place v a.file a.line) ≡ matter_by (settled m allow deny r)
-  by_granted v is_v e = ap (λ (x : Verdict). M.Settled (place x a.file a.line)) is_v ∙ quiet Ver.Granted (sym is_v ∙ e) tt
+  pub by_granted : (v : Verdict) → v ≡ a.verdict → v ≡ Ver.Granted → Ok (Some (place v a.file a.line)) ≡ matter_by (settled m allow deny r)
+  by_granted v is_v e = ap (λ (x : Verdict). Ok (Some (place x a.file a.line))) is_v ∙ quiet Ver.Granted (sym is_v ∙ e) tt
 
-  pub by_denied : (v : Verdict) → v ≡ a.verdict → v ≡ Ver.Denied → M.Settled (place v a.file a.line) ≡ matter_by (settled m allow deny r)
-  by_denied v is_v e = ap (λ (x : Verdict). M.Settled (place x a.file a.line)) is_v ∙ quiet Ver.Denied (sym is_v ∙ e) tt
+  pub by_denied : (v : Verdict) → v ≡ a.verdict → v ≡ Ver.Denied → Ok (Some (place v a.file a.line)) ≡ matter_by (settled m allow deny r)
+  by_denied v is_v e = ap (λ (x : Verdict). Ok (Some (place x a.file a.line))) is_v ∙ quiet Ver.Denied (sym is_v ∙ e) tt
 
-pub by_asking : (m : Matcher) (allow deny names : List ℕ) (q h : Places) → h ≡ held_at q → (x : Matter) → x ≡ matter_by (settled m allow deny (request_at names h))
+pub by_asking : (m : Matcher) (allow deny names : List ℕ) (q h : Places) → h ≡ held_at q → (x : Result (Option Place) Refusal) → x ≡ matter_by (settled m allow deny (request_at names h))
     → x ≡ matter_by (settled m allow deny (held (request_at names q)))
 by_asking m allow deny names q h is-h x is_x = is_x ∙ ap (λ (r : Request). matter_by (settled m allow deny r)) (held_at_lem names q h is-h)
 
@@ -77,11 +73,11 @@ pub request_unfetched : (q : Places)
 unfolding unfetched_at
 request_unfetched q = refl
 
-module _ (x : Ruling) where
-  pub refuse_refused : (f : Refusal) → x ≡ R.Refused f → M.Refused f ≡ refused_by x
+module _ (x : Result Answer Refusal) where
+  pub refuse_refused : (f : Refusal) → x ≡ Err f → Err f ≡ refused_by x
   refuse_refused f e = rw e
 
-  pub refuse_answered : (a : Answer) → x ≡ R.Answered a → (f : Refusal) → f ≡ placeless F.BadRequest → M.Refused f ≡ refused_by x
+  pub refuse_answered : (a : Answer) → x ≡ Ok a → (f : Refusal) → f ≡ placeless F.BadRequest → Err f ≡ refused_by x
   refuse_answered a e f is_f = rw (e, is_f)
 
 first_true : (a b : Bool) → (a && b) ≡ true → (a && true) ≡ true
@@ -98,7 +94,7 @@ fits_unfetched r e = first_true
 -- a check, then the search over some tables
 module _ (o : Option Refusal) (ts : List Table) (allow deny : List ℕ) (r : Request) where
   abbrev outcome : Request → Outcome Answer
-  outcome q = o before decide_over ts allow deny (some q)
+  outcome q = o before decide_over ts allow deny (Some q)
 
   abbrev settles : Option Place
   settles = settled (match_of ts) allow deny (held r)
@@ -107,63 +103,63 @@ module _ (o : Option Refusal) (ts : List Table) (allow deny : List ℕ) (r : Req
   found = search (match_of ts) allow deny (held r)
 
   abbrev answer_to : Outcome (Option Place)
-  answer_to = outcome r >>= λ a. matters_over ts allow deny (some r)
+  answer_to = outcome r >>= λ a. matters_over ts allow deny (Some r)
 
   unfit : well_formed r ≡ false → (n : ℕ) → refused_by (reported (outcome r) n).ruling ≡ matter_of answer_to
   unfit e n = by o (well_formed r) e
     where
       by : (o : Option Refusal) (b : Bool) → b ≡ false
-          → refused_by (reported (o before (when b then answered found else refused (placeless F.BadRequest))) n).ruling
-          ≡ matter_of ((o before (when b then answered found else refused (placeless F.BadRequest)))
-          >>= λ a. when b then answered settles else refused (placeless F.BadRequest))
-      by (some f) b e = refl
-      by none true e = absurd (true≢false e)
-      by none false e = refl
+          → refused_by (reported (o before (when b then Ok found else Err (placeless F.BadRequest))) n).ruling
+          ≡ matter_of ((o before (when b then Ok found else Err (placeless F.BadRequest)))
+          >>= λ a. when b then Ok settles else Err (placeless F.BadRequest))
+      by (Some f) b e = refl
+      by None true e = absurd (true≢false e)
+      by None false e = refl
 
   module _ (fits : well_formed r ≡ true) (n : ℕ) where
     -- the answer for a user not fetched, where there is no refusal
     abbrev unasked : Answer
     unasked = search (match_of ts) allow deny (held (unfetched r))
 
-    asked_is : outcome (unfetched r) ≡ (o before answered unasked)
+    asked_is : outcome (unfetched r) ≡ (o before Ok unasked)
     asked_is = rw (fits_unfetched r fits)
 
-    own_is : answer_to ≡ ((o before answered found) >>= λ a. answered settles)
+    own_is : answer_to ≡ ((o before Ok found) >>= λ a. Ok settles)
     own_is = rw fits
 
-    fit_refused : (f : Refusal) → (reported (outcome (unfetched r)) n).ruling ≡ R.Refused f → M.Refused f ≡ matter_of answer_to
+    fit_refused : (f : Refusal) → (reported (outcome (unfetched r)) n).ruling ≡ Err f → Err f ≡ matter_of answer_to
     fit_refused f e = by o (ap (λ (x : Outcome Answer). (reported x n).ruling) (sym asked_is) ∙ e) ∙ sym (ap matter_of own_is)
       where
-        by : (o : Option Refusal) → (reported (o before answered unasked) n).ruling ≡ R.Refused f
-            → M.Refused f ≡ matter_of ((o before answered found) >>= λ a. answered settles)
-        by (some g) e = ap M.Refused (sym (ap (λ (x : Ruling). elim x [ R.Refused h ↦ h | R.Answered a ↦ g ]) e))
-        by none e = absurd (true≢false (ap (λ (x : Ruling). elim x [ R.Refused h ↦ false | R.Answered a ↦ true ]) e))
+        by : (o : Option Refusal) → (reported (o before Ok unasked) n).ruling ≡ Err f
+            → Err f ≡ matter_of ((o before Ok found) >>= λ a. Ok settles)
+        by (Some g) e = ap Err (sym (ap (λ (x : Result Answer Refusal). elim x [ Err h ↦ h | Ok a ↦ g ]) e))
+        by None e = absurd (true≢false (ap (λ (x : Result Answer Refusal). elim x [ Err h ↦ false | Ok a ↦ true ]) e))
 
-    module _ (a : Answer) (e : (reported (outcome (unfetched r)) n).ruling ≡ R.Answered a) where
-      fit_answered : (o ≡ none) × (a ≡ unasked)
+    module _ (a : Answer) (e : (reported (outcome (unfetched r)) n).ruling ≡ Ok a) where
+      fit_answered : (o ≡ None) × (a ≡ unasked)
       fit_answered = by o (ap (λ (x : Outcome Answer). (reported x n).ruling) (sym asked_is) ∙ e)
         where
-          by : (o : Option Refusal) → (reported (o before answered unasked) n).ruling ≡ R.Answered a → (o ≡ none) × (a ≡ unasked)
-          by (some g) e = absurd (true≢false (sym (ap (λ (x : Ruling). elim x [ R.Refused h ↦ false | R.Answered a ↦ true ]) e)))
-          by none e = (refl, sym (ap (λ (x : Ruling). elim x [ R.Refused h ↦ unasked | R.Answered b ↦ b ]) e))
+          by : (o : Option Refusal) → (reported (o before Ok unasked) n).ruling ≡ Ok a → (o ≡ None) × (a ≡ unasked)
+          by (Some g) e = absurd (true≢false (sym (ap (λ (x : Result Answer Refusal). elim x [ Err h ↦ false | Ok a ↦ true ]) e)))
+          by None e = (refl, sym (ap (λ (x : Result Answer Refusal). elim x [ Err h ↦ unasked | Ok b ↦ b ]) e))
 
       fit_unasked : Unasked (match_of ts) allow deny (held r) (place_of a)
       unfolding Unasked
       fit_unasked = ap place_of (sym fit_answered.1)
 
-      fit_settled : (x : Matter) → x ≡ matter_by settles → x ≡ matter_of answer_to
+      fit_settled : (x : Result (Option Place) Refusal) → x ≡ matter_by settles → x ≡ matter_of answer_to
       fit_settled x is_x =
-          is_x ∙ sym (ap matter_of own_is ∙ ap (λ (p : Option Refusal). matter_of ((p before answered found) >>= λ a. answered settles)) fit_answered.0)
+          is_x ∙ sym (ap matter_of own_is ∙ ap (λ (p : Option Refusal). matter_of ((p before Ok found) >>= λ a. Ok settles)) fit_answered.0)
 
 -- ## By texts
 
-nones_texts : (a d h k t : Option Refusal) → (a or_else d or_else h or_else k or_else t) ≡ none → ((h or_else k) or_else t) ≡ none
-nones_texts none none none none none e = refl
-nones_texts none none none none (some f) e = e
-nones_texts none none none (some f) t e = e
-nones_texts none none (some f) k t e = e
-nones_texts none (some f) h k t e = absurd (true≢false (sym (ap (λ (o : Option Refusal). elim o [ none ↦ true | some x ↦ false ]) e)))
-nones_texts (some f) d h k t e = absurd (true≢false (sym (ap (λ (o : Option Refusal). elim o [ none ↦ true | some x ↦ false ]) e)))
+nones_texts : (a d h k t : Option Refusal) → (a or_else d or_else h or_else k or_else t) ≡ None → ((h or_else k) or_else t) ≡ None
+nones_texts None None None None None e = refl
+nones_texts None None None None (Some f) e = e
+nones_texts None None None (Some f) t e = e
+nones_texts None None (Some f) k t e = e
+nones_texts None (Some f) h k t e = absurd (true≢false (sym (ap (λ (o : Option Refusal). elim o [ None ↦ true | Some x ↦ false ]) e)))
+nones_texts (Some f) d h k t e = absurd (true≢false (sym (ap (λ (o : Option Refusal). elim o [ None ↦ true | Some x ↦ false ]) e)))
 
 module _ (allow deny names : List ℕ) (q : Places) where
   abbrev own : Request
@@ -173,11 +169,11 @@ module _ (allow deny names : List ℕ) (q : Places) where
   text_checks =
       over_limit S.allow allow or_else over_limit S.deny deny or_else hosts_fault S.allow allow or_else hosts_fault S.deny deny or_else tables_fault allow deny []
 
-  abbrev by_texts_lem : Matter
-  by_texts_lem = matter_of (name_matters allow deny (some own))
+  abbrev by_texts_lem : Result (Option Place) Refusal
+  by_texts_lem = matter_of (name_matters allow deny (Some own))
 
   module _ (b : Bool) (is_b : b ≡ well_formed own) where
-    pub texts_unfit : not b ≡ true → (n : ℕ) (y : Reported) → y ≡ reported (decide allow deny (some own)) n → (x : Matter) → x ≡ refused_by y.ruling
+    pub texts_unfit : not b ≡ true → (n : ℕ) (y : Reported) → y ≡ reported (decide allow deny (Some own)) n → (x : Result (Option Place) Refusal) → x ≡ refused_by y.ruling
         → x ≡ by_texts_lem
     unfolding decide name_matters
     texts_unfit e n y is_y x is_x =
@@ -188,7 +184,7 @@ module _ (allow deny names : List ℕ) (q : Places) where
         unfits false e = refl
 
     module _ (e : not b ≡ false) (u : Places) (is-u : u ≡ unfetched_at q) (n : ℕ) (y : Reported)
-        (is_y : y ≡ reported (decide allow deny (some (request_at names u))) n) where
+        (is_y : y ≡ reported (decide allow deny (Some (request_at names u))) n) where
       fitting : well_formed own ≡ true
       fitting = sym is_b ∙ by b e
         where
@@ -198,17 +194,17 @@ module _ (allow deny names : List ℕ) (q : Places) where
 
       asked : y ≡ reported (outcome text_checks [] allow deny own (unfetched own)) n
       unfolding decide unfetched_at
-      asked = is_y ∙ ap (λ (p : Places). reported (decide allow deny (some (request_at names p))) n) is-u
+      asked = is_y ∙ ap (λ (p : Places). reported (decide allow deny (Some (request_at names p))) n) is-u
 
-      pub texts_refused : (f : Refusal) → y.ruling ≡ R.Refused f → M.Refused f ≡ by_texts_lem
+      pub texts_refused : (f : Refusal) → y.ruling ≡ Err f → Err f ≡ by_texts_lem
       unfolding decide name_matters
       texts_refused f k = fit_refused text_checks [] allow deny own fitting n f (sym (ap (λ (z : Reported). z.ruling) asked) ∙ k)
 
-      module _ (a : Answer) (k : y.ruling ≡ R.Answered a) where
-        told : (reported (outcome text_checks [] allow deny own (unfetched own)) n).ruling ≡ R.Answered a
+      module _ (a : Answer) (k : y.ruling ≡ Ok a) where
+        told : (reported (outcome text_checks [] allow deny own (unfetched own)) n).ruling ≡ Ok a
         told = sym (ap (λ (z : Reported). z.ruling) asked) ∙ k
 
-        pub texts_sound : contents_fault allow deny (take 0 allow) ≡ none
+        pub texts_sound : contents_fault allow deny (take 0 allow) ≡ None
         unfolding contents_fault lines_fault
         texts_sound =
             nones_texts (over_limit S.allow allow) (over_limit S.deny deny) (hosts_fault S.allow allow) (hosts_fault S.deny deny) (tables_fault allow deny [])
@@ -218,17 +214,17 @@ module _ (allow deny names : List ℕ) (q : Places) where
         unfolding read_tables
         texts_unasked = fit_unasked text_checks [] allow deny own fitting n a told
 
-        pub texts_settled : (x : Matter) → x ≡ matter_by (settled (match_of (tables_of (take 0 allow))) allow deny (held own)) → x ≡ by_texts_lem
+        pub texts_settled : (x : Result (Option Place) Refusal) → x ≡ matter_by (settled (match_of (tables_of (take 0 allow))) allow deny (held own)) → x ≡ by_texts_lem
         unfolding decide name_matters read_tables
         texts_settled x is_x = fit_settled text_checks [] allow deny own fitting n a told x is_x
 
 -- ## By texts and tables
 
-nones_tables : (a d f h k t : Option Refusal) → (a or_else d or_else f or_else h or_else k or_else t) ≡ none → (f ≡ none) × (((h or_else k) or_else t) ≡ none)
-nones_tables none none none h k t e = (refl, e)
-nones_tables none none (some f) h k t e = absurd (true≢false (sym (ap (λ (o : Option Refusal). elim o [ none ↦ true | some x ↦ false ]) e)))
-nones_tables none (some f) g h k t e = absurd (true≢false (sym (ap (λ (o : Option Refusal). elim o [ none ↦ true | some x ↦ false ]) e)))
-nones_tables (some f) d g h k t e = absurd (true≢false (sym (ap (λ (o : Option Refusal). elim o [ none ↦ true | some x ↦ false ]) e)))
+nones_tables : (a d f h k t : Option Refusal) → (a or_else d or_else f or_else h or_else k or_else t) ≡ None → (f ≡ None) × (((h or_else k) or_else t) ≡ None)
+nones_tables None None None h k t e = (refl, e)
+nones_tables None None (Some f) h k t e = absurd (true≢false (sym (ap (λ (o : Option Refusal). elim o [ None ↦ true | Some x ↦ false ]) e)))
+nones_tables None (Some f) g h k t e = absurd (true≢false (sym (ap (λ (o : Option Refusal). elim o [ None ↦ true | Some x ↦ false ]) e)))
+nones_tables (Some f) d g h k t e = absurd (true≢false (sym (ap (λ (o : Option Refusal). elim o [ None ↦ true | Some x ↦ false ]) e)))
 
 module _ (allow deny tables names : List ℕ) (q : Places) where
   abbrev table_checks : Option Refusal
@@ -236,12 +232,12 @@ module _ (allow deny tables names : List ℕ) (q : Places) where
       over_limit S.allow allow or_else over_limit S.deny deny or_else tables_frame tables
       or_else hosts_fault S.allow allow or_else hosts_fault S.deny deny or_else tables_fault allow deny tables
 
-  abbrev by_tables : Matter
-  by_tables = matter_of (name_matters_tables allow deny tables (some (request_at names q)))
+  abbrev by_tables : Result (Option Place) Refusal
+  by_tables = matter_of (name_matters_tables allow deny tables (Some (request_at names q)))
 
   module _ (b : Bool) (is_b : b ≡ well_formed (request_at names q)) where
-    pub tables_unfit : not b ≡ true → (n : ℕ) (y : Reported) → y ≡ reported (decide_tables allow deny tables (some (request_at names q))) n
-        → (x : Matter) → x ≡ refused_by y.ruling → x ≡ by_tables
+    pub tables_unfit : not b ≡ true → (n : ℕ) (y : Reported) → y ≡ reported (decide_tables allow deny tables (Some (request_at names q))) n
+        → (x : Result (Option Place) Refusal) → x ≡ refused_by y.ruling → x ≡ by_tables
     unfolding decide_tables name_matters_tables
     tables_unfit e n y is_y x is_x =
         is_x ∙ ap (λ (z : Reported). refused_by z.ruling) is_y ∙ unfit table_checks (tables_of tables) allow deny (request_at names q) (sym is_b ∙ unfits b e) n
@@ -251,7 +247,7 @@ module _ (allow deny tables names : List ℕ) (q : Places) where
         unfits false e = refl
 
     module _ (e : not b ≡ false) (u : Places) (is-u : u ≡ unfetched_at q) (n : ℕ) (y : Reported)
-        (is_y : y ≡ reported (decide_tables allow deny tables (some (request_at names u))) n) where
+        (is_y : y ≡ reported (decide_tables allow deny tables (Some (request_at names u))) n) where
       tables_fitting : well_formed (request_at names q) ≡ true
       tables_fitting = sym is_b ∙ by b e
         where
@@ -261,18 +257,18 @@ module _ (allow deny tables names : List ℕ) (q : Places) where
 
       tables_asked : y ≡ reported (outcome table_checks (tables_of tables) allow deny (request_at names q) (unfetched (request_at names q))) n
       unfolding decide_tables unfetched_at
-      tables_asked = is_y ∙ ap (λ (p : Places). reported (decide_tables allow deny tables (some (request_at names p))) n) is-u
+      tables_asked = is_y ∙ ap (λ (p : Places). reported (decide_tables allow deny tables (Some (request_at names p))) n) is-u
 
-      pub tables_refused : (f : Refusal) → y.ruling ≡ R.Refused f → M.Refused f ≡ by_tables
+      pub tables_refused : (f : Refusal) → y.ruling ≡ Err f → Err f ≡ by_tables
       unfolding decide_tables name_matters_tables
       tables_refused f k =
           fit_refused table_checks (tables_of tables) allow deny (request_at names q) tables_fitting n f (sym (ap (λ (z : Reported). z.ruling) tables_asked) ∙ k)
 
-      module _ (a : Answer) (k : y.ruling ≡ R.Answered a) where
-        tables_told : (reported (outcome table_checks (tables_of tables) allow deny (request_at names q) (unfetched (request_at names q))) n).ruling ≡ R.Answered a
+      module _ (a : Answer) (k : y.ruling ≡ Ok a) where
+        tables_told : (reported (outcome table_checks (tables_of tables) allow deny (request_at names q) (unfetched (request_at names q))) n).ruling ≡ Ok a
         tables_told = sym (ap (λ (z : Reported). z.ruling) tables_asked) ∙ k
 
-        tables_nones : (tables_frame tables ≡ none) × (((hosts_fault S.allow allow or_else hosts_fault S.deny deny) or_else tables_fault allow deny tables) ≡ none)
+        tables_nones : (tables_frame tables ≡ None) × (((hosts_fault S.allow allow or_else hosts_fault S.deny deny) or_else tables_fault allow deny tables) ≡ None)
         tables_nones =
             nones_tables (over_limit S.allow allow) (over_limit S.deny deny) (tables_frame tables) (hosts_fault S.allow allow) (hosts_fault S.deny deny)
             (tables_fault allow deny tables)
@@ -281,13 +277,13 @@ module _ (allow deny tables names : List ℕ) (q : Places) where
         pub tables_whole : tables_in tables ≡ tables_of tables
         tables_whole = tables_in_of tables (frame_none tables tables_nones.0)
 
-        pub tables_sound : contents_fault allow deny tables ≡ none
+        pub tables_sound : contents_fault allow deny tables ≡ None
         unfolding contents_fault lines_fault
         tables_sound = tables_nones.1
 
         pub tables_unasked : Unasked (match_of (tables_of tables)) allow deny (held (request_at names q)) (place_of a)
         tables_unasked = fit_unasked table_checks (tables_of tables) allow deny (request_at names q) tables_fitting n a tables_told
 
-        pub tables_settled : (x : Matter) → x ≡ matter_by (settled (match_of (tables_of tables)) allow deny (held (request_at names q))) → x ≡ by_tables
+        pub tables_settled : (x : Result (Option Place) Refusal) → x ≡ matter_by (settled (match_of (tables_of tables)) allow deny (held (request_at names q))) → x ≡ by_tables
         unfolding decide_tables name_matters_tables
         tables_settled x is_x = fit_settled table_checks (tables_of tables) allow deny (request_at names q) tables_fitting n a tables_told x is_x

@@ -2,10 +2,10 @@
 --   Looking  == how far the noted halves were looked through
 --   Trying   == how far a list was gone through: all noted halves find what they should
 -- Assumes nothing.
+use Rattle.std.specs.Prelude.{None, Option, Some}
 use Prim.Native.Nat.{ℕ, zero, suc, ◌+◌, ◌-◌, ◌*◌, ◌/◌, ◌%◌, ◌≤◌, ◌<◌}
 use mathlib.Core.Bool.{Bool, true, false, not, ◌&&◌, ◌||◌, true≢false}
 use mathlib.Core.List.{List, [], ◌∷◌}
-use mathlib.Core.Option.{Option, none, some}
 use mathlib.Core.Path.{◌≡◌, refl, sym, ap, ap₂, ◌∙◌}
 use borrow.Author.Tests.{not-true, not-false, eq-eqb, ne_eqb, eqb-true, eqb-false, lt-ltb, le-ltb, ltb-true, leb-true, leb-false}
 use native.Mathlib.Omega.{arith}
@@ -27,8 +27,6 @@ use Rattle.elements.specs.Request.{Request}
 use Rattle.elements.specs.Code.{View, at_sign}
 use Rattle.elements.specs.Element.{halves}
 use Rattle.elements.proofs.ElementLaws.{halves_none, halves_some}
-use Rattle.matters.specs.declared.Tried.{Tried}
-use Rattle.matters.specs.declared.Tried.TheVariants as Tried
 use Rattle.matters.specs.Matters.{same_found, half_holds}
 use Rattle.matters.specs.Code.{Finder, finder_by, name_agrees, half_agrees, half_of, asked_half}
 use Rattle.matters.specs.Code.{place_number, noted, noted_below, was_tried, noted_room, noted_places, noted_count, tried_by, places_by}
@@ -81,8 +79,8 @@ half_asked F ws f e = by (F.asks e) (halves e)
     by : (b : Bool) (o : Option (List ℕ × List ℕ))
         → (not b || half_holds (λ t. not (in_range 1 64 (length t)) || same_found f (F.clients U.Known t ws)) o)
         ≡ (not (in_range 1 64 (length (when b then half_of o else []))) || same_found f (F.clients U.Known (when b then half_of o else []) ws))
-    by true none = refl
-    by true (some p) = refl
+    by true None = refl
+    by true (Some p) = refl
     by false o = refl
 
 -- ## Looking through the noted halves
@@ -180,22 +178,22 @@ module _ (ps : List ℕ) (n i m : ℕ) where
 
 module _ (F : Finder) (f : Found) (s ps : List ℕ) (n i : ℕ) (h : List ℕ) (y : Bool) (is_y : y ≡ was_tried s ps n h) where
   -- what is answered, and what the places are then
-  abbrev pub Answers : Tried → List ℕ → Type 0
+  abbrev pub Answers : Option ℕ → List ℕ → Type 0
   Answers t ps' = (t ≡ tried_by F f s ps n i h) × (ps' ≡ places_by F f s ps n i h)
 
-  pub try_known : y ≡ true → Answers (Tried.Agrees n) ps
+  pub try_known : y ≡ true → Answers (Some n) ps
   unfolding tried_by places_by
   try_known e = rw (← is_y, e) (refl, refl)
 
   module _ (e : y ≡ false) (z : Bool) (is-z : z ≡ name_agrees F (words s) f h) where
-    pub try_differs : not z ≡ true → Answers Tried.Differs ps
+    pub try_differs : not z ≡ true → Answers None ps
     unfolding tried_by places_by
     try_differs k = rw (← is_y, e, ← is-z, not-true z k) (refl, refl)
 
     pub try_agrees : not z ≡ false → (n' : ℕ) (ps' : List ℕ) → (n' ≡ noted_count ps n i (length h)) × (ps' ≡ noted_places ps n i (length h))
-        → Answers (Tried.Agrees n') ps'
+        → Answers (Some n') ps'
     unfolding tried_by places_by
-    try_agrees k n' ps' x = rw (← is_y, e, ← is-z, not-false z k) (ap Tried.Agrees x.0, x.1)
+    try_agrees k n' ps' x = rw (← is_y, e, ← is-z, not-false z k) (ap Some x.0, x.1)
 
 -- ## Places of a list
 
@@ -388,37 +386,37 @@ module _ (v : View) (r : Request) (f : Found) where
                     made (ap length p) (omega (arith, x.within, q, ap length p))
                     (λ j l. ap (λ (y : List ℕ). name_agrees F (words s) f (noted s (get_or y j 0))) p ∙ x.tried j (omega arith))
 
-        module _ (a : ClassSpan) (is-a : a ≡ element_at rest) (t : Tried)
+        module _ (a : ClassSpan) (is-a : a ≡ element_at rest) (t : Option ℕ)
             (is-t : t ≡ tried_by F f s ps n (length s - length rest + a.span.start) h) where
           abbrev start : ℕ
           start = length s - length rest + a.span.start
 
           answered : (b : Bool) → was_tried s ps n h ≡ b → (z : Bool) → name_agrees F (words s) f h ≡ z
-              → t ≡ (when b then Tried.Agrees n else when z then Tried.Agrees (noted_count ps n start (length h)) else Tried.Differs)
+              → t ≡ (when b then Some n else when z then Some (noted_count ps n start (length h)) else None)
           unfolding tried_by
           answered b e z g = is-t ∙ rw (e, g)
 
-          pub trying_differs : t ≡ Tried.Differs → false ≡ all (half_agrees F (words s) f) (words s)
+          pub trying_differs : t ≡ None → false ≡ all (half_agrees F (words s) f) (words s)
           trying_differs d = by (was_tried s ps n h) refl (name_agrees F (words s) f h) refl
             where
-              differs : Tried → Bool
-              differs x = elim x [ Tried.Differs ↦ true | Tried.Agrees k ↦ false ]
+              differs : Option ℕ → Bool
+              differs x = elim x [ None ↦ true | Some k ↦ false ]
 
               by : (b : Bool) → was_tried s ps n h ≡ b → (z : Bool) → name_agrees F (words s) f h ≡ z → false ≡ all (half_agrees F (words s) f) (words s)
               by true e z g = absurd (true≢false (ap differs (sym d ∙ answered true e z g)))
               by false e true g = absurd (true≢false (ap differs (sym d ∙ answered false e true g)))
               by false e false g = trying_stop false (sym g) refl
 
-          pub trying_more : (n' : ℕ) → t ≡ Tried.Agrees n' → (ps' : List ℕ) → ps' ≡ places_by F f s ps n (length s - length rest + a.span.start) h
+          pub trying_more : (n' : ℕ) → t ≡ Some n' → (ps' : List ℕ) → ps' ≡ places_by F f s ps n (length s - length rest + a.span.start) h
               → (next : List ℕ) → next ≡ after_element rest → Trying s next ps' n'
           unfolding places_by
           trying_more n' d ps' is-ps next is-next = by (was_tried s ps n h) refl (name_agrees F (words s) f h) refl
             where
-              agreed : Tried → ℕ
-              agreed x = elim x [ Tried.Differs ↦ n' | Tried.Agrees k ↦ k ]
+              agreed : Option ℕ → ℕ
+              agreed x = elim x [ None ↦ n' | Some k ↦ k ]
 
-              differs : Tried → Bool
-              differs x = elim x [ Tried.Differs ↦ true | Tried.Agrees k ↦ false ]
+              differs : Option ℕ → Bool
+              differs x = elim x [ None ↦ true | Some k ↦ false ]
 
               placed : (b : Bool) → was_tried s ps n h ≡ b → (z : Bool) → name_agrees F (words s) f h ≡ z
                   → ps' ≡ (when not b && z then noted_places ps n start (length h) else ps)

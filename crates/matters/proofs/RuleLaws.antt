@@ -3,10 +3,10 @@
 --   told-passes, told-decides == what a rule tells is what every user finds
 --   told_differs              == where it tells that it differs, some name finds something else than an unknown user
 -- Assumes nothing.
+use Rattle.std.specs.Prelude.{None, Option, Some}
 use Prim.Native.Nat.{ℕ, ◌+◌, ◌≤◌}
 use mathlib.Core.Bool.{Bool, true, false, not, ◌&&◌, ◌||◌, true≢false}
 use mathlib.Core.List.{List, [], ◌∷◌, map}
-use mathlib.Core.Option.{Option, none, some}
 use mathlib.Core.Path.{◌≡◌, refl, sym, ap, ◌∙◌, subst}
 use native.Mathlib.Omega.{arith}
 use borrow.Author.Tests.{eqb-true, le-leb, leb-true}
@@ -95,15 +95,15 @@ abbrev HalfSame : Request → User → List ℕ → List ℕ → Option (Request
 HalfSame r u t t' o = holds (λ f. f (with_user r u t')) o ≡ holds (λ f. f (with_user r u t)) o
 
 module _ (m : Matcher) (r : Request) (u : User) (t t' : List ℕ) where
-  look_agree : (e : List ℕ) → ((p : List ℕ × List ℕ) → halves e ≡ some p → HalfSame r u t t' (user_half p.0))
+  look_agree : (e : List ℕ) → ((p : List ℕ × List ℕ) → halves e ≡ Some p → HalfSame r u t t' (user_half p.0))
       → look_at (with_user r u t') (client_element m e) ≡ look_at (with_user r u t) (client_element m e)
   unfolding client_element client_parts
   look_agree e same = by (halves e) refl
     where
-      name : (o : Option (Endpoint → Bool)) → look_at (with_user r u t') (o >>= λ g. some λ q. found_if (g q.client))
-          ≡ look_at (with_user r u t) (o >>= λ g. some λ q. found_if (g q.client))
-      name none = refl
-      name (some g) = refl
+      name : (o : Option (Endpoint → Bool)) → look_at (with_user r u t') (o >>= λ g. Some λ q. found_if (g q.client))
+          ≡ look_at (with_user r u t) (o >>= λ g. Some λ q. found_if (g q.client))
+      name None = refl
+      name (Some g) = refl
 
       fetched : (v : User) (x y : Bool) → x ≡ y
           → user_case (with_user r v t') Ask (found_if x) (found_if x) ≡ user_case (with_user r v t) Ask (found_if y) (found_if y)
@@ -112,17 +112,17 @@ module _ (m : Matcher) (r : Request) (u : User) (t t' : List ℕ) where
       fetched U.Known x y k = ap found_if k
 
       half : (o : Option (Request → Bool)) (o' : Option (Endpoint → Bool)) → HalfSame r u t t' o
-          → look_at (with_user r u t') (o >>= λ f. o' >>= λ g. some λ q. when g q.client then user_case q Ask (found_if (f q)) (found_if (f q)) else No)
-          ≡ look_at (with_user r u t) (o >>= λ f. o' >>= λ g. some λ q. when g q.client then user_case q Ask (found_if (f q)) (found_if (f q)) else No)
-      half none o' k = refl
-      half (some f) none k = refl
-      half (some f) (some g) k =
+          → look_at (with_user r u t') (o >>= λ f. o' >>= λ g. Some λ q. when g q.client then user_case q Ask (found_if (f q)) (found_if (f q)) else No)
+          ≡ look_at (with_user r u t) (o >>= λ f. o' >>= λ g. Some λ q. when g q.client then user_case q Ask (found_if (f q)) (found_if (f q)) else No)
+      half None o' k = refl
+      half (Some f) None k = refl
+      half (Some f) (Some g) k =
           ap (λ (x : Found). when g r.client then x else No) (fetched u (f (with_user r u t')) (f (with_user r u t)) k)
 
       by : (o : Option (List ℕ × List ℕ)) → halves e ≡ o
           → look_at (with_user r u t') (client_parts m e o) ≡ look_at (with_user r u t) (client_parts m e o)
-      by none k = name (pattern_with m e)
-      by (some p) k = half (user_half p.0) (pattern_with m p.1) (same p k)
+      by None k = name (pattern_with m e)
+      by (Some p) k = half (user_half p.0) (pattern_with m p.1) (same p k)
 
 -- a half tells two names apart only by equality with it, and only where it is a name
 known_half : (r : Request) (t t' h : List ℕ) → (is_plain_name h ≡ true → equal_fold h t' ≡ equal_fold h t) → HalfSame r U.Known t t' (user_half h)
@@ -230,7 +230,7 @@ module _ (m : Matcher) (r : Request) (x : Rule) where
   unfolding asker_holds
   fresh_same t h = rule_agree m r U.Known U.Known fresh_name t (asker_holds m r (λ h. not (equal_fold h t))) element x h
     where
-      half : (w : List ℕ) (p : List ℕ × List ℕ) → halves w ≡ some p → half_holds (λ h. not (equal_fold h t)) (halves w) ≡ true → equal_fold p.0 t ≡ false
+      half : (w : List ℕ) (p : List ℕ × List ℕ) → halves w ≡ Some p → half_holds (λ h. not (equal_fold h t)) (halves w) ≡ true → equal_fold p.0 t ≡ false
       half w p q k = not_true (equal_fold p.0 t) (subst (λ o. half_holds (λ h. not (equal_fold h t)) o ≡ true) q k)
 
       element : (w : List ℕ) → (not (asks_at m r w) || half_holds (λ h. not (equal_fold h t)) (halves w)) ≡ true
@@ -268,8 +268,8 @@ half_find m r a b e = by (asks_at m r e) (halves e)
     by : (c : Bool) (o : Option (List ℕ × List ℕ)) → (not c || half_holds a o) ≡ true → (not c || half_holds b o) ≡ false
         → (h : List ℕ) × (a h ≡ true) × (b h ≡ false)
     by false o f g = absurd (true≢false g)
-    by true none f g = absurd (true≢false g)
-    by true (some p) f g = (p.0, f, g)
+    by true None f g = absurd (true≢false g)
+    by true (Some p) f g = (p.0, f, g)
 
 -- ## What a rule tells
 
@@ -402,8 +402,8 @@ module _ (m : Matcher) (r : Request) (x : Rule) where
           holds_true w = any_half (asks_at m r w) (halves w)
             where
               any_half : (b : Bool) (o : Option (List ℕ × List ℕ)) → (not b || half_holds (λ h. true) o) ≡ true
-              any_half true none = refl
-              any_half true (some p) = refl
+              any_half true None = refl
+              any_half true (Some p) = refl
               any_half false o = refl
 
       asked : (b : Bool) → name_finds m r x nobody fresh_name ≡ b → (c : Bool) → all (asker_holds m r (name_finds m r x nobody)) x.clients ≡ c

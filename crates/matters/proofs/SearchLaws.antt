@@ -3,10 +3,10 @@
 --   settled_same == every user gets the place that settles
 --   unsettled    == where none does, two users get different places
 -- Assumes nothing.
+use Rattle.std.specs.Prelude.{None, Option, Some, unwrap_or}
 use Prim.Native.Nat.{ℕ, ◌+◌, ◌≤◌, ◌<◌}
 use mathlib.Core.Bool.{Bool, true, false, not, ◌&&◌, ◌||◌, true≢false}
 use mathlib.Core.List.{List, [], ◌∷◌}
-use mathlib.Core.Option.{Option, none, some, get_or}
 use mathlib.Core.Path.{◌≡◌, refl, sym, ap, ◌∙◌, subst}
 use native.Mathlib.Omega.{arith}
 use lib.ListN.{length}
@@ -82,30 +82,30 @@ module _ (v : Verdict) (f : File) where
   -- an answer of this file, at this line
   pub record At (n : ℕ) (o : Option Answer) : Type 0 where
     pub given : Answer
-    pub is : o ≡ some given
+    pub is : o ≡ Some given
     pub at_place : place_of given ≡ place v f n
 
-  line_at : (g : Rule → Found) → ((x : Rule) → Quiet (g x)) → (l : Line) (a : Answer) → line_answer v f g l ≡ some a → place_of a ≡ place v f l.number
+  line_at : (g : Rule → Found) → ((x : Rule) → Quiet (g x)) → (l : Line) (a : Answer) → line_answer v f g l ≡ Some a → place_of a ≡ place v f l.number
   unfolding line_answer
   line_at g q l a = by (is_comment l || is_blank l) (parse_rule l.raw)
     where
-      none_some : ◌≡◌ {A = Option Answer} none (some a) → ⊥
-      none_some e = true≢false (sym (ap (λ (o : Option Answer). elim o [ none ↦ false | some x ↦ true ]) e))
+      none_some : ◌≡◌ {A = Option Answer} None (Some a) → ⊥
+      none_some e = true≢false (sym (ap (λ (o : Option Answer). elim o [ None ↦ false | Some x ↦ true ]) e))
 
-      found : (x : Rule) (y : Found) → Quiet y → rule_answer v f l x y ≡ some a → place_of a ≡ place v f l.number
-      found x Yes h e = sym (ap (λ (o : Option Answer). place_of (get_or o (answer v f l.number (part 0 0)))) e)
+      found : (x : Rule) (y : Found) → Quiet y → rule_answer v f l x y ≡ Some a → place_of a ≡ place v f l.number
+      found x Yes h e = sym (ap (λ (o : Option Answer). place_of (unwrap_or o (answer v f l.number (part 0 0)))) e)
       found x No h e = absurd (none_some e)
       found x Ask h e = absurd h
 
-      by : (b : Bool) (o : Option Rule) → (when b then none else (o >>= λ x. rule_answer v f l x (g x))) ≡ some a → place_of a ≡ place v f l.number
+      by : (b : Bool) (o : Option Rule) → (when b then None else (o >>= λ x. rule_answer v f l x (g x))) ≡ Some a → place_of a ≡ place v f l.number
       by true o e = absurd (none_some e)
-      by false none e = absurd (none_some e)
-      by false (some x) e = found x (g x) (q x) e
+      by false None e = absurd (none_some e)
+      by false (Some x) e = found x (g x) (q x) e
 
   -- no answer, or one at a line after n
   abbrev Later : ℕ → Option Answer → Type 0
-  Later n none = Unit {0}
-  Later n (some a) = (n < a.line) × (a.file ≡ f)
+  Later n None = Unit {0}
+  Later n (Some a) = (n < a.line) × (a.file ≡ f)
 
   later_first : (g : Rule → Found) → ((x : Rule) → Quiet (g x)) → (n : ℕ) (ls : List Line) → AllFrom (n + 1) ls → Later n (first (line_answer v f g) ls)
   unfolding AllFrom first
@@ -113,8 +113,8 @@ module _ (v : Verdict) (f : File) where
   later_first g q n (l ∷ ls) h = by (line_answer v f g l) refl (later_first g q n ls h.1)
     where
       by : (o : Option Answer) → line_answer v f g l ≡ o → Later n (first (line_answer v f g) ls) → Later n (o or_else first (line_answer v f g) ls)
-      by none e ih = ih
-      by (some a) e ih =
+      by None e ih = ih
+      by (Some a) e ih =
           let k : place_of a ≡ place v f l.number = line_at g q l a e in
           (subst (λ (j : ℕ). n < j) (sym (ap (λ (p : Place). p.line) k)) (omega (arith, h.0)), ap (λ (p : Place). p.file) k)
 
@@ -128,15 +128,15 @@ module _ (v : Verdict) (f : File) where
     by_user u t = line_answer v f (rule_found m (with_user r u t))
 
     -- a line that passes users on answers nothing, one that decides answers at its number
-    passes : (l : Line) → line_told m r l ≡ Told.Passes → (u : User) (t : List ℕ) → Stated u t → by_user u t l ≡ none
+    passes : (l : Line) → line_told m r l ≡ Told.Passes → (u : User) (t : List ℕ) → Stated u t → by_user u t l ≡ None
     unfolding line_told line_answer
     passes l e u t s = by (is_comment l || is_blank l) (parse_rule l.raw) e
       where
         by : (b : Bool) (o : Option Rule) → (when b then Told.Passes else parsed_told m r o) ≡ Told.Passes
-            → (when b then none else (o >>= λ x. rule_answer v f l x (rule_found m (with_user r u t) x))) ≡ none
+            → (when b then None else (o >>= λ x. rule_answer v f l x (rule_found m (with_user r u t) x))) ≡ None
         by true o e = refl
-        by false none e = refl
-        by false (some x) e = rw (told_same m r x No tt e u t s)
+        by false None e = refl
+        by false (Some x) e = rw (told_same m r x No tt e u t s)
 
     decides : (l : Line) → line_told m r l ≡ Told.Decides → (u : User) (t : List ℕ) → Stated u t → At l.number (by_user u t l)
     unfolding line_told line_answer
@@ -146,10 +146,10 @@ module _ (v : Verdict) (f : File) where
         other e = true≢false (ap (λ (k : Told). elim k [ Told.Passes ↦ true | Told.Decides ↦ false | Told.Differs ↦ false ]) e)
 
         by : (b : Bool) (o : Option Rule) → (when b then Told.Passes else parsed_told m r o) ≡ Told.Decides
-            → At l.number (when b then none else (o >>= λ x. rule_answer v f l x (rule_found m (with_user r u t) x)))
+            → At l.number (when b then None else (o >>= λ x. rule_answer v f l x (rule_found m (with_user r u t) x)))
         by true o e = absurd (other e)
-        by false none e = absurd (other e)
-        by false (some x) e = record {
+        by false None e = absurd (other e)
+        by false (Some x) e = record {
           given = answer v f l.number (raw_command l x);
           is = rw (told_same m r x Yes tt e u t s);
           at_place = refl;
@@ -157,8 +157,8 @@ module _ (v : Verdict) (f : File) where
 
     -- a line that differs answers one of an unknown user and some name, and not the other
     pub data Split (l : Line) (t : List ℕ) : Type 0 where
-      unknown_has : At l.number (by_user U.Unknown [] l) → by_user U.Known t l ≡ none → Split l t
-      name_has : At l.number (by_user U.Known t l) → by_user U.Unknown [] l ≡ none → Split l t
+      unknown_has : At l.number (by_user U.Unknown [] l) → by_user U.Known t l ≡ None → Split l t
+      name_has : At l.number (by_user U.Known t l) → by_user U.Unknown [] l ≡ None → Split l t
 
     differs : (l : Line) → line_told m r l ≡ Told.Differs → (t : List ℕ) × (in_range 1 64 (length t) ≡ true) × Split l t
     unfolding line_told line_answer
@@ -167,11 +167,11 @@ module _ (v : Verdict) (f : File) where
         other : Told.Passes ≡ Told.Differs → ⊥
         other e = true≢false (ap (λ (k : Told). elim k [ Told.Passes ↦ true | Told.Decides ↦ false | Told.Differs ↦ false ]) e)
 
-        answers : (u : User) (t : List ℕ) (x : Rule) (y : Found) → is_comment l || is_blank l ≡ false → parse_rule l.raw ≡ some x
+        answers : (u : User) (t : List ℕ) (x : Rule) (y : Found) → is_comment l || is_blank l ≡ false → parse_rule l.raw ≡ Some x
             → rule_found m (with_user r u t) x ≡ y → by_user u t l ≡ rule_answer v f l x y
         answers u t x y b p k = rw (b, p, k)
 
-        split : (x : Rule) (t : List ℕ) → is_comment l || is_blank l ≡ false → parse_rule l.raw ≡ some x → (y z : Found) → Quiet y → Quiet z
+        split : (x : Rule) (t : List ℕ) → is_comment l || is_blank l ≡ false → parse_rule l.raw ≡ Some x → (y z : Found) → Quiet y → Quiet z
             → rule_found m (with_user r U.Unknown []) x ≡ y → rule_found m (with_user r U.Known t) x ≡ z → same_found y z ≡ false → Split l t
         split x t b p Yes No q k a c e = unknown_has
             (record { given = answer v f l.number (raw_command l x); is = answers U.Unknown [] x Yes b p a; at_place = refl }) (answers U.Known t x No b p c)
@@ -186,8 +186,8 @@ module _ (v : Verdict) (f : File) where
         by : (b : Bool) (o : Option Rule) → is_comment l || is_blank l ≡ b → parse_rule l.raw ≡ o → (when b then Told.Passes else parsed_told m r o) ≡ Told.Differs
             → (t : List ℕ) × (in_range 1 64 (length t) ≡ true) × Split l t
         by true o b p e = absurd (other e)
-        by false none b p e = absurd (other e)
-        by false (some x) b p e =
+        by false None b p e = absurd (other e)
+        by false (Some x) b p e =
             let w : (t : List ℕ) × (in_range 1 64 (length t) ≡ true) × (same_found (rule_found m (with_user r U.Unknown []) x)
             (rule_found m (with_user r U.Known t) x) ≡ false) =
             told_differs m r x e in (
@@ -205,48 +205,48 @@ module _ (v : Verdict) (f : File) where
     abbrev answered_by : User → List ℕ → List Line → Option Answer
     answered_by u t ls = first (by_user u t) ls
 
-    along_passes : (ls : List Line) → along ls ≡ none → (u : User) (t : List ℕ) → Stated u t → answered_by u t ls ≡ none
+    along_passes : (ls : List Line) → along ls ≡ None → (u : User) (t : List ℕ) → Stated u t → answered_by u t ls ≡ None
     unfolding first
     along_passes [] e u t s = refl
     along_passes (l ∷ ls) e u t s = by (line_told m r l) refl e (λ k. along_passes ls k u t s)
       where
-        by : (k : Told) → line_told m r l ≡ k → (told_at v f l.number k or_else along ls) ≡ none → (along ls ≡ none → answered_by u t ls ≡ none)
-            → (by_user u t l or_else answered_by u t ls) ≡ none
+        by : (k : Told) → line_told m r l ≡ k → (told_at v f l.number k or_else along ls) ≡ None → (along ls ≡ None → answered_by u t ls ≡ None)
+            → (by_user u t l or_else answered_by u t ls) ≡ None
         by Told.Passes h e ih = rw (passes l h u t s) (ih e)
-        by Told.Decides h e ih = absurd (true≢false (ap (λ (o : Option (Option Place)). elim o [ none ↦ false | some x ↦ true ]) e))
-        by Told.Differs h e ih = absurd (true≢false (ap (λ (o : Option (Option Place)). elim o [ none ↦ false | some x ↦ true ]) e))
+        by Told.Decides h e ih = absurd (true≢false (ap (λ (o : Option (Option Place)). elim o [ None ↦ false | Some x ↦ true ]) e))
+        by Told.Differs h e ih = absurd (true≢false (ap (λ (o : Option (Option Place)). elim o [ None ↦ false | Some x ↦ true ]) e))
 
-    along_settled : (ls : List Line) (p : Place) → along ls ≡ some (some p) → (u : User) (t : List ℕ) → Stated u t
-        → (a : Answer) × (answered_by u t ls ≡ some a) × (place_of a ≡ p)
+    along_settled : (ls : List Line) (p : Place) → along ls ≡ Some (Some p) → (u : User) (t : List ℕ) → Stated u t
+        → (a : Answer) × (answered_by u t ls ≡ Some a) × (place_of a ≡ p)
     unfolding first
-    along_settled [] p e u t s = absurd (true≢false (sym (ap (λ (o : Option (Option Place)). elim o [ none ↦ false | some x ↦ true ]) e)))
+    along_settled [] p e u t s = absurd (true≢false (sym (ap (λ (o : Option (Option Place)). elim o [ None ↦ false | Some x ↦ true ]) e)))
     along_settled (l ∷ ls) p e u t s = by (line_told m r l) refl e (λ k. along_settled ls p k u t s)
       where
         outer : Option (Option Place) → Place
-        outer o = get_or (get_or o none) p
+        outer o = unwrap_or (unwrap_or o None) p
 
-        by : (k : Told) → line_told m r l ≡ k → (told_at v f l.number k or_else along ls) ≡ some (some p)
-            → (along ls ≡ some (some p) → (a : Answer) × (answered_by u t ls ≡ some a) × (place_of a ≡ p))
-            → (a : Answer) × ((by_user u t l or_else answered_by u t ls) ≡ some a) × (place_of a ≡ p)
+        by : (k : Told) → line_told m r l ≡ k → (told_at v f l.number k or_else along ls) ≡ Some (Some p)
+            → (along ls ≡ Some (Some p) → (a : Answer) × (answered_by u t ls ≡ Some a) × (place_of a ≡ p))
+            → (a : Answer) × ((by_user u t l or_else answered_by u t ls) ≡ Some a) × (place_of a ≡ p)
         by Told.Passes h e ih =
-            let w : (a : Answer) × (answered_by u t ls ≡ some a) × (place_of a ≡ p) = ih e in
+            let w : (a : Answer) × (answered_by u t ls ≡ Some a) × (place_of a ≡ p) = ih e in
             (w.0, rw (passes l h u t s) w.1, w.2)
         by Told.Decides h e ih =
             let w : At l.number (by_user u t l) = decides l h u t s in
             (w.given, rw w.is, w.at_place ∙ ap outer e)
         by Told.Differs h e ih =
-            absurd (true≢false (sym (ap (λ (o : Option (Option Place)). elim (get_or o (some p)) [ none ↦ false | some x ↦ true ]) e)))
+            absurd (true≢false (sym (ap (λ (o : Option (Option Place)). elim (unwrap_or o (Some p)) [ None ↦ false | Some x ↦ true ]) e)))
 
-    along_differs : (ls : List Line) → Ascends ls → along ls ≡ some none
+    along_differs : (ls : List Line) → Ascends ls → along ls ≡ Some None
         → (t : List ℕ) × (in_range 1 64 (length t) ≡ true) × Apart (answered_by U.Unknown [] ls) (answered_by U.Known t ls)
     unfolding first Ascends
-    along_differs [] h e = absurd (true≢false (sym (ap (λ (o : Option (Option Place)). elim o [ none ↦ false | some x ↦ true ]) e)))
+    along_differs [] h e = absurd (true≢false (sym (ap (λ (o : Option (Option Place)). elim o [ None ↦ false | Some x ↦ true ]) e)))
     along_differs (l ∷ ls) h e = by (line_told m r l) refl e (λ k. along_differs ls h.1 k)
       where
         had : {o : Option Answer} (q : Option Answer) → At l.number o → At l.number (o or_else q)
         had q w = record { given = w.given; is = rw w.is; at_place = w.at_place }
 
-        later : (u : User) (t : List ℕ) → Stated u t → by_user u t l ≡ none → Later l.number (by_user u t l or_else answered_by u t ls)
+        later : (u : User) (t : List ℕ) → Stated u t → by_user u t l ≡ None → Later l.number (by_user u t l or_else answered_by u t ls)
         later u t s k = rw k (later_first (rule_found m (with_user r u t)) (rule_quiet m (with_user r u t) (fetched s)) l.number ls h.0)
           where
             fetched : {u : User} {t : List ℕ} → Stated u t → Fetched u
@@ -262,14 +262,14 @@ module _ (v : Verdict) (f : File) where
             → Apart (by_user U.Unknown [] l or_else answered_by U.Unknown [] ls) (by_user U.Known t l or_else answered_by U.Known t ls)
         passed t i h w = rw (passes l h U.Unknown [] (unknown []), passes l h U.Known t (named t i)) w
 
-        by : (k : Told) → line_told m r l ≡ k → (told_at v f l.number k or_else along ls) ≡ some none
-            → (along ls ≡ some none → (t : List ℕ) × (in_range 1 64 (length t) ≡ true) × Apart (answered_by U.Unknown [] ls) (answered_by U.Known t ls))
+        by : (k : Told) → line_told m r l ≡ k → (told_at v f l.number k or_else along ls) ≡ Some None
+            → (along ls ≡ Some None → (t : List ℕ) × (in_range 1 64 (length t) ≡ true) × Apart (answered_by U.Unknown [] ls) (answered_by U.Known t ls))
             → (t : List ℕ) × (in_range 1 64 (length t) ≡ true)
             × Apart (by_user U.Unknown [] l or_else answered_by U.Unknown [] ls) (by_user U.Known t l or_else answered_by U.Known t ls)
         by Told.Passes k e ih =
             let w : (t : List ℕ) × (in_range 1 64 (length t) ≡ true) × Apart (answered_by U.Unknown [] ls) (answered_by U.Known t ls) = ih e in
             (w.0, w.1, passed w.0 w.1 k w.2)
-        by Told.Decides k e ih = absurd (true≢false (ap (λ (o : Option (Option Place)). elim (get_or o none) [ none ↦ false | some x ↦ true ]) e))
+        by Told.Decides k e ih = absurd (true≢false (ap (λ (o : Option (Option Place)). elim (unwrap_or o None) [ None ↦ false | Some x ↦ true ]) e))
         by Told.Differs k e ih =
             let w : (t : List ℕ) × (in_range 1 64 (length t) ≡ true) × Split l t = differs l k in
             (w.0, w.1, apart w.0 w.1 w.2)
@@ -290,32 +290,32 @@ module _ (m : Matcher) (allow deny : List ℕ) (r : Request) where
   in_deny_lem u t = first (line_answer Denied Deny (rule_found m (with_user r u t))) (lines deny)
 
   -- every user gets the place that settles
-  pub settled_same : (p : Place) → settled m allow deny r ≡ some p → (u : User) (t : List ℕ) → Stated u t → gets u t ≡ p
+  pub settled_same : (p : Place) → settled m allow deny r ≡ Some p → (u : User) (t : List ℕ) → Stated u t → gets u t ≡ p
   unfolding settled text_told search
   settled_same p e u t s = by (text_told Granted Allow m r allow) refl (text_told Denied Deny m r deny) refl e
     where
-      some_same : (x y : Place) → ◌≡◌ {A = Option Place} (some x) (some y) → x ≡ y
-      some_same x y e = ap (λ (o : Option Place). get_or o x) e
+      some_same : (x y : Place) → ◌≡◌ {A = Option Place} (Some x) (Some y) → x ≡ y
+      some_same x y e = ap (λ (o : Option Place). unwrap_or o x) e
 
-      unsettled_some : ◌≡◌ {A = Option Place} none (some p) → ⊥
-      unsettled_some e = true≢false (sym (ap (λ (o : Option Place). elim o [ none ↦ false | some x ↦ true ]) e))
+      unsettled_some : ◌≡◌ {A = Option Place} None (Some p) → ⊥
+      unsettled_some e = true≢false (sym (ap (λ (o : Option Place). elim o [ None ↦ false | Some x ↦ true ]) e))
 
       by : (o : Option (Option Place)) → text_told Granted Allow m r allow ≡ o → (q : Option (Option Place)) → text_told Denied Deny m r deny ≡ q
-          → get_or (o or_else q) (some (place Granted Neither 0)) ≡ some p → place_of (get_or (in_allow_lem u t or_else in_deny_lem u t) nothing) ≡ p
-      by (some (some x)) h q k e =
-          let w : (a : Answer) × (in_allow_lem u t ≡ some a) × (place_of a ≡ x) = along_settled Granted Allow m r (lines allow) x h u t s in
+          → unwrap_or (o or_else q) (Some (place Granted Neither 0)) ≡ Some p → place_of (unwrap_or (in_allow_lem u t or_else in_deny_lem u t) nothing) ≡ p
+      by (Some (Some x)) h q k e =
+          let w : (a : Answer) × (in_allow_lem u t ≡ Some a) × (place_of a ≡ x) = along_settled Granted Allow m r (lines allow) x h u t s in
           rw w.1 (w.2 ∙ some_same x p e)
-      by (some none) h q k e = absurd (unsettled_some e)
-      by none h (some (some x)) k e =
-          let w : (a : Answer) × (in_deny_lem u t ≡ some a) × (place_of a ≡ x) = along_settled Denied Deny m r (lines deny) x k u t s in
+      by (Some None) h q k e = absurd (unsettled_some e)
+      by None h (Some (Some x)) k e =
+          let w : (a : Answer) × (in_deny_lem u t ≡ Some a) × (place_of a ≡ x) = along_settled Denied Deny m r (lines deny) x k u t s in
           rw (along_passes Granted Allow m r (lines allow) h u t s, w.1) (w.2 ∙ some_same x p e)
-      by none h (some none) k e = absurd (unsettled_some e)
-      by none h none k e =
+      by None h (Some None) k e = absurd (unsettled_some e)
+      by None h None k e =
           rw (along_passes Granted Allow m r (lines allow) h u t s, along_passes Denied Deny m r (lines deny) k u t s)
           (some_same (place Granted Neither 0) p e)
 
   -- an answer by the deny file is of that file
-  deny_file : (u : User) (t : List ℕ) → Stated u t → (a : Answer) → in_deny_lem u t ≡ some a → a.file ≡ Deny
+  deny_file : (u : User) (t : List ℕ) → Stated u t → (a : Answer) → in_deny_lem u t ≡ Some a → a.file ≡ Deny
   deny_file u t s a e = by (in_deny_lem u t) e
       (later_first Denied Deny (rule_found m (with_user r u t)) (rule_quiet m (with_user r u t) (fetched s)) 0 (lines deny) (from_one deny))
     where
@@ -326,50 +326,50 @@ module _ (m : Matcher) (allow deny : List ℕ) (r : Request) where
       from_one : (t : List ℕ) → AllFrom 1 (lines t)
       from_one t = lines_from t
 
-      by : (o : Option Answer) → o ≡ some a → Later Denied Deny 0 o → a.file ≡ Deny
-      by none e h = absurd (true≢false (sym (ap (λ (o : Option Answer). elim o [ none ↦ false | some x ↦ true ]) e)))
-      by (some b) e h = sym (ap (λ (o : Option Answer). (get_or o b).file) e) ∙ h.1
+      by : (o : Option Answer) → o ≡ Some a → Later Denied Deny 0 o → a.file ≡ Deny
+      by None e h = absurd (true≢false (sym (ap (λ (o : Option Answer). elim o [ None ↦ false | Some x ↦ true ]) e)))
+      by (Some b) e h = sym (ap (λ (o : Option Answer). (unwrap_or o b).file) e) ∙ h.1
 
   -- where none settles, an unknown user and some name get different places
-  pub unsettled : settled m allow deny r ≡ none
+  pub unsettled : settled m allow deny r ≡ None
       → (t : List ℕ) × (in_range 1 64 (length t) ≡ true) × (gets U.Unknown [] ≡ gets U.Known t → ⊥)
   unfolding settled text_told search
   unsettled e = by (text_told Granted Allow m r allow) refl (text_told Denied Deny m r deny) refl e
     where
       Other : Type 0
       Other = (t : List ℕ) × (in_range 1 64 (length t) ≡ true)
-          × (place_of (get_or (in_allow_lem U.Unknown [] or_else in_deny_lem U.Unknown []) nothing)
-          ≡ place_of (get_or (in_allow_lem U.Known t or_else in_deny_lem U.Known t) nothing) → ⊥)
+          × (place_of (unwrap_or (in_allow_lem U.Unknown [] or_else in_deny_lem U.Unknown []) nothing)
+          ≡ place_of (unwrap_or (in_allow_lem U.Known t or_else in_deny_lem U.Known t) nothing) → ⊥)
 
-      settles : {p : Place} → ◌≡◌ {A = Option Place} (some p) none → ⊥
-      settles e = true≢false (ap (λ (o : Option Place). elim o [ none ↦ false | some x ↦ true ]) e)
+      settles : {p : Place} → ◌≡◌ {A = Option Place} (Some p) None → ⊥
+      settles e = true≢false (ap (λ (o : Option Place). elim o [ None ↦ false | Some x ↦ true ]) e)
 
       -- what stands for an answer where there is none in allow: of the deny file, or of neither
-      else_file : (q : Option Answer) → ((a : Answer) → q ≡ some a → a.file ≡ Deny) → file_section (get_or q nothing).file ≡ 1 → ⊥
-      else_file none h e = absurd (omega (arith, e))
-      else_file (some a) h e = absurd (omega (arith, sym (ap file_section (h a refl)) ∙ e))
+      else_file : (q : Option Answer) → ((a : Answer) → q ≡ Some a → a.file ≡ Deny) → file_section (unwrap_or q nothing).file ≡ 1 → ⊥
+      else_file None h e = absurd (omega (arith, e))
+      else_file (Some a) h e = absurd (omega (arith, sym (ap file_section (h a refl)) ∙ e))
 
       -- the user with an answer of allow at the line n, and the one without up to there
-      allow_apart : (n : ℕ) (o o' q q' : Option Answer) → At Granted Allow n o → Later Granted Allow n o' → ((a : Answer) → q' ≡ some a → a.file ≡ Deny)
-          → place_of (get_or (o or_else q) nothing) ≡ place_of (get_or (o' or_else q') nothing) → ⊥
-      allow_apart n o o' q q' w l d e = split o' l (sym w.at_place ∙ sym (ap (λ (x : Option Answer). place_of (get_or (x or_else q) nothing)) w.is)
+      allow_apart : (n : ℕ) (o o' q q' : Option Answer) → At Granted Allow n o → Later Granted Allow n o' → ((a : Answer) → q' ≡ Some a → a.file ≡ Deny)
+          → place_of (unwrap_or (o or_else q) nothing) ≡ place_of (unwrap_or (o' or_else q') nothing) → ⊥
+      allow_apart n o o' q q' w l d e = split o' l (sym w.at_place ∙ sym (ap (λ (x : Option Answer). place_of (unwrap_or (x or_else q) nothing)) w.is)
           ∙ e)
         where
-          split : (o' : Option Answer) → Later Granted Allow n o' → place Granted Allow n ≡ place_of (get_or (o' or_else q') nothing) → ⊥
-          split none l e = else_file q' d (sym (ap (λ (p : Place). file_section p.file) e))
-          split (some b) l e = absurd (omega (arith, l.0, ap (λ (p : Place). p.line) e))
+          split : (o' : Option Answer) → Later Granted Allow n o' → place Granted Allow n ≡ place_of (unwrap_or (o' or_else q') nothing) → ⊥
+          split None l e = else_file q' d (sym (ap (λ (p : Place). file_section p.file) e))
+          split (Some b) l e = absurd (omega (arith, l.0, ap (λ (p : Place). p.line) e))
 
       deny_apart : (n : ℕ) (o o' : Option Answer) → At Denied Deny n o → Later Denied Deny n o'
-          → place_of (get_or o nothing) ≡ place_of (get_or o' nothing) → ⊥
-      deny_apart n o o' w l e = split o' l (sym w.at_place ∙ sym (ap (λ (x : Option Answer). place_of (get_or x nothing)) w.is) ∙ e)
+          → place_of (unwrap_or o nothing) ≡ place_of (unwrap_or o' nothing) → ⊥
+      deny_apart n o o' w l e = split o' l (sym w.at_place ∙ sym (ap (λ (x : Option Answer). place_of (unwrap_or x nothing)) w.is) ∙ e)
         where
-          split : (o' : Option Answer) → Later Denied Deny n o' → place Denied Deny n ≡ place_of (get_or o' nothing) → ⊥
-          split none l e = absurd (omega (arith, ap (λ (p : Place). file_section p.file) e))
-          split (some b) l e = absurd (omega (arith, l.0, ap (λ (p : Place). p.line) e))
+          split : (o' : Option Answer) → Later Denied Deny n o' → place Denied Deny n ≡ place_of (unwrap_or o' nothing) → ⊥
+          split None l e = absurd (omega (arith, ap (λ (p : Place). file_section p.file) e))
+          split (Some b) l e = absurd (omega (arith, l.0, ap (λ (p : Place). p.line) e))
 
       allow_either : (t : List ℕ) → in_range 1 64 (length t) ≡ true → Apart Granted Allow (in_allow_lem U.Unknown []) (in_allow_lem U.Known t)
-          → place_of (get_or (in_allow_lem U.Unknown [] or_else in_deny_lem U.Unknown []) nothing)
-          ≡ place_of (get_or (in_allow_lem U.Known t or_else in_deny_lem U.Known t) nothing) → ⊥
+          → place_of (unwrap_or (in_allow_lem U.Unknown [] or_else in_deny_lem U.Unknown []) nothing)
+          ≡ place_of (unwrap_or (in_allow_lem U.Known t or_else in_deny_lem U.Known t) nothing) → ⊥
       allow_either t i (first_has n w l) e =
           allow_apart n (in_allow_lem U.Unknown []) (in_allow_lem U.Known t) (in_deny_lem U.Unknown []) (in_deny_lem U.Known t) w l (deny_file U.Known t (named t i)) e
       allow_either t i (second_has n w l) e =
@@ -377,19 +377,19 @@ module _ (m : Matcher) (allow deny : List ℕ) (r : Request) where
           (sym e)
 
       deny_either : (t : List ℕ) → Apart Denied Deny (in_deny_lem U.Unknown []) (in_deny_lem U.Known t)
-          → place_of (get_or (in_deny_lem U.Unknown []) nothing) ≡ place_of (get_or (in_deny_lem U.Known t) nothing) → ⊥
+          → place_of (unwrap_or (in_deny_lem U.Unknown []) nothing) ≡ place_of (unwrap_or (in_deny_lem U.Known t) nothing) → ⊥
       deny_either t (first_has n w l) e = deny_apart n (in_deny_lem U.Unknown []) (in_deny_lem U.Known t) w l e
       deny_either t (second_has n w l) e = deny_apart n (in_deny_lem U.Known t) (in_deny_lem U.Unknown []) w l (sym e)
 
       by : (o : Option (Option Place)) → text_told Granted Allow m r allow ≡ o → (q : Option (Option Place)) → text_told Denied Deny m r deny ≡ q
-          → get_or (o or_else q) (some (place Granted Neither 0)) ≡ none → Other
-      by (some (some x)) h q k e = absurd (settles e)
-      by (some none) h q k e =
+          → unwrap_or (o or_else q) (Some (place Granted Neither 0)) ≡ None → Other
+      by (Some (Some x)) h q k e = absurd (settles e)
+      by (Some None) h q k e =
           let w : (t : List ℕ) × (in_range 1 64 (length t) ≡ true) × Apart Granted Allow (in_allow_lem U.Unknown []) (in_allow_lem U.Known t) =
           along_differs Granted Allow m r (lines allow) (lines_ascend allow) h in
           (w.0, w.1, allow_either w.0 w.1 w.2)
-      by none h (some (some x)) k e = absurd (settles e)
-      by none h (some none) k e =
+      by None h (Some (Some x)) k e = absurd (settles e)
+      by None h (Some None) k e =
           let w : (t : List ℕ) × (in_range 1 64 (length t) ≡ true) × Apart Denied Deny (in_deny_lem U.Unknown []) (in_deny_lem U.Known t) =
           along_differs Denied Deny m r (lines deny) (lines_ascend deny) k in (
             w.0,
@@ -399,4 +399,4 @@ module _ (m : Matcher) (allow deny : List ℕ) (r : Request) where
               along_passes Granted Allow m r (lines allow) h U.Known w.0 (named w.0 w.1),
             ) (deny_either w.0 w.2),
           )
-      by none h none k e = absurd (settles e)
+      by None h None k e = absurd (settles e)

@@ -3,10 +3,10 @@
 --   few_tables    == sound texts have at most 64 tables
 --   quiet_settled == where the verdict does not ask, its place settles
 -- Assumes nothing.
+use Rattle.std.specs.Prelude.{None, Option, Result, Some, unwrap_or}
 use Prim.Native.Nat.{ℕ, ◌≤◌}
 use mathlib.Core.Bool.{Bool, true, false, not, ◌&&◌, ◌||◌, true≢false}
 use mathlib.Core.List.{List, [], ◌∷◌}
-use mathlib.Core.Option.{Option, none, some, get_or}
 use mathlib.Core.Path.{◌≡◌, refl, sym, ap, ap₂, fun_ext, subst, ◌∙◌}
 use borrow.Author.Tests.{ltb-false}
 use lib.Dec.{ltb}
@@ -52,7 +52,6 @@ use Rattle.rules.proofs.FileLaws.{kind_lowest}
 use Rattle.rules.proofs.NamingLaws.{or_else_nones}
 use Rattle.rules.proofs.SearchLaws.{view_found_lem, client_at}
 use Rattle.matters.specs.declared.Place.{Place}
-use Rattle.matters.specs.declared.Matter.{Matter}
 use Rattle.matters.specs.declared.Told.{Told}
 use Rattle.matters.specs.declared.Told.TheVariants as Told
 use Rattle.matters.specs.Matters.{place, place_of, same_found, fresh_name, name_finds, asks_at, half_holds, asker_holds, told_by, asked_told, found_told, rule_told}
@@ -125,29 +124,29 @@ module _ (v : View) (m : Matcher) (r : Request) (server : (n : List ℕ) → v.s
       by Found.Ask e q = absurd q
 
   parsed_same : (o : Option Rule) → parsed_told m r o ≡ parsed_by finds o
-  parsed_same none = refl
-  parsed_same (some x) = rule_same x
+  parsed_same None = refl
+  parsed_same (Some x) = rule_same x
 
   -- ## A sound text
 
   module _ (s : Section) (ver : Verdict) (f : File) where
-    line_same : (l : Line) → at_place s.order l.number (line_fault l) ≡ none → kind_told finds l ≡ line_told m r l
+    line_same : (l : Line) → at_place s.order l.number (line_fault l) ≡ None → kind_told finds l ≡ line_told m r l
     unfolding kind_told line_told line_kind line_fault_by
     line_same l e = by (layout_fault l) (is_comment l || is_blank l)
-        (ap (λ (o : Option Fault). o or_else (when is_comment l || is_blank l then none else rule_fault (parse_rule l.raw))) (sym (kind_lowest l))
+        (ap (λ (o : Option Fault). o or_else (when is_comment l || is_blank l then None else rule_fault (parse_rule l.raw))) (sym (kind_lowest l))
         ∙ sound (line_fault l) e)
       where
-        sound : (o : Option Fault) → at_place s.order l.number o ≡ none → o ≡ none
-        sound none e = refl
-        sound (some g) e = absurd (true≢false (ap (λ (o : Option Refusal). elim o [ none ↦ false | some x ↦ true ]) e))
+        sound : (o : Option Fault) → at_place s.order l.number o ≡ None → o ≡ None
+        sound None e = refl
+        sound (Some g) e = absurd (true≢false (ap (λ (o : Option Refusal). elim o [ None ↦ false | Some x ↦ true ]) e))
 
-        by : (g : Option Fault) (b : Bool) → (g or_else (when b then none else rule_fault (parse_rule l.raw))) ≡ none
+        by : (g : Option Fault) (b : Bool) → (g or_else (when b then None else rule_fault (parse_rule l.raw))) ≡ None
             → kind_told_as (kind_as g b) (parsed_by finds (parse_rule l.raw)) ≡ (when b then Told.Passes else parsed_told m r (parse_rule l.raw))
-        by none true h = refl
-        by none false h = sym (parsed_same (parse_rule l.raw))
-        by (some g) b h = absurd (true≢false (sym (ap (λ (o : Option Fault). elim o [ none ↦ true | some x ↦ false ]) h)))
+        by None true h = refl
+        by None false h = sym (parsed_same (parse_rule l.raw))
+        by (Some g) b h = absurd (true≢false (sym (ap (λ (o : Option Fault). elim o [ None ↦ true | Some x ↦ false ]) h)))
 
-    lines_same : (ls : List Line) → first (λ l. at_place s.order l.number (line_fault l)) ls ≡ none
+    lines_same : (ls : List Line) → first (λ l. at_place s.order l.number (line_fault l)) ls ≡ None
         → first (λ l. told_at ver f l.number (kind_told finds l)) ls ≡ first (λ l. told_at ver f l.number (line_told m r l)) ls
     unfolding first
     lines_same [] e = refl
@@ -155,28 +154,28 @@ module _ (v : View) (m : Matcher) (r : Request) (server : (n : List ℕ) → v.s
         let k = or_else_nones (at_place s.order l.number (line_fault l)) (first (λ l. at_place s.order l.number (line_fault l)) ls) e in
         ap₂ ◌or_else◌ (ap (told_at ver f l.number) (line_same l k.0)) (lines_same ls k.1)
 
-    text_same : (t : List ℕ) → hosts_fault s t ≡ none → text_told_by ver f finds t ≡ text_told ver f m r t
+    text_same : (t : List ℕ) → hosts_fault s t ≡ None → text_told_by ver f finds t ≡ text_told ver f m r t
     unfolding text_told_by text_told hosts_fault
     text_same t e = lines_same (lines t) e
 
-  both_same : (allow deny : List ℕ) → hosts_fault S.allow allow ≡ none → hosts_fault S.deny deny ≡ none → settled_by finds allow deny ≡ settled m allow deny r
+  both_same : (allow deny : List ℕ) → hosts_fault S.allow allow ≡ None → hosts_fault S.deny deny ≡ None → settled_by finds allow deny ≡ settled m allow deny r
   unfolding settled_by settled
   both_same allow deny a d =
-      ap₂ (λ (x y : Option (Option Place)). get_or (x or_else y) (some (place Granted Neither 0)))
+      ap₂ (λ (x y : Option (Option Place)). unwrap_or (x or_else y) (Some (place Granted Neither 0)))
       (text_same S.allow Granted Allow allow a) (text_same S.deny Denied Deny deny d)
 
 -- ## Sound texts
 
-module _ (allow deny t : List ℕ) (sound : contents_fault allow deny t ≡ none) where
-  parted : (lines_fault allow deny ≡ none) × (tables_fault allow deny t ≡ none)
+module _ (allow deny t : List ℕ) (sound : contents_fault allow deny t ≡ None) where
+  parted : (lines_fault allow deny ≡ None) × (tables_fault allow deny t ≡ None)
   unfolding contents_fault
   parted = or_else_nones (lines_fault allow deny) (tables_fault allow deny t) sound
 
-  files : (hosts_fault S.allow allow ≡ none) × (hosts_fault S.deny deny ≡ none)
+  files : (hosts_fault S.allow allow ≡ None) × (hosts_fault S.deny deny ≡ None)
   unfolding lines_fault
   files = or_else_nones (hosts_fault S.allow allow) (hosts_fault S.deny deny) parted.0
 
-  bad_none : bad_table_fault t ≡ none
+  bad_none : bad_table_fault t ≡ None
   unfolding tables_fault
   bad_none = (or_else_nones
       (missing_fault (tables_of t) S.allow allow or_else missing_fault (tables_of t) S.deny deny or_else table_name_fault (tables_of t)
@@ -188,10 +187,10 @@ module _ (allow deny t : List ℕ) (sound : contents_fault allow deny t ≡ none
   few_tables whole = rw whole (ltb-false 64 (length (tables_of t)) (by (ltb 64 (length (tables_of t))) refl bad_none))
     where
       by : (b : Bool) → ltb 64 (length (tables_of t)) ≡ b
-          → ((given (b || ltb 12288 (length t)) 0 or_else first_table (λ before x. is_unsound x) 1 [] (tables_of t)) >>= λ n. some (refusal F.BadTable 5 n)) ≡ none
+          → ((given (b || ltb 12288 (length t)) 0 or_else first_table (λ before x. is_unsound x) 1 [] (tables_of t)) >>= λ n. Some (refusal F.BadTable 5 n)) ≡ None
           → b ≡ false
       by false e h = refl
-      by true e h = absurd (true≢false (ap (λ (o : Option Refusal). elim o [ none ↦ false | some x ↦ true ]) h))
+      by true e h = absurd (true≢false (ap (λ (o : Option Refusal). elim o [ None ↦ false | Some x ↦ true ]) h))
 
   settled_noted : tables_in t ≡ tables_of t → (r : Request) (notes : List ℕ) → Noted t r notes
       → settled_by (finder_by (view_of t notes) r) allow deny ≡ settled (match_of (tables_of t)) allow deny r
@@ -203,20 +202,20 @@ module _ (allow deny t : List ℕ) (sound : contents_fault allow deny t ≡ none
       allow deny files.0 files.1
 
   pub settle_is : tables_in t ≡ tables_of t → (r : Request) (notes : List ℕ) → Noted t r notes
-      → (x : Matter) → x ≡ matter_by (settled_by (finder_by (view_of t notes) r) allow deny) → x ≡ matter_by (settled (match_of (tables_of t)) allow deny r)
+      → (x : Result (Option Place) Refusal) → x ≡ matter_by (settled_by (finder_by (view_of t notes) r) allow deny) → x ≡ matter_by (settled (match_of (tables_of t)) allow deny r)
   settle_is whole r notes h x is_x = is_x ∙ ap matter_by (settled_noted whole r notes h)
 
 -- ## A verdict that does not ask
 
 pub quiet_settled : (m : Matcher) (allow deny : List ℕ) (r : Request) (t : List ℕ) → QuietVerdict (search m allow deny (with_user r U.NotFetched t)).verdict
-    → settled m allow deny r ≡ some (place_of (search m allow deny (with_user r U.NotFetched t)))
+    → settled m allow deny r ≡ Some (place_of (search m allow deny (with_user r U.NotFetched t)))
 quiet_settled m allow deny r t q = by (settled m allow deny r) refl
   where
     gets : (u : User) (n : List ℕ) → place_of (search m allow deny (with_user r u n)) ≡ place_of (search m allow deny (with_user r U.NotFetched t))
     gets u n = ap place_of (search_same m r t u n allow deny q)
 
-    by : (o : Option Place) → settled m allow deny r ≡ o → o ≡ some (place_of (search m allow deny (with_user r U.NotFetched t)))
-    by (some p) e = ap some (sym (settled_same m allow deny r p e U.Unknown [] (unknown [])) ∙ gets U.Unknown [])
-    by none e =
+    by : (o : Option Place) → settled m allow deny r ≡ o → o ≡ Some (place_of (search m allow deny (with_user r U.NotFetched t)))
+    by (Some p) e = ap Some (sym (settled_same m allow deny r p e U.Unknown [] (unknown [])) ∙ gets U.Unknown [])
+    by None e =
         let w = unsettled m allow deny r e in
         absurd (w.2 (gets U.Unknown [] ∙ sym (gets U.Known w.0)))

@@ -1,9 +1,9 @@
 -- What the functions of tell rest on, one law for each arm.
 -- Assumes nothing.
+use Rattle.std.specs.Prelude.{None, Ok, Option, Result, Some, unwrap_or}
 use Prim.Native.Nat.{ℕ, ◌+◌, ◌-◌, ◌≤◌, ◌<◌}
 use mathlib.Core.Bool.{Bool, true, false, not, ◌&&◌, ◌||◌, true≢false}
 use mathlib.Core.List.{List, [], ◌∷◌, ◌++◌}
-use mathlib.Core.Option.{Option, none, some, get_or}
 use mathlib.Core.Path.{◌≡◌, refl, sym, ap, ap₂, ◌∙◌}
 use borrow.Author.Tests.{eqb-true, ltb-true, ltb-false, eqb-false, le-leb, lt-leb}
 use native.Mathlib.Omega.{arith}
@@ -47,8 +47,6 @@ use Rattle.matters.specs.declared.Told.{Told}
 use Rattle.matters.specs.declared.Told.TheVariants as Told
 use Rattle.matters.specs.declared.Telling.{Telling}
 use Rattle.matters.specs.declared.Telling.TheVariants as T
-use Rattle.matters.specs.declared.Matter.{Matter}
-use Rattle.matters.specs.declared.Matter.TheVariants as M
 use Rattle.matters.specs.Matters.{place, same_found, fresh_name, told_of, told_by, told_at, matter_by}
 use Rattle.matters.specs.Code.{Finder, finder_by, name_agrees, half_agrees, asked_list, list_told_on, list_told, clients_told, parsed_by, kind_told, text_told_by}
 use Rattle.matters.specs.Code.{telling_of, settled_by, ended_by}
@@ -218,17 +216,17 @@ module _ (v : View) (names : List ℕ) (q : Places) (t : List ℕ) (joined : NoN
 
 -- a rule read from a line, and from the joined line
 told_rest : (F : Finder) (d t : List ℕ) (o : Option (List ℕ × List ℕ)) → NoNewline (join d) → NoNewline (join t) → AllParts is_no_newline (join_parts o)
-    → parsed_by F (some (rule_by (join d, join t) (join_parts o))) ≡ parsed_by F (some (rule_by (d, t) o))
-told_rest F d t none h k l = rw (elements_join d h, elements_join t k)
-told_rest F d t (some q) h k l = rw (elements_join d h, elements_join q.0 l.0)
+    → parsed_by F (Some (rule_by (join d, join t) (join_parts o))) ≡ parsed_by F (Some (rule_by (d, t) o))
+told_rest F d t None h k l = rw (elements_join d h, elements_join t k)
+told_rest F d t (Some q) h k l = rw (elements_join d h, elements_join q.0 l.0)
 
 told_parts : (F : Finder) (s : List ℕ) (o : Option (List ℕ × List ℕ)) → split_separator false s ≡ o → AllParts is_no_newline (join_parts o)
     → parsed_by F (parse_rule (join s)) ≡ parsed_by F (parse_rule s)
 unfolding parse_rule
-told_parts F s none e h = rw (split_separator_join false s, e)
-told_parts F s (some p) e h =
+told_parts F s None e h = rw (split_separator_join false s, e)
+told_parts F s (Some p) e h =
     rw (split_separator_join false s, e)
-    (ap (λ (o : Option (List ℕ × List ℕ)). parsed_by F (some (rule_by (join p.0, join p.1) o))) (split_separator_join false p.1)
+    (ap (λ (o : Option (List ℕ × List ℕ)). parsed_by F (Some (rule_by (join p.0, join p.1) o))) (split_separator_join false p.1)
     ∙ told_rest F p.0 p.1 (split_separator false p.1) h.0 h.1 (joined_all p.1 h.1))
 
 told_join : (F : Finder) (s : List ℕ) → NoNewline (join s) → parsed_by F (parse_rule (join s)) ≡ parsed_by F (parse_rule s)
@@ -317,47 +315,47 @@ module _ (v : Verdict) (f : File) (F : Finder) where
 -- ## Both files
 
 module _ (F : Finder) (allow deny : List ℕ) (a : Telling) (is-a : a ≡ telling_of (text_told_by Granted Allow F allow)) where
-  told_some : (o : Option (Option Place)) → (p : Place) → T.Settled p ≡ telling_of o → some (some p) ≡ o
-  told_some none p e = absurd (true≢false (ap (λ (t : Telling). elim t [ T.Nothing ↦ false | T.Settled x ↦ true | T.Matters ↦ false ]) e))
-  told_some (some none) p e = absurd (true≢false (ap (λ (t : Telling). elim t [ T.Nothing ↦ false | T.Settled x ↦ true | T.Matters ↦ false ]) e))
-  told_some (some (some q)) p e =
-      ap (λ (t : Telling). some (some (elim t [ T.Nothing ↦ p | T.Settled x ↦ x | T.Matters ↦ p ]))) e
+  told_some : (o : Option (Option Place)) → (p : Place) → T.Settled p ≡ telling_of o → Some (Some p) ≡ o
+  told_some None p e = absurd (true≢false (ap (λ (t : Telling). elim t [ T.Nothing ↦ false | T.Settled x ↦ true | T.Matters ↦ false ]) e))
+  told_some (Some None) p e = absurd (true≢false (ap (λ (t : Telling). elim t [ T.Nothing ↦ false | T.Settled x ↦ true | T.Matters ↦ false ]) e))
+  told_some (Some (Some q)) p e =
+      ap (λ (t : Telling). Some (Some (elim t [ T.Nothing ↦ p | T.Settled x ↦ x | T.Matters ↦ p ]))) e
 
-  told_none : (o : Option (Option Place)) → T.Matters ≡ telling_of o → some none ≡ o
-  told_none none e = absurd (true≢false (ap (λ (t : Telling). elim t [ T.Nothing ↦ false | T.Settled x ↦ false | T.Matters ↦ true ]) e))
-  told_none (some none) e = refl
-  told_none (some (some q)) e = absurd (true≢false (ap (λ (t : Telling). elim t [ T.Nothing ↦ false | T.Settled x ↦ false | T.Matters ↦ true ]) e))
+  told_none : (o : Option (Option Place)) → T.Matters ≡ telling_of o → Some None ≡ o
+  told_none None e = absurd (true≢false (ap (λ (t : Telling). elim t [ T.Nothing ↦ false | T.Settled x ↦ false | T.Matters ↦ true ]) e))
+  told_none (Some None) e = refl
+  told_none (Some (Some q)) e = absurd (true≢false (ap (λ (t : Telling). elim t [ T.Nothing ↦ false | T.Settled x ↦ false | T.Matters ↦ true ]) e))
 
-  told_nothing : (o : Option (Option Place)) → T.Nothing ≡ telling_of o → none ≡ o
-  told_nothing none e = refl
-  told_nothing (some none) e = absurd (true≢false (ap (λ (t : Telling). elim t [ T.Nothing ↦ true | T.Settled x ↦ false | T.Matters ↦ false ]) e))
-  told_nothing (some (some q)) e = absurd (true≢false (ap (λ (t : Telling). elim t [ T.Nothing ↦ true | T.Settled x ↦ false | T.Matters ↦ false ]) e))
+  told_nothing : (o : Option (Option Place)) → T.Nothing ≡ telling_of o → None ≡ o
+  told_nothing None e = refl
+  told_nothing (Some None) e = absurd (true≢false (ap (λ (t : Telling). elim t [ T.Nothing ↦ true | T.Settled x ↦ false | T.Matters ↦ false ]) e))
+  told_nothing (Some (Some q)) e = absurd (true≢false (ap (λ (t : Telling). elim t [ T.Nothing ↦ true | T.Settled x ↦ false | T.Matters ↦ false ]) e))
 
-  pub both_settled : (p : Place) → a ≡ T.Settled p → M.Settled p ≡ matter_by (settled_by F allow deny)
+  pub both_settled : (p : Place) → a ≡ T.Settled p → Ok (Some p) ≡ matter_by (settled_by F allow deny)
   unfolding settled_by
   both_settled p e = rw (← told_some (text_told_by Granted Allow F allow) p (sym e ∙ is-a))
 
-  pub both_matters : a ≡ T.Matters → M.Matters ≡ matter_by (settled_by F allow deny)
+  pub both_matters : a ≡ T.Matters → Ok None ≡ matter_by (settled_by F allow deny)
   unfolding settled_by
   both_matters e = rw (← told_none (text_told_by Granted Allow F allow) (sym e ∙ is-a))
 
-  pub both_ended : a ≡ T.Nothing → (b : Telling) → b ≡ telling_of (text_told_by Denied Deny F deny) → (r : Matter) → r ≡ ended_by b
+  pub both_ended : a ≡ T.Nothing → (b : Telling) → b ≡ telling_of (text_told_by Denied Deny F deny) → (r : Result (Option Place) Refusal) → r ≡ ended_by b
       → r ≡ matter_by (settled_by F allow deny)
   unfolding settled_by
   both_ended e b is_b r is-r =
       is-r ∙ ap ended_by is_b ∙ rw (← told_nothing (text_told_by Granted Allow F allow) (sym e ∙ is-a)) (ended (text_told_by Denied Deny F deny))
     where
-      ended : (o : Option (Option Place)) → ended_by (telling_of o) ≡ matter_by (get_or o (some (place Granted Neither 0)))
-      ended none = refl
-      ended (some none) = refl
-      ended (some (some p)) = refl
+      ended : (o : Option (Option Place)) → ended_by (telling_of o) ≡ matter_by (unwrap_or o (Some (place Granted Neither 0)))
+      ended None = refl
+      ended (Some None) = refl
+      ended (Some (Some p)) = refl
 
 module _ (t : Telling) where
-  pub ended_nothing : t ≡ T.Nothing → M.Settled (place Granted Neither 0) ≡ ended_by t
+  pub ended_nothing : t ≡ T.Nothing → Ok (Some (place Granted Neither 0)) ≡ ended_by t
   ended_nothing e = rw e
 
-  pub ended_settled : (p : Place) → t ≡ T.Settled p → M.Settled p ≡ ended_by t
+  pub ended_settled : (p : Place) → t ≡ T.Settled p → Ok (Some p) ≡ ended_by t
   ended_settled p e = rw e
 
-  pub ended_matters : t ≡ T.Matters → M.Matters ≡ ended_by t
+  pub ended_matters : t ≡ T.Matters → Ok None ≡ ended_by t
   ended_matters e = rw e

@@ -11,9 +11,7 @@
 --   asked_half F e     == the half before the `@` of an element that asks, empty where there is none
 --   was_tried s ps n h == h is empty, or equal to one of n halves of s whose places are noted in ps
 -- Assumes nothing: these are definitions.
-use Rattle.std.specs.Prelude.{ℕ, zero, suc, ◌+◌, ◌*◌, ◌/◌, ◌%◌, Bool, true, false, not, ◌&&◌, ◌||◌, List, [], ◌≡◌, eqb, ltb, length, get_or, set}
-use Rattle.std.proofs.Math.Option
-use Rattle.std.proofs.Math.Option.{Option, none, some}
+use Rattle.std.specs.Prelude.{ℕ, zero, suc, ◌+◌, ◌*◌, ◌/◌, ◌%◌, Bool, true, false, not, ◌&&◌, ◌||◌, List, [], ◌≡◌, eqb, ltb, length, get_or, set, Err, None, Ok, Option, Result, Some, unwrap_or}
 use Rattle.text.specs.Basics.{when◌then◌else◌, ◌or_else◌, all, first}
 use Rattle.text.specs.Text.{in_range, equal_fold}
 use Rattle.section.specs.declared.Fault.TheVariants as F
@@ -38,8 +36,6 @@ use Rattle.rules.specs.declared.Verdict.{Verdict}
 use Rattle.rules.specs.declared.Verdict.TheVariants.{Granted, Denied}
 use Rattle.rules.specs.declared.File.{File}
 use Rattle.rules.specs.declared.File.TheVariants.{Neither, Allow, Deny}
-use Rattle.rules.specs.declared.Ruling.{Ruling}
-use Rattle.rules.specs.declared.Ruling.TheVariants as R
 use Rattle.rules.specs.declared.hosts_file.LineKind.{LineKind}
 use Rattle.rules.specs.declared.hosts_file.LineKind.TheVariants as Kind
 use Rattle.rules.specs.Search.{search}
@@ -47,10 +43,6 @@ use Rattle.rules.specs.FileCode.{line_kind}
 use Rattle.matters.specs.declared.Place.{Place}
 use Rattle.matters.specs.declared.Told.{Told}
 use Rattle.matters.specs.declared.Told.TheVariants as Told
-use Rattle.matters.specs.declared.Tried.{Tried}
-use Rattle.matters.specs.declared.Tried.TheVariants as Tried
-use Rattle.matters.specs.declared.Matter.{Matter}
-use Rattle.matters.specs.declared.Matter.TheVariants as M
 use Rattle.matters.specs.declared.Telling.{Telling}
 use Rattle.matters.specs.declared.Telling.TheVariants as T
 use Rattle.matters.specs.Matters.{place, place_of, same_found, fresh_name, half_holds, told_by, told_at}
@@ -94,8 +86,8 @@ list_told F ws = list_told_on F ws (F.clients U.NotFetched [] ws)
 -- ## Halves that were tried
 
 abbrev pub half_of : Option (List ℕ × List ℕ) → List ℕ
-half_of none = []
-half_of (some p) = p.0
+half_of None = []
+half_of (Some p) = p.0
 
 unfoldable pub asked_half : Finder → List ℕ → List ℕ
 asked_half F e = when F.asks e then half_of (halves e) else []
@@ -126,10 +118,10 @@ abbrev pub noted_count : List ℕ → ℕ → ℕ → ℕ → ℕ
 noted_count ps n i m = when noted_room ps n i m then n + 1 else n
 
 -- what the half h of s finds, which stands from i on, and the places noted then
-unfoldable pub tried_by : Finder → Found → List ℕ → List ℕ → ℕ → ℕ → List ℕ → Tried
+unfoldable pub tried_by : Finder → Found → List ℕ → List ℕ → ℕ → ℕ → List ℕ → Option ℕ
 tried_by F f s ps n i h =
-    when was_tried s ps n h then Tried.Agrees n
-    else when name_agrees F (words s) f h then Tried.Agrees (noted_count ps n i (length h)) else Tried.Differs
+    when was_tried s ps n h then Some n
+    else when name_agrees F (words s) f h then Some (noted_count ps n i (length h)) else None
 
 unfoldable pub places_by : Finder → Found → List ℕ → List ℕ → ℕ → ℕ → List ℕ → List ℕ
 places_by F f s ps n i h = when not (was_tried s ps n h) && name_agrees F (words s) f h then noted_places ps n i (length h) else ps
@@ -143,8 +135,8 @@ clients_told F Found.Yes ws = list_told F ws
 clients_told F Found.Ask ws = Told.Passes
 
 abbrev pub parsed_by : Finder → Option Rule → Told
-parsed_by F none = Told.Passes
-parsed_by F (some x) = clients_told F (F.daemons x.daemons) x.clients
+parsed_by F None = Told.Passes
+parsed_by F (Some x) = clients_told F (F.daemons x.daemons) x.clients
 
 abbrev pub kind_told_as : LineKind → Told → Told
 kind_told_as (Kind.Faulty f) k = Told.Passes
@@ -158,17 +150,17 @@ unfoldable pub text_told_by : Verdict → File → Finder → List ℕ → Optio
 text_told_by v f F t = first (λ l. told_at v f l.number (kind_told F l)) (lines t)
 
 unfoldable pub settled_by : Finder → List ℕ → List ℕ → Option Place
-settled_by F allow deny = Option.get_or (text_told_by Granted Allow F allow or_else text_told_by Denied Deny F deny) (some (place Granted Neither 0))
+settled_by F allow deny = unwrap_or (text_told_by Granted Allow F allow or_else text_told_by Denied Deny F deny) (Some (place Granted Neither 0))
 
 abbrev pub telling_of : Option (Option Place) → Telling
-telling_of none = T.Nothing
-telling_of (some none) = T.Matters
-telling_of (some (some p)) = T.Settled p
+telling_of None = T.Nothing
+telling_of (Some None) = T.Matters
+telling_of (Some (Some p)) = T.Settled p
 
-abbrev pub ended_by : Telling → Matter
-ended_by T.Nothing = M.Settled (place Granted Neither 0)
-ended_by (T.Settled p) = M.Settled p
-ended_by T.Matters = M.Matters
+abbrev pub ended_by : Telling → Result (Option Place) Refusal
+ended_by T.Nothing = Ok (Some (place Granted Neither 0))
+ended_by (T.Settled p) = Ok (Some p)
+ended_by T.Matters = Ok None
 
 -- ## The calls
 
@@ -189,6 +181,6 @@ unfetched r = with_user r U.NotFetched r.user_name
 unfoldable pub Unasked : Matcher → List ℕ → List ℕ → Request → Place → Type 0
 Unasked m allow deny r p = place_of (search m allow deny (unfetched r)) ≡ p
 
-abbrev pub refused_by : Ruling → Matter
-refused_by (R.Refused f) = M.Refused f
-refused_by (R.Answered a) = M.Refused (placeless F.BadRequest)
+abbrev pub refused_by : Result Answer Refusal → Result (Option Place) Refusal
+refused_by (Err f) = Err f
+refused_by (Ok a) = Err (placeless F.BadRequest)

@@ -9,11 +9,10 @@
 -- does, a half that is a name matches a user by equality alone: so every user finds what one of these does, unknown, a name that no half
 -- can be, or one of the rule's own halves whose host matches.
 -- Assumes nothing: these are definitions.
-use Rattle.std.specs.Prelude.{ℕ, Bool, true, false, not, ◌&&◌, ◌||◌, List, [], length}
-use Rattle.std.proofs.Math.Option.{Option, none, some, get_or}
+use Rattle.std.specs.Prelude.{ℕ, Bool, true, false, not, ◌&&◌, ◌||◌, List, [], length, Err, None, Ok, Option, Result, Some, unwrap_or}
 use Rattle.text.specs.Basics.{when◌then◌else◌, ◌or_else◌, all, first}
 use Rattle.text.specs.Text.{bytes, in_range}
-use Rattle.section.specs.Refusal.{Outcome, refused, answered, ◌>>=◌, fitting}
+use Rattle.section.specs.Refusal.{Outcome, ◌>>=◌, fitting}
 use Rattle.section.specs.Section.{bytes_at}
 use Rattle.lines.specs.Line.{Line, lines, is_comment, is_blank}
 use Rattle.lines.specs.Rule.{Rule, parse_rule}
@@ -36,8 +35,6 @@ use Rattle.station.specs.Station.{decide_sheet}
 use Rattle.matters.specs.declared.Place.{Place}
 use Rattle.matters.specs.declared.Told.{Told}
 use Rattle.matters.specs.declared.Told.TheVariants as Told
-use Rattle.matters.specs.declared.Matter.{Matter}
-use Rattle.matters.specs.declared.Matter.TheVariants as M
 
 -- "verdict, file or line"
 abbrev pub place : Verdict → File → ℕ → Place
@@ -67,8 +64,8 @@ asks_at m r e = same_found Found.Ask (look_at (with_user r U.NotFetched []) (cli
 
 -- q holds of the half before the `@` of an element that asks
 abbrev pub half_holds : (List ℕ → Bool) → Option (List ℕ × List ℕ) → Bool
-half_holds q none = true
-half_holds q (some p) = q p.0
+half_holds q None = true
+half_holds q (Some p) = q p.0
 
 unfoldable pub asker_holds : Matcher → Request → (List ℕ → Bool) → List ℕ → Bool
 asker_holds m r q e = not (asks_at m r e) || half_holds q (halves e)
@@ -97,30 +94,30 @@ rule_told m r x = found_told m r x (rule_found m (with_user r U.NotFetched []) x
 -- ## Both files
 
 abbrev pub parsed_told : Matcher → Request → Option Rule → Told
-parsed_told m r none = Told.Passes
-parsed_told m r (some x) = rule_told m r x
+parsed_told m r None = Told.Passes
+parsed_told m r (Some x) = rule_told m r x
 
 unfoldable pub line_told : Matcher → Request → Line → Told
 line_told m r l = when is_comment l || is_blank l then Told.Passes else parsed_told m r (parse_rule l.raw)
 
 -- the place that settles, none where two users get different ones; nothing where the line passes all users on
 abbrev pub told_at : Verdict → File → ℕ → Told → Option (Option Place)
-told_at v f n Told.Passes = none
-told_at v f n Told.Decides = some (some (place v f n))
-told_at v f n Told.Differs = some none
+told_at v f n Told.Passes = None
+told_at v f n Told.Decides = Some (Some (place v f n))
+told_at v f n Told.Differs = Some None
 
 unfoldable pub text_told : Verdict → File → Matcher → Request → List ℕ → Option (Option Place)
 text_told v f m r t = first (λ l. told_at v f l.number (line_told m r l)) (lines t)
 
 unfoldable pub settled : Matcher → List ℕ → List ℕ → Request → Option Place
 settled m allow deny r =
-    get_or (text_told Granted Allow m r allow or_else text_told Denied Deny m r deny) (some (place Granted Neither 0))
+    unwrap_or (text_told Granted Allow m r allow or_else text_told Denied Deny m r deny) (Some (place Granted Neither 0))
 
 -- ## The calls
 
 -- the answer to the request in o by sound texts, over the tables ts; request 7: "Every verdict .. makes this change first"
 abbrev pub matters_over : List Table → List ℕ → List ℕ → Option Request → Outcome (Option Place)
-matters_over ts allow deny o = fitting well_formed o (λ r. answered (settled (match_of ts) allow deny (held r)))
+matters_over ts allow deny o = fitting well_formed o (λ r. Ok (settled (match_of ts) allow deny (held r)))
 
 -- "Refusals: as for the verdict.": by two texts, and over the tables of a section five
 unfoldable pub name_matters : List ℕ → List ℕ → Option Request → Outcome (Option Place)
@@ -137,10 +134,10 @@ name_matters_sheet sheet o = do
   matters_over (tables_of (bytes_at sheet p.tables)) (bytes_at sheet p.allow) (bytes_at sheet p.deny) o
 
 -- the outcome as the calls answer it
-abbrev pub matter_by : Option Place → Matter
-matter_by none = M.Matters
-matter_by (some p) = M.Settled p
+abbrev pub matter_by : Option Place → Result (Option Place) Refusal
+matter_by None = Ok None
+matter_by (Some p) = Ok (Some p)
 
-abbrev pub matter_of : Outcome (Option Place) → Matter
-matter_of (refused f) = M.Refused f
-matter_of (answered p) = matter_by p
+abbrev pub matter_of : Outcome (Option Place) → Result (Option Place) Refusal
+matter_of (Err f) = Err f
+matter_of (Ok p) = matter_by p

@@ -4,9 +4,7 @@
 // The verdict for a user not fetched tells of all users where it does not ask; only where it asks are the rules gone over again.
 #![tactic(auto)]
 
-ghost use Rattle.std.proofs.Math.Option.{none, some};
 ghost use Rattle.std.specs.Prelude.{true, ◌≡◌};
-ghost use Rattle.section.specs.Refusal.{answered};
 ghost use Rattle.tables.specs.Table.{tables_of, match_of};
 ghost use Rattle.tables.specs.Code.{tables_in};
 ghost use Rattle.elements.specs.Request.{well_formed, held as heldRequest};
@@ -21,10 +19,13 @@ pub mod tell;
 
 use elements::User;
 use elements::request::{Request, fits, held};
-use rules::{Answer, File, Ruling, Verdict, decide, decide_tables};
+use rules::Answer;
+use rules::File;
+use rules::Verdict;
+use rules::decide;
+use rules::decide_tables;
 use section::{Fault, Refusal, part_of};
 use sheet::Parts;
-use sheet::frame::Framed;
 use tell::settle;
 
 // Verdict, file and line of an answer.
@@ -43,27 +44,12 @@ pub enum Told {
     Differs,
 }
 
-// What a half of a list finds: something else than it should, or that; then, how many halves are noted.
-#[derive(Clone, Copy)]
-pub enum Tried {
-    Differs,
-    Agrees(usize),
-}
-
 // What a text tells: nothing, where it passes all users on; the place that all get; or that two get different ones.
 #[derive(Clone, Copy)]
 pub enum Telling {
     Nothing,
     Settled(Place),
     Matters,
-}
-
-// Whether the name matters; where it does not, the place that all users get.
-#[derive(Clone, Copy)]
-pub enum Matter {
-    Refused(Refusal),
-    Matters,
-    Settled(Place),
 }
 
 // The request with its user not fetched.
@@ -88,12 +74,12 @@ fn unfetched(request: Request) -> Request
 }
 
 // The refusal of a request that does not fit.
-fn refuse(ruling: Ruling) -> Matter
+fn refuse(ruling: Result<Answer, Refusal>) -> Result<Option<Place>, Refusal>
     ensures { result ≡ refused_by ruling }
 {
     match ruling {
-        Ruling::Refused(refusal) => Matter::Refused(refusal),
-        Ruling::Answered(_) => Matter::Refused(section::placeless(Fault::BadRequest)),
+        Err(refusal) => Err(refusal),
+        Ok(_) => Err(section::placeless(Fault::BadRequest)),
     }
 }
 
@@ -105,9 +91,9 @@ fn settle_by(
     tables: &[u8],
     names: &[u8],
     request: Request,
-) -> Matter
+) -> Result<Option<Place>, Refusal>
     requires tables_value { tables_in tables.now ≡ tables_of tables.now }
-    requires tables_value_2 { contents_fault allow.now deny.now tables.now ≡ none }
+    requires tables_value_2 { contents_fault allow.now deny.now tables.now ≡ None }
     requires unasked { Unasked (match_of (tables_of tables.now)) allow.now deny.now (heldRequest (request_at names.now request)) (place_of answer) }
     ensures { result
         ≡ matter_by
@@ -117,23 +103,23 @@ fn settle_by(
     let file = answer.file;
     match verdict {
         Verdict::Ask => settle(allow, deny, tables, names, held(request)),
-        Verdict::Granted => Matter::Settled(Place {
+        Verdict::Granted => Ok(Some(Place {
             verdict,
             file,
             line: answer.line,
-        }),
-        Verdict::Denied => Matter::Settled(Place {
+        })),
+        Verdict::Denied => Ok(Some(Place {
             verdict,
             file,
             line: answer.line,
-        }),
+        })),
     }
 }
 
 // Whether the name matters, by the allow and deny files. There are no tables.
-pub fn name_matters(allow: &[u8], deny: &[u8], names: &[u8], request: Request) -> Matter
+pub fn name_matters(allow: &[u8], deny: &[u8], names: &[u8], request: Request) -> Result<Option<Place>, Refusal>
     ensures { result
-        ≡ matter_of (name_matters allow.now deny.now (some (request_at names.now request))) }
+        ≡ matter_of (name_matters allow.now deny.now (Some (request_at names.now request))) }
 {
     if !fits(names, request) {
         let own = decide(allow, deny, names, request);
@@ -143,8 +129,8 @@ pub fn name_matters(allow: &[u8], deny: &[u8], names: &[u8], request: Request) -
     let asked = decide(allow, deny, names, unfetched(request));
     let ruling = asked.ruling;
     match ruling {
-        Ruling::Refused(refusal) => Matter::Refused(refusal),
-        Ruling::Answered(answer) => settle_by(answer, allow, deny, &allow[..0], names, request),
+        Err(refusal) => Err(refusal),
+        Ok(answer) => settle_by(answer, allow, deny, &allow[..0], names, request),
     }
 }
 
@@ -155,10 +141,10 @@ pub fn name_matters_tables(
     tables: &[u8],
     names: &[u8],
     request: Request,
-) -> Matter
+) -> Result<Option<Place>, Refusal>
     ensures { result
         ≡ matter_of
-        (name_matters_tables allow.now deny.now tables.now (some (request_at names.now request))) }
+        (name_matters_tables allow.now deny.now tables.now (Some (request_at names.now request))) }
 {
     if !fits(names, request) {
         let own = decide_tables(allow, deny, tables, names, request);
@@ -168,8 +154,8 @@ pub fn name_matters_tables(
     let asked = decide_tables(allow, deny, tables, names, unfetched(request));
     let ruling = asked.ruling;
     match ruling {
-        Ruling::Refused(refusal) => Matter::Refused(refusal),
-        Ruling::Answered(answer) => settle_by(answer, allow, deny, tables, names, request),
+        Err(refusal) => Err(refusal),
+        Ok(answer) => settle_by(answer, allow, deny, tables, names, request),
     }
 }
 
@@ -180,11 +166,11 @@ fn settle_in_parts(
     answer: Answer,
     names: &[u8],
     request: Request,
-) -> Matter
+) -> Result<Option<Place>, Refusal>
     requires request_value { well_formed (request_at names.now request) ≡ true }
-    requires request_value_2 { decide_sheet sheet.now (some (request_at names.now (unfetched_at request))) ≡ answered answer }
-    requires sheet_value { frame_of sheet.now ≡ answered parts }
-    ensures { result ≡ matter_of (name_matters_sheet sheet.now (some (request_at names.now request))) }
+    requires request_value_2 { decide_sheet sheet.now (Some (request_at names.now (unfetched_at request))) ≡ Ok answer }
+    requires sheet_value { frame_of sheet.now ≡ Ok parts }
+    ensures { result ≡ matter_of (name_matters_sheet sheet.now (Some (request_at names.now request))) }
 {
     settle_by(
         answer,
@@ -197,20 +183,20 @@ fn settle_in_parts(
 }
 
 // What the answer tells, by a sheet that gave it.
-fn settle_in_sheet(sheet: &[u8], answer: Answer, names: &[u8], request: Request) -> Matter
+fn settle_in_sheet(sheet: &[u8], answer: Answer, names: &[u8], request: Request) -> Result<Option<Place>, Refusal>
     requires request_value { well_formed (request_at names.now request) ≡ true }
-    requires request_value_2 { decide_sheet sheet.now (some (request_at names.now (unfetched_at request))) ≡ answered answer }
-    ensures { result ≡ matter_of (name_matters_sheet sheet.now (some (request_at names.now request))) }
+    requires request_value_2 { decide_sheet sheet.now (Some (request_at names.now (unfetched_at request))) ≡ Ok answer }
+    ensures { result ≡ matter_of (name_matters_sheet sheet.now (Some (request_at names.now request))) }
 {
     match sheet::frame::frame(sheet) {
-        Framed::Refused(refusal) => Matter::Refused(refusal),
-        Framed::Parts(parts) => settle_in_parts(sheet, parts, answer, names, request),
+        Err(refusal) => Err(refusal),
+        Ok(parts) => settle_in_parts(sheet, parts, answer, names, request),
     }
 }
 
 // Whether the name matters, by a sheet.
-pub fn name_matters_sheet(sheet: &[u8], names: &[u8], request: Request) -> Matter
-    ensures { result ≡ matter_of (name_matters_sheet sheet.now (some (request_at names.now request))) }
+pub fn name_matters_sheet(sheet: &[u8], names: &[u8], request: Request) -> Result<Option<Place>, Refusal>
+    ensures { result ≡ matter_of (name_matters_sheet sheet.now (Some (request_at names.now request))) }
 {
     if !fits(names, request) {
         let own = station::decide(sheet, names, request);
@@ -220,7 +206,7 @@ pub fn name_matters_sheet(sheet: &[u8], names: &[u8], request: Request) -> Matte
     let asked = station::decide(sheet, names, unfetched(request));
     let ruling = asked.ruling;
     match ruling {
-        Ruling::Refused(refusal) => Matter::Refused(refusal),
-        Ruling::Answered(answer) => settle_in_sheet(sheet, answer, names, request),
+        Err(refusal) => Err(refusal),
+        Ok(answer) => settle_in_sheet(sheet, answer, names, request),
     }
 }

@@ -3,7 +3,6 @@
 // A rule that does not ask a user not fetched finds the same for all. One that asks is looked at again for an unknown user, for a name
 // that no half can be, and for each different half whose host matches: the places of those that were tried are noted.
 ghost use Rattle.std.specs.Prelude.{◌≡◌, ◌≤◌, length};
-ghost use Rattle.std.proofs.Math.Option.{none};
 ghost use Rattle.text.specs.Basics.{all};
 ghost use Rattle.lines.specs.Line.{line, join};
 ghost use Rattle.lines.specs.Rule.{parse_rule};
@@ -20,7 +19,9 @@ ghost use Rattle.matters.specs.Code.{finder_at, name_agrees, half_agrees, asked_
 ghost use Rattle.matters.specs.Code.{settled_by};
 ghost use Rattle.matters.specs.Code.{asked_half, was_tried, noted_count, noted_places, tried_by, places_by};
 
-use super::{Matter, Place, Telling, Told, Tried};
+use super::Place;
+use super::Telling;
+use super::Told;
 use classes::element_at;
 use elements::request::Request;
 use elements::{Found, User, element};
@@ -202,7 +203,7 @@ fn try_half(
     n: usize,
     at: usize,
     h: &[u8],
-) -> Tried
+) -> Option<usize>
     requires classes { Classes class.now }
     requires n_in_bounds { n ≤ length places.old }
     ensures answer { result
@@ -213,13 +214,13 @@ fn try_half(
         h.now }
 {
     if was_tried(s, places, n, h) {
-        return Tried::Agrees(n);
+        return Some(n);
     }
     if !name_agrees(class, tables, notes, s, names, request, f, h) {
-        return Tried::Differs;
+        return None;
     }
     let count = note(places, n, at, h.len());
-    Tried::Agrees(count)
+    Some(count)
 }
 
 // Whether all halves of the list s that ask find f. Equal ones are tried once: a line of 2,047 bytes has at most 511.
@@ -262,8 +263,8 @@ fn halves_agree(
             from,
             h,
         ) {
-            Tried::Differs => return false,
-            Tried::Agrees(count) => n = count,
+            None => return false,
+            Some(count) => n = count,
         }
         rest = next;
     }
@@ -457,17 +458,17 @@ fn text_told(
 }
 
 // What both files tell, where the second tells this, and the first nothing.
-fn matter_by(t: Telling) -> Matter
+fn matter_by(t: Telling) -> Result<Option<Place>, Refusal>
     ensures { result ≡ ended_by t }
 {
     match t {
-        Telling::Nothing => Matter::Settled(Place {
+        Telling::Nothing => Ok(Some(Place {
             verdict: Verdict::Granted,
             file: File::Neither,
             line: 0,
-        }),
-        Telling::Settled(place) => Matter::Settled(place),
-        Telling::Matters => Matter::Matters,
+        })),
+        Telling::Settled(place) => Ok(Some(place)),
+        Telling::Matters => Ok(None),
     }
 }
 
@@ -479,7 +480,7 @@ fn tell(
     deny: &[u8],
     names: &[u8],
     request: Request,
-) -> Matter
+) -> Result<Option<Place>, Refusal>
     ensures { result
         ≡ matter_by
         (settled_by (finder_at tables.now notes.now names.now request) allow.now deny.now) }
@@ -495,8 +496,8 @@ fn tell(
         names,
         request,
     ) {
-        Telling::Settled(place) => Matter::Settled(place),
-        Telling::Matters => Matter::Matters,
+        Telling::Settled(place) => Ok(Some(place)),
+        Telling::Matters => Ok(None),
         Telling::Nothing => matter_by(text_told(
             &class,
             tables,
@@ -511,9 +512,9 @@ fn tell(
 }
 
 // Whether the name matters to a request that is held, by sound texts.
-pub fn settle(allow: &[u8], deny: &[u8], tables: &[u8], names: &[u8], request: Request) -> Matter
+pub fn settle(allow: &[u8], deny: &[u8], tables: &[u8], names: &[u8], request: Request) -> Result<Option<Place>, Refusal>
     requires tables_value { tables_in tables.now ≡ tables_of tables.now }
-    requires tables_value_2 { contents_fault allow.now deny.now tables.now ≡ none }
+    requires tables_value_2 { contents_fault allow.now deny.now tables.now ≡ None }
     ensures { result
         ≡ matter_by
         (settled (match_of (tables_of tables.now)) allow.now deny.now (request_at names.now request)) }

@@ -1,9 +1,9 @@
 -- Laws of the patterns of addresses: what they match is what their nets and prefixes cover.
 -- Assumes nothing.
+use Rattle.std.specs.Prelude.{None, Option, Some}
 use Prim.Native.Nat.{ℕ, zero, suc, ◌+◌, ◌-◌, ◌*◌, ◌/◌, ◌%◌, ◌^◌, ◌<◌, ◌≤◌}
 use mathlib.Core.Bool.{Bool, true, false, true≢false}
 use mathlib.Core.List.{List, [], ◌∷◌}
-use mathlib.Core.Option.{Option, none, some}
 use mathlib.Core.Path.{◌≡◌, refl, sym, ap, ap₂, ◌∙◌}
 use native.Mathlib.Nat.{add-zero, add-suc, mul_comm, div-add-mod', div-div-eq-div-mul, mod-eq_of_lt, pow-zero, pow-suc, div-one}
 use native.Mathlib.Omega.{arith}
@@ -27,24 +27,20 @@ use Rattle.patterns.specs.Host.{Endpoint}
 use Rattle.patterns.specs.Pattern.{Pattern, bracket_pattern, leading_fields, read_mask, net_mask, dotted_pattern}
 use Rattle.patterns.specs.Code.{as_net, leading_net, dotted_fields, fields_net, mask_net, dotted_net, matches_pattern, net_covers, dotted_test, dotted_covers}
 use Rattle.patterns.specs.Code.{as_prefix, bracket_prefix, prefix_length, prefix_covers, bracket_covers}
-use Rattle.patterns.specs.declared.net.NetRead.{NetRead}
-use Rattle.patterns.specs.declared.net.NetRead.TheVariants as R
-use Rattle.patterns.specs.declared.net.PrefixRead.{PrefixRead}
-use Rattle.patterns.specs.declared.net.PrefixRead.TheVariants as P
 use Rattle.patterns.proofs.DottedLaws.{dotted_fields_pos}
 
 -- ## Leading fields
 
-each_below : (ws : List (List ℕ)) (fs : List ℕ) → each (read_decimal 255) ws ≡ some fs → all (λ d. ltb d 256) fs ≡ true
+each_below : (ws : List (List ℕ)) (fs : List ℕ) → each (read_decimal 255) ws ≡ Some fs → all (λ d. ltb d 256) fs ≡ true
 unfolding each all
 each_below [] fs e = let q : fs ≡ [] = cc in rw q
 each_below (w ∷ ws) fs e = by (read_decimal 255 w) refl (each (read_decimal 255) ws) fs e (each_below ws)
   where
-    by : (o : Option ℕ) → read_decimal 255 w ≡ o → (r : Option (List ℕ)) (fs : List ℕ) → (o >>= λ y. r >>= λ ys. some (y ∷ ys)) ≡ some fs
-        → ((ys : List ℕ) → r ≡ some ys → all (λ d. ltb d 256) ys ≡ true) → all (λ d. ltb d 256) fs ≡ true
-    by none p r fs e ih = let z : ◌≡◌ {A = ℕ} 0 1 = cc in absurd (omega arith)
-    by (some y) p none fs e ih = let z : ◌≡◌ {A = ℕ} 0 1 = cc in absurd (omega arith)
-    by (some y) p (some ys) fs e ih =
+    by : (o : Option ℕ) → read_decimal 255 w ≡ o → (r : Option (List ℕ)) (fs : List ℕ) → (o >>= λ y. r >>= λ ys. Some (y ∷ ys)) ≡ Some fs
+        → ((ys : List ℕ) → r ≡ Some ys → all (λ d. ltb d 256) ys ≡ true) → all (λ d. ltb d 256) fs ≡ true
+    by None p r fs e ih = let z : ◌≡◌ {A = ℕ} 0 1 = cc in absurd (omega arith)
+    by (Some y) p None fs e ih = let z : ◌≡◌ {A = ℕ} 0 1 = cc in absurd (omega arith)
+    by (Some y) p (Some ys) fs e ih =
         let q : fs ≡ y ∷ ys = cc in
         rw (q, lt-ltb y 256 (omega (arith, read_decimal_le 255 y w p))) (ih ys refl)
 
@@ -93,13 +89,13 @@ module _ (fs : List ℕ) (below : all (λ d. ltb d 256) fs ≡ true) (a : ℕ) (
 
 -- ## What a dotted pattern covers
 
-leading_fields_none : (e : List ℕ) → last_among "." e ≡ false → leading_fields e ≡ none
+leading_fields_none : (e : List ℕ) → last_among "." e ≡ false → leading_fields e ≡ None
 unfolding leading_fields
 leading_fields_none e h = rw h (by (each (read_decimal 255) (split "." (take (length e - 1) e))))
   where
-    by : (o : Option (List ℕ)) → ◌≡◌ {A = Option (ℕ → Bool)} (o >>= λ fs. none) none
-    by none = refl
-    by (some fs) = refl
+    by : (o : Option (List ℕ)) → ◌≡◌ {A = Option (ℕ → Bool)} (o >>= λ fs. None) None
+    by None = refl
+    by (Some fs) = refl
 
 -- what holds of a test of each kind and of its net
 record Alike (p : (ℕ → Bool) → Bool) (q : ℕ × ℕ → Bool) : Type 0 where
@@ -114,14 +110,14 @@ module _ (p : (ℕ → Bool) → Bool) (q : ℕ × ℕ → Bool) (like : Alike p
   Same o r = (is_some o ≡ is_some r) × (holds p o ≡ holds q r)
 
   or_else_same : (o u : Option (ℕ → Bool)) (r v : Option (ℕ × ℕ)) → Same o r → Same u v → Same (o or_else u) (r or_else v)
-  or_else_same none u none v h k = k
-  or_else_same none u (some n) v h k = absurd (true≢false (sym h.0))
-  or_else_same (some f) u none v h k = absurd (true≢false h.0)
-  or_else_same (some f) u (some n) v h k = h
+  or_else_same None u None v h k = k
+  or_else_same None u (Some n) v h k = absurd (true≢false (sym h.0))
+  or_else_same (Some f) u None v h k = absurd (true≢false h.0)
+  or_else_same (Some f) u (Some n) v h k = h
 
-  address_same : (o : Option ℕ) → Same (o >>= λ n. some (eqb n)) (o >>= λ n. some (n, 4294967295))
-  address_same none = (refl, refl)
-  address_same (some n) = (refl, like.address n)
+  address_same : (o : Option ℕ) → Same (o >>= λ n. Some (eqb n)) (o >>= λ n. Some (n, 4294967295))
+  address_same None = (refl, refl)
+  address_same (Some n) = (refl, like.address n)
 
   module _ (e : List ℕ) where
     fields_net_same : Same (leading_fields e) (fields_net e)
@@ -131,8 +127,8 @@ module _ (p : (ℕ → Bool) → Bool) (q : ℕ × ℕ → Bool) (like : Alike p
         by : (b : Bool) → last_among "." e ≡ b → (o : Option (List ℕ)) → each (read_decimal 255) (split "." (take (length e - 1) e)) ≡ o
             → Same (leading_fields e) (fields_net e)
         by false h o r = rw (leading_fields_none e h, h) (refl, refl)
-        by true h none r = rw (h, r) (refl, refl)
-        by true h (some fs) r = rw (h, r) (within (leb (length fs) 3) refl)
+        by true h None r = rw (h, r) (refl, refl)
+        by true h (Some fs) r = rw (h, r) (within (leb (length fs) 3) refl)
           where
             within : (b : Bool) → leb (length fs) 3 ≡ b
                 → Same (given b (λ a. starts_with fs (to_digits 256 4 a))) (given b (leading_net (length fs) (from_digits 256 0 fs)))
@@ -144,21 +140,21 @@ module _ (p : (ℕ → Bool) → Bool) (q : ℕ × ℕ → Bool) (like : Alike p
     unfolding net_mask mask_net
     mask_net_same = by (split_once (bytes "/") e)
       where
-        both : (o r : Option ℕ) → Same (o >>= λ n. r >>= λ m. some (λ a. eqb n (bit_and a m))) (o >>= λ n. r >>= λ m. some (n, m))
-        both none r = (refl, refl)
-        both (some n) none = (refl, refl)
-        both (some n) (some m) = (refl, like.masked n m)
+        both : (o r : Option ℕ) → Same (o >>= λ n. r >>= λ m. Some (λ a. eqb n (bit_and a m))) (o >>= λ n. r >>= λ m. Some (n, m))
+        both None r = (refl, refl)
+        both (Some n) None = (refl, refl)
+        both (Some n) (Some m) = (refl, like.masked n m)
 
-        by : (o : Option (List ℕ × List ℕ)) → Same (o >>= λ t. read_v4 t.0 >>= λ n. read_mask t.1 >>= λ m. some (λ a. eqb n (bit_and a m)))
-            (o >>= λ t. read_v4 t.0 >>= λ n. read_mask t.1 >>= λ m. some (n, m))
-        by none = (refl, refl)
-        by (some t) = both (read_v4 t.0) (read_mask t.1)
+        by : (o : Option (List ℕ × List ℕ)) → Same (o >>= λ t. read_v4 t.0 >>= λ n. read_mask t.1 >>= λ m. Some (λ a. eqb n (bit_and a m)))
+            (o >>= λ t. read_v4 t.0 >>= λ n. read_mask t.1 >>= λ m. Some (n, m))
+        by None = (refl, refl)
+        by (Some t) = both (read_v4 t.0) (read_mask t.1)
 
     dotted_net_alike : holds p (dotted_test e) ≡ holds q (dotted_net e)
     unfolding dotted_test dotted_net
     dotted_net_alike =
-        let a : Option (ℕ → Bool) = read_v4 e >>= λ n. some (eqb n) in
-        let n : Option (ℕ × ℕ) = read_v4 e >>= λ n. some (n, 4294967295) in
+        let a : Option (ℕ → Bool) = read_v4 e >>= λ n. Some (eqb n) in
+        let n : Option (ℕ × ℕ) = read_v4 e >>= λ n. Some (n, 4294967295) in
         (or_else_same (a or_else leading_fields e) (net_mask e) (n or_else fields_net e) (mask_net e)
         (or_else_same a (leading_fields e) n (fields_net e) (address_same (read_v4 e)) fields_net_same) mask_net_same).1
 
@@ -171,13 +167,13 @@ module _ (e : List ℕ) (a : ℕ) (small : a < 4294967296) where
     leading = λ fs below h l. leading_net_covers fs below a small (length fs) refl h l;
   }
 
-  pub dotted_test_net : (r : NetRead) → r ≡ as_net (dotted_net e) → (x : Bool) → x ≡ net_covers r a → x ≡ holds (λ f. f a) (dotted_test e)
-  dotted_test_net r is-r x k = k ∙ ap (λ (n : NetRead). net_covers n a) is-r ∙ by (dotted_net e)
+  pub dotted_test_net : (r : Option (ℕ × ℕ)) → r ≡ as_net (dotted_net e) → (x : Bool) → x ≡ net_covers r a → x ≡ holds (λ f. f a) (dotted_test e)
+  dotted_test_net r is-r x k = k ∙ ap (λ (n : Option (ℕ × ℕ)). net_covers n a) is-r ∙ by (dotted_net e)
       ∙ sym (dotted_net_alike (λ f. f a) (λ q. eqb q.0 (bit_and a q.1)) at_address e)
     where
       by : (o : Option (ℕ × ℕ)) → net_covers (as_net o) a ≡ holds (λ q. eqb q.0 (bit_and a q.1)) o
-      by none = refl
-      by (some q) = refl
+      by None = refl
+      by (Some q) = refl
 
 -- ## Patterns of addresses as hosts meet them
 
@@ -196,118 +192,118 @@ module _ (e : List ℕ) where
   unfolding dotted_pattern dotted_test
   dotted_pattern_matches h = by (dotted_test e)
     where
-      by : (o : Option (ℕ → Bool)) → matches_pattern (o >>= λ f. some (λ h. addr_case h.host.addr false f (λ a. false))) h
+      by : (o : Option (ℕ → Bool)) → matches_pattern (o >>= λ f. Some (λ h. addr_case h.host.addr false f (λ a. false))) h
           ≡ addr_case h.host.addr false (λ a. holds (λ f. f a) o) (λ a. false)
-      by none = none_covers h.host.addr
-      by (some f) = refl
+      by None = none_covers h.host.addr
+      by (Some f) = refl
 
   pub dotted_pattern_sound : is_some (dotted_pattern e) ≡ is_some (dotted_net e)
   unfolding dotted_pattern dotted_test
   dotted_pattern_sound = by (dotted_test e)
       ∙ dotted_net_alike (λ f. true) (λ q. true) (record { address = λ n. refl; masked = λ n m. refl; leading = λ fs below h l. refl }) e
     where
-      by : (o : Option (ℕ → Bool)) → is_some {A = Endpoint → Bool} (o >>= λ f. some (λ h. addr_case h.host.addr false f (λ a. false))) ≡ is_some o
-      by none = refl
-      by (some f) = refl
+      by : (o : Option (ℕ → Bool)) → is_some {A = Endpoint → Bool} (o >>= λ f. Some (λ h. addr_case h.host.addr false f (λ a. false))) ≡ is_some o
+      by None = refl
+      by (Some f) = refl
 
-  bracket_pattern_is : bracket_pattern e ≡ (bracket_prefix e >>= λ q. some (prefix_test q.0 q.1))
+  bracket_pattern_is : bracket_pattern e ≡ (bracket_prefix e >>= λ q. Some (prefix_test q.0 q.1))
   unfolding bracket_pattern bracket_prefix prefix_length
   bracket_pattern_is = by (split_once (bytes "]") (drop 1 e)) refl
     where
-      assoc : (o r : Option ℕ) → ◌≡◌ {A = Pattern} (o >>= λ n. r >>= λ m. some (prefix_test n m))
-          (◌>>=◌ {A = ℕ × ℕ} (o >>= λ n. r >>= λ m. some (n, m)) (λ q. some (prefix_test q.0 q.1)))
-      assoc none r = refl
-      assoc (some n) none = refl
-      assoc (some n) (some m) = refl
+      assoc : (o r : Option ℕ) → ◌≡◌ {A = Pattern} (o >>= λ n. r >>= λ m. Some (prefix_test n m))
+          (◌>>=◌ {A = ℕ × ℕ} (o >>= λ n. r >>= λ m. Some (n, m)) (λ q. Some (prefix_test q.0 q.1)))
+      assoc None r = refl
+      assoc (Some n) None = refl
+      assoc (Some n) (Some m) = refl
 
-      parts : (a b : List ℕ) → split_once (bytes "]") (drop 1 e) ≡ some (a, b)
-          → bracket_pattern e ≡ (bracket_prefix e >>= λ q. some (prefix_test q.0 q.1))
-      parts a [] q = rw q (assoc (read_v6 a) (some 128))
-      parts a (x ∷ t) q = rw q (assoc (read_v6 a) (when among "/" x then read_decimal 128 t else none))
+      parts : (a b : List ℕ) → split_once (bytes "]") (drop 1 e) ≡ Some (a, b)
+          → bracket_pattern e ≡ (bracket_prefix e >>= λ q. Some (prefix_test q.0 q.1))
+      parts a [] q = rw q (assoc (read_v6 a) (Some 128))
+      parts a (x ∷ t) q = rw q (assoc (read_v6 a) (when among "/" x then read_decimal 128 t else None))
 
       by : (o : Option (List ℕ × List ℕ)) → split_once (bytes "]") (drop 1 e) ≡ o
-          → bracket_pattern e ≡ (bracket_prefix e >>= λ q. some (prefix_test q.0 q.1))
-      by none q = rw q
-      by (some p) q = parts p.0 p.1 q
+          → bracket_pattern e ≡ (bracket_prefix e >>= λ q. Some (prefix_test q.0 q.1))
+      by None q = rw q
+      by (Some p) q = parts p.0 p.1 q
 
   pub bracket_pattern_matches : (h : Endpoint) → matches_pattern (bracket_pattern e) h ≡ bracket_covers e h.host
   unfolding prefix_covers
   bracket_pattern_matches h = rw bracket_pattern_is (by (bracket_prefix e))
     where
-      by : (o : Option (ℕ × ℕ)) → matches_pattern (o >>= λ q. some (prefix_test q.0 q.1)) h
+      by : (o : Option (ℕ × ℕ)) → matches_pattern (o >>= λ q. Some (prefix_test q.0 q.1)) h
           ≡ addr_case h.host.addr false (λ a. false) (λ a. holds (λ q. same_prefix 128 q.1 q.0 a) o)
-      by none = none_covers h.host.addr
-      by (some q) = refl
+      by None = none_covers h.host.addr
+      by (Some q) = refl
 
   pub bracket_pattern_sound : is_some (bracket_pattern e) ≡ is_some (bracket_prefix e)
   bracket_pattern_sound = rw bracket_pattern_is (by (bracket_prefix e))
     where
-      by : (o : Option (ℕ × ℕ)) → is_some {A = Endpoint → Bool} (o >>= λ q. some (prefix_test q.0 q.1)) ≡ is_some o
-      by none = refl
-      by (some q) = refl
+      by : (o : Option (ℕ × ℕ)) → is_some {A = Endpoint → Bool} (o >>= λ q. Some (prefix_test q.0 q.1)) ≡ is_some o
+      by None = refl
+      by (Some q) = refl
 
 -- as the code finds them
-as_net_sound : (o : Option (ℕ × ℕ)) (r : NetRead) → r ≡ as_net o → (r ≡ R.Nothing → false ≡ is_some o) × ((n m : ℕ) → r ≡ R.Net n m → true ≡ is_some o)
-as_net_sound none r q = (λ e. refl, λ n m e. let z : ◌≡◌ {A = ℕ} 0 1 = cc in absurd (omega arith))
-as_net_sound (some p) r q = (λ e. let z : ◌≡◌ {A = ℕ} 0 1 = cc in absurd (omega arith), λ n m e. refl)
+as_net_sound : (o : Option (ℕ × ℕ)) (r : Option (ℕ × ℕ)) → r ≡ as_net o → (r ≡ None → false ≡ is_some o) × ((n m : ℕ) → r ≡ Some (n, m) → true ≡ is_some o)
+as_net_sound None r q = (λ e. refl, λ n m e. let z : ◌≡◌ {A = ℕ} 0 1 = cc in absurd (omega arith))
+as_net_sound (Some p) r q = (λ e. let z : ◌≡◌ {A = ℕ} 0 1 = cc in absurd (omega arith), λ n m e. refl)
 
-as_prefix_sound : (o : Option (ℕ × ℕ)) (r : PrefixRead) → r ≡ as_prefix o → (r ≡ P.Nothing → false ≡ is_some o)
-    × ((h l m : ℕ) → r ≡ P.Prefix h l m → true ≡ is_some o)
-as_prefix_sound none r q = (λ e. refl, λ h l m e. let z : ◌≡◌ {A = ℕ} 0 1 = cc in absurd (omega arith))
-as_prefix_sound (some p) r q = (λ e. let z : ◌≡◌ {A = ℕ} 0 1 = cc in absurd (omega arith), λ h l m e. refl)
+as_prefix_sound : (o : Option (ℕ × ℕ)) (r : Option (ℕ × ℕ × ℕ)) → r ≡ as_prefix o → (r ≡ None → false ≡ is_some o)
+    × ((h l m : ℕ) → r ≡ Some (h, l, m) → true ≡ is_some o)
+as_prefix_sound None r q = (λ e. refl, λ h l m e. let z : ◌≡◌ {A = ℕ} 0 1 = cc in absurd (omega arith))
+as_prefix_sound (Some p) r q = (λ e. let z : ◌≡◌ {A = ℕ} 0 1 = cc in absurd (omega arith), λ h l m e. refl)
 
-prefix_length_le : (t : List ℕ) (m : ℕ) → prefix_length t ≡ some m → m ≤ 128
+prefix_length_le : (t : List ℕ) (m : ℕ) → prefix_length t ≡ Some m → m ≤ 128
 unfolding prefix_length
 prefix_length_le [] m q = let z : 128 ≡ m = cc in omega arith
 prefix_length_le (x ∷ t) m q = by (among "/" x) q
   where
-    by : (b : Bool) → (when b then read_decimal 128 t else none) ≡ some m → m ≤ 128
+    by : (b : Bool) → (when b then read_decimal 128 t else None) ≡ Some m → m ≤ 128
     by true q = read_decimal_le 128 m t q
     by false q = let z : ◌≡◌ {A = ℕ} 0 1 = cc in absurd (omega arith)
 
-bracket_prefix_le : (e : List ℕ) (p : ℕ × ℕ) → bracket_prefix e ≡ some p → p.1 ≤ 128
+bracket_prefix_le : (e : List ℕ) (p : ℕ × ℕ) → bracket_prefix e ≡ Some p → p.1 ≤ 128
 unfolding bracket_prefix
 bracket_prefix_le e p q = by (split_once (bytes "]") (drop 1 e)) q
   where
-    read : (t : List ℕ) (o l : Option ℕ) → prefix_length t ≡ l → (o >>= λ n. l >>= λ m. some (n, m)) ≡ some p → p.1 ≤ 128
-    read t none l k q = let z : ◌≡◌ {A = ℕ} 0 1 = cc in absurd (omega arith)
-    read t (some n) none k q = let z : ◌≡◌ {A = ℕ} 0 1 = cc in absurd (omega arith)
-    read t (some n) (some m) k q = let z : m ≡ p.1 = cc in omega (arith, prefix_length_le t m k)
+    read : (t : List ℕ) (o l : Option ℕ) → prefix_length t ≡ l → (o >>= λ n. l >>= λ m. Some (n, m)) ≡ Some p → p.1 ≤ 128
+    read t None l k q = let z : ◌≡◌ {A = ℕ} 0 1 = cc in absurd (omega arith)
+    read t (Some n) None k q = let z : ◌≡◌ {A = ℕ} 0 1 = cc in absurd (omega arith)
+    read t (Some n) (Some m) k q = let z : m ≡ p.1 = cc in omega (arith, prefix_length_le t m k)
 
-    by : (o : Option (List ℕ × List ℕ)) → (o >>= λ t. read_v6 t.0 >>= λ n. prefix_length t.1 >>= λ m. some (n, m)) ≡ some p → p.1 ≤ 128
-    by none q = let z : ◌≡◌ {A = ℕ} 0 1 = cc in absurd (omega arith)
-    by (some t) q = read t.1 (read_v6 t.0) (prefix_length t.1) refl q
+    by : (o : Option (List ℕ × List ℕ)) → (o >>= λ t. read_v6 t.0 >>= λ n. prefix_length t.1 >>= λ m. Some (n, m)) ≡ Some p → p.1 ≤ 128
+    by None q = let z : ◌≡◌ {A = ℕ} 0 1 = cc in absurd (omega arith)
+    by (Some t) q = read t.1 (read_v6 t.0) (prefix_length t.1) refl q
 
-module _ (e : List ℕ) (r : PrefixRead) (is-r : r ≡ as_prefix (bracket_prefix e)) where
-  pub bracket_pattern_nothing : r ≡ P.Nothing → false ≡ is_some (bracket_pattern e)
+module _ (e : List ℕ) (r : Option (ℕ × ℕ × ℕ)) (is-r : r ≡ as_prefix (bracket_prefix e)) where
+  pub bracket_pattern_nothing : r ≡ None → false ≡ is_some (bracket_pattern e)
   bracket_pattern_nothing q = (as_prefix_sound (bracket_prefix e) r is-r).0 q ∙ sym (bracket_pattern_sound e)
 
-  pub bracket_pattern_prefix : (h l m : ℕ) → r ≡ P.Prefix h l m → true ≡ is_some (bracket_pattern e)
+  pub bracket_pattern_prefix : (h l m : ℕ) → r ≡ Some (h, l, m) → true ≡ is_some (bracket_pattern e)
   bracket_pattern_prefix h l m q = (as_prefix_sound (bracket_prefix e) r is-r).1 h l m q ∙ sym (bracket_pattern_sound e)
 
-  pub prefix_covers_nothing : r ≡ P.Nothing → (a : ℕ) → false ≡ prefix_covers e a
+  pub prefix_covers_nothing : r ≡ None → (a : ℕ) → false ≡ prefix_covers e a
   unfolding prefix_covers
   prefix_covers_nothing q a = by (bracket_prefix e) is-r
     where
       by : (o : Option (ℕ × ℕ)) → r ≡ as_prefix o → false ≡ holds (λ p. same_prefix 128 p.1 p.0 a) o
-      by none k = refl
-      by (some p) k = let z : ◌≡◌ {A = ℕ} 0 1 = cc in absurd (omega arith)
+      by None k = refl
+      by (Some p) k = let z : ◌≡◌ {A = ℕ} 0 1 = cc in absurd (omega arith)
 
-  module _ (h l m : ℕ) (q : r ≡ P.Prefix h l m) where
+  module _ (h l m : ℕ) (q : r ≡ Some (h, l, m)) where
     pub bracket_prefix_fits : m ≤ 128
     bracket_prefix_fits = by (bracket_prefix e) refl is-r
       where
         by : (o : Option (ℕ × ℕ)) → bracket_prefix e ≡ o → r ≡ as_prefix o → m ≤ 128
-        by none j k = let z : ◌≡◌ {A = ℕ} 0 1 = cc in absurd (omega arith)
-        by (some p) j k = let z : p.1 ≡ m = cc in omega (arith, bracket_prefix_le e p j)
+        by None j k = let z : ◌≡◌ {A = ℕ} 0 1 = cc in absurd (omega arith)
+        by (Some p) j k = let z : p.1 ≡ m = cc in omega (arith, bracket_prefix_le e p j)
 
     pub prefix_covers_prefix : (a : ℕ) (x : Bool) → x ≡ same_prefix 128 m (h * 2 ^ 64 + l) a → x ≡ prefix_covers e a
     unfolding prefix_covers
     prefix_covers_prefix a x k = k ∙ by (bracket_prefix e) is-r
       where
         by : (o : Option (ℕ × ℕ)) → r ≡ as_prefix o → same_prefix 128 m (h * 2 ^ 64 + l) a ≡ holds (λ p. same_prefix 128 p.1 p.0 a) o
-        by none k = let z : ◌≡◌ {A = ℕ} 0 1 = cc in absurd (omega arith)
-        by (some p) k =
+        by None k = let z : ◌≡◌ {A = ℕ} 0 1 = cc in absurd (omega arith)
+        by (Some p) k =
             let n : p.1 ≡ m = cc in
             let u : p.0 / 2 ^ 64 ≡ h = cc in
             let v : p.0 % 2 ^ 64 ≡ l = cc in

@@ -1,9 +1,9 @@
 -- Laws of the patterns of addresses, as the code reads them.
 -- Assumes nothing.
+use Rattle.std.specs.Prelude.{None, Option, Some}
 use Prim.Native.Nat.{ℕ, zero, suc, ◌+◌, ◌-◌, ◌*◌, ◌/◌, ◌%◌, ◌^◌, ◌<◌, ◌≤◌}
 use mathlib.Core.Bool.{Bool, true, false}
 use mathlib.Core.List.{List, [], ◌∷◌}
-use mathlib.Core.Option.{Option, none, some}
 use mathlib.Core.Path.{◌≡◌, refl, sym, ap, ap₂, ◌∙◌}
 use native.Mathlib.Nat.{mod-eq_of_lt}
 use native.Mathlib.Omega.{arith}
@@ -13,121 +13,114 @@ use Rattle.text.specs.Basics.{◌>>=◌, ◌or_else◌, any}
 use Rattle.text.specs.Text.{split_once}
 use Rattle.text.specs.Number.{read_decimal}
 use Rattle.text.specs.Scan.{index_of, as_number}
-use Rattle.text.specs.declared.NumberRead.{NumberRead}
-use Rattle.text.specs.declared.NumberRead.TheVariants as T
 use Rattle.text.proofs.ScanLaws.{take_rest, split_once_mark, split_once_no_mark}
 use Rattle.address.specs.Address.{read_v4, read_v6}
 use Rattle.address.proofs.ReadLaws.{read_decimal_le}
 use Rattle.patterns.specs.Pattern.{length_mask, read_mask}
-use Rattle.patterns.specs.declared.net.NetRead.TheVariants as R
 use Rattle.patterns.specs.Code.{as_net, leading_net, pair_net}
 use Rattle.patterns.specs.Code.{as_prefix, prefix_with, prefix_length, bracket_prefix}
 use Rattle.address.specs.Code.{as_v6}
-use Rattle.address.specs.declared.read.V6Read.{V6Read}
-use Rattle.address.specs.declared.read.V6Read.TheVariants as V6
-use Rattle.patterns.specs.declared.net.PrefixRead.{PrefixRead}
-use Rattle.patterns.specs.declared.net.PrefixRead.TheVariants as P
 
 -- ## Nets
 
 -- the net of leading fields, shifted into place
 pub leading_net_shifted : (n k : ℕ) → 1 ≤ k → k ≤ 3 → n < 256 ^ k
-    → R.Net (n * 2 ^ (32 - 8 * k) % 4294967296) (4294967295 / 2 ^ (32 - 8 * k) * 2 ^ (32 - 8 * k) % 4294967296) ≡ as_net (some (leading_net k n))
+    → Some ((n * 2 ^ (32 - 8 * k) % 4294967296), (4294967295 / 2 ^ (32 - 8 * k) * 2 ^ (32 - 8 * k) % 4294967296)) ≡ as_net (Some (leading_net k n))
 leading_net_shifted n zero h l p = absurd (omega arith)
 leading_net_shifted n (suc zero) h l p = rw (mod-eq_of_lt {n = n * 16777216} {m = 4294967296} (omega arith))
 leading_net_shifted n (suc (suc zero)) h l p = rw (mod-eq_of_lt {n = n * 65536} {m = 4294967296} (omega arith))
 leading_net_shifted n (suc (suc (suc zero))) h l p = rw (mod-eq_of_lt {n = n * 256} {m = 4294967296} (omega arith))
 leading_net_shifted n (suc (suc (suc (suc k)))) h l p = absurd (omega arith)
 
-pub pair_net_values : (x y : NumberRead) (n m : ℕ) → x ≡ T.Value n → y ≡ T.Value m → R.Net n m ≡ pair_net x y
+pub pair_net_values : (x y : Option ℕ) (n m : ℕ) → x ≡ Some n → y ≡ Some m → Some (n, m) ≡ pair_net x y
 pair_net_values x y n m p q = rw (p, q)
 
-pub pair_net_read : (o p : Option ℕ) → pair_net (as_number o) (as_number p) ≡ as_net (o >>= λ n. p >>= λ m. some (n, m))
-pair_net_read none p = refl
-pair_net_read (some n) none = refl
-pair_net_read (some n) (some m) = refl
+pub pair_net_read : (o p : Option ℕ) → pair_net (as_number o) (as_number p) ≡ as_net (o >>= λ n. p >>= λ m. Some (n, m))
+pair_net_read None p = refl
+pair_net_read (Some n) None = refl
+pair_net_read (Some n) (Some m) = refl
 
 -- ## A mask, as an address or by its length
 
-module _ (s : List ℕ) (x : NumberRead) (is_x : x ≡ as_number (read_v4 s)) where
-  pub mask_written : (m : ℕ) → x ≡ T.Value m → T.Value m ≡ as_number (read_mask s)
+module _ (s : List ℕ) (x : Option ℕ) (is_x : x ≡ as_number (read_v4 s)) where
+  pub mask_written : (m : ℕ) → x ≡ Some m → Some m ≡ as_number (read_mask s)
   unfolding read_mask
   mask_written m e = by (read_v4 s) (sym is_x ∙ e)
     where
-      by : (o : Option ℕ) → as_number o ≡ T.Value m → T.Value m ≡ as_number (o or_else (read_decimal 32 s >>= λ k. some (length_mask k)))
-      by none k = let z : ◌≡◌ {A = ℕ} 0 1 = cc in absurd (omega arith)
-      by (some n) k = sym k
+      by : (o : Option ℕ) → as_number o ≡ Some m → Some m ≡ as_number (o or_else (read_decimal 32 s >>= λ k. Some (length_mask k)))
+      by None k = let z : ◌≡◌ {A = ℕ} 0 1 = cc in absurd (omega arith)
+      by (Some n) k = sym k
 
-  module _ (e : x ≡ T.Nothing) (y : NumberRead) (is_y : y ≡ as_number (read_decimal 32 s)) where
-    by_length : as_number (read_decimal 32 s >>= λ k. some (length_mask k)) ≡ as_number (read_mask s)
+  module _ (e : x ≡ None) (y : Option ℕ) (is_y : y ≡ as_number (read_decimal 32 s)) where
+    by_length : as_number (read_decimal 32 s >>= λ k. Some (length_mask k)) ≡ as_number (read_mask s)
     unfolding read_mask
     by_length = by (read_v4 s) (sym is_x ∙ e)
       where
-        by : (o : Option ℕ) → as_number o ≡ T.Nothing
-            → as_number (read_decimal 32 s >>= λ k. some (length_mask k)) ≡ as_number (o or_else (read_decimal 32 s >>= λ k. some (length_mask k)))
-        by none k = refl
-        by (some n) k = let z : ◌≡◌ {A = ℕ} 0 1 = cc in absurd (omega arith)
+        by : (o : Option ℕ) → as_number o ≡ None
+            → as_number (read_decimal 32 s >>= λ k. Some (length_mask k)) ≡ as_number (o or_else (read_decimal 32 s >>= λ k. Some (length_mask k)))
+        by None k = refl
+        by (Some n) k = let z : ◌≡◌ {A = ℕ} 0 1 = cc in absurd (omega arith)
 
-    pub mask_none : y ≡ T.Nothing → T.Nothing ≡ as_number (read_mask s)
+    pub mask_none : y ≡ None → None ≡ as_number (read_mask s)
     mask_none f = by (read_decimal 32 s) (sym is_y ∙ f) ∙ by_length
       where
-        by : (o : Option ℕ) → as_number o ≡ T.Nothing → T.Nothing ≡ as_number (o >>= λ k. some (length_mask k))
-        by none k = refl
-        by (some n) k = let z : ◌≡◌ {A = ℕ} 0 1 = cc in absurd (omega arith)
+        by : (o : Option ℕ) → as_number o ≡ None → None ≡ as_number (o >>= λ k. Some (length_mask k))
+        by None k = refl
+        by (Some n) k = let z : ◌≡◌ {A = ℕ} 0 1 = cc in absurd (omega arith)
 
-    module _ (m : ℕ) (f : y ≡ T.Value m) where
-      is_length : read_decimal 32 s ≡ some m
+    module _ (m : ℕ) (f : y ≡ Some m) where
+      is_length : read_decimal 32 s ≡ Some m
       is_length = by (read_decimal 32 s) (sym is_y ∙ f)
         where
-          by : (o : Option ℕ) → as_number o ≡ T.Value m → o ≡ some m
-          by none k = let z : ◌≡◌ {A = ℕ} 0 1 = cc in absurd (omega arith)
-          by (some n) k = cc
+          by : (o : Option ℕ) → as_number o ≡ Some m → o ≡ Some m
+          by None k = let z : ◌≡◌ {A = ℕ} 0 1 = cc in absurd (omega arith)
+          by (Some n) k = cc
 
       pub mask_length : m ≤ 32
       mask_length = read_decimal_le 32 m s is_length
 
-      pub mask_ones : (r : ℕ) → r ≡ length_mask m → T.Value r ≡ as_number (read_mask s)
-      mask_ones r is-r = ap T.Value is-r ∙ ap (λ (o : Option ℕ). as_number (o >>= λ k. some (length_mask k))) (sym is_length) ∙ by_length
+      pub mask_ones : (r : ℕ) → r ≡ length_mask m → Some r ≡ as_number (read_mask s)
+      mask_ones r is-r = ap Some is-r ∙ ap (λ (o : Option ℕ). as_number (o >>= λ k. Some (length_mask k))) (sym is_length) ∙ by_length
 
 -- ## A bracketed pattern
 
-pub prefix_length_none : (s : List ℕ) → length s ≡ 0 → T.Value 128 ≡ as_number (prefix_length s)
+pub prefix_length_none : (s : List ℕ) → length s ≡ 0 → Some 128 ≡ as_number (prefix_length s)
 unfolding prefix_length
 prefix_length_none [] h = refl
 prefix_length_none (x ∷ s) h = absurd (omega arith)
 
-pub prefix_length_bad : (s : List ℕ) → (length s ≡ 0 → ⊥) → (get_or s 0 0 ≡ 47 → ⊥) → T.Nothing ≡ as_number (prefix_length s)
+pub prefix_length_bad : (s : List ℕ) → (length s ≡ 0 → ⊥) → (get_or s 0 0 ≡ 47 → ⊥) → None ≡ as_number (prefix_length s)
 unfolding prefix_length any
 prefix_length_bad [] h n = absurd (h refl)
 prefix_length_bad (x ∷ s) h n = rw (ne_eqb x 47 n)
 
-pub prefix_length_read : (s : List ℕ) → (length s ≡ 0 → ⊥) → get_or s 0 0 ≡ 47 → (r : NumberRead) → r ≡ as_number (read_decimal 128 (take (length s - 1) (drop 1 s)))
+pub prefix_length_read : (s : List ℕ) → (length s ≡ 0 → ⊥) → get_or s 0 0 ≡ 47 → (r : Option ℕ) → r ≡ as_number (read_decimal 128 (take (length s - 1) (drop 1 s)))
     → r ≡ as_number (prefix_length s)
 unfolding prefix_length any
 prefix_length_read [] h n r q = absurd (h refl)
 prefix_length_read (x ∷ s) h n r q = q ∙ ap (λ (l : List ℕ). as_number (read_decimal 128 l)) (take_rest (x ∷ s) 1) ∙ rw (eq-eqb x 47 n)
 
-pub prefix_with_values : (x : V6Read) (y : NumberRead) (h l m : ℕ) → x ≡ V6.Value h l → y ≡ T.Value m → P.Prefix h l m ≡ prefix_with x y
+pub prefix_with_values : (x : Option (ℕ × ℕ)) (y : Option ℕ) (h l m : ℕ) → x ≡ Some (h, l) → y ≡ Some m → Some (h, l, m) ≡ prefix_with x y
 prefix_with_values x y h l m p q = rw (p, q)
 
-prefix_with_read : (o p : Option ℕ) → prefix_with (as_v6 o) (as_number p) ≡ as_prefix (o >>= λ n. p >>= λ m. some (n, m))
-prefix_with_read none p = refl
-prefix_with_read (some n) none = refl
-prefix_with_read (some n) (some m) = refl
+prefix_with_read : (o p : Option ℕ) → prefix_with (as_v6 o) (as_number p) ≡ as_prefix (o >>= λ n. p >>= λ m. Some (n, m))
+prefix_with_read None p = refl
+prefix_with_read (Some n) None = refl
+prefix_with_read (Some n) (Some m) = refl
 
-pub bracket_prefix_nil : (e : List ℕ) → length e ≡ 0 → P.Nothing ≡ as_prefix (bracket_prefix e)
+pub bracket_prefix_nil : (e : List ℕ) → length e ≡ 0 → None ≡ as_prefix (bracket_prefix e)
 unfolding bracket_prefix split_once
 bracket_prefix_nil [] h = refl
 bracket_prefix_nil (x ∷ e) h = absurd (omega arith)
 
 -- the text after the opening bracket, as the code has it
 module _ (e s : List ℕ) (is-s : s ≡ take (length e - 1) (drop 1 e)) (i : ℕ) (is-i : i ≡ index_of 93 s) where
-  pub bracket_prefix_open : i ≡ length s → P.Nothing ≡ as_prefix (bracket_prefix e)
+  pub bracket_prefix_open : i ≡ length s → None ≡ as_prefix (bracket_prefix e)
   unfolding bracket_prefix
   bracket_prefix_open h = rw (← (take_rest e 1), ← is-s, split_once_no_mark 93 s i is-i (omega arith))
 
-  pub bracket_prefix_pair : i ≤ length s → (i ≡ length s → ⊥) → (x : V6Read) (y : NumberRead) → x ≡ as_v6 (read_v6 (take i s))
-      → y ≡ as_number (prefix_length (take (length s - (i + 1)) (drop (i + 1) s))) → (r : PrefixRead) → r ≡ prefix_with x y → r ≡ as_prefix (bracket_prefix e)
+  pub bracket_prefix_pair : i ≤ length s → (i ≡ length s → ⊥) → (x : Option (ℕ × ℕ)) (y : Option ℕ) → x ≡ as_v6 (read_v6 (take i s))
+      → y ≡ as_number (prefix_length (take (length s - (i + 1)) (drop (i + 1) s))) → (r : Option (ℕ × ℕ × ℕ)) → r ≡ prefix_with x y → r ≡ as_prefix (bracket_prefix e)
   unfolding bracket_prefix
   bracket_prefix_pair h k x y is_x is_y r q =
       q ∙ ap₂ prefix_with is_x (is_y ∙ ap (λ (u : List ℕ). as_number (prefix_length u)) (take_rest s (i + 1)))

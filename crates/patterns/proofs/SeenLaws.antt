@@ -1,10 +1,10 @@
 -- Laws of a pattern that is checked and matched at once.
 -- Assumes nothing.
+use Rattle.std.specs.Prelude.{None, Option, Some}
 use Prim.Native.Nat.{ℕ, ◌+◌, ◌*◌, ◌^◌, ◌<◌}
 use mathlib.Core.Bool.{Bool, true, false, not, ◌&&◌, ◌||◌, true≢false}
 use mathlib.Core.Bool as Bool
 use mathlib.Core.List.{List, [], ◌∷◌}
-use mathlib.Core.Option.{Option, none, some}
 use mathlib.Core.Path.{◌≡◌, refl, sym, ap, ap₂, ◌∙◌}
 use lib.Bits.{bit_and}
 use lib.Dec.{eqb}
@@ -18,10 +18,6 @@ use Rattle.address.specs.declared.Addr.{Addr}
 use Rattle.address.specs.declared.Addr.TheVariants as A
 use Rattle.patterns.specs.declared.Host.{Host}
 use Rattle.patterns.specs.declared.HostSeen.{HostSeen}
-use Rattle.patterns.specs.declared.net.NetRead.{NetRead}
-use Rattle.patterns.specs.declared.net.NetRead.TheVariants as R
-use Rattle.patterns.specs.declared.net.PrefixRead.{PrefixRead}
-use Rattle.patterns.specs.declared.net.PrefixRead.TheVariants as P
 use Rattle.patterns.specs.declared.pattern.Form.{Form}
 use Rattle.patterns.specs.declared.pattern.Form.TheVariants as F
 use Rattle.patterns.specs.declared.pattern.Wildcard.{Wildcard}
@@ -66,27 +62,27 @@ module _ (e : List ℕ) (look : Bool) (host : Host) (name : List ℕ) (x : Bool)
 
 -- ## Dotted patterns
 
-module _ (r : NetRead) where
-  pub net_none : r ≡ R.Nothing → host_seen false false ≡ host_seen (net_sound r) false
+module _ (r : Option (ℕ × ℕ)) where
+  pub net_none : r ≡ None → host_seen false false ≡ host_seen (net_sound r) false
   net_none q = rw q
 
-  pub net_some : (n m : ℕ) → r ≡ R.Net n m → host_seen true false ≡ host_seen (net_sound r) false
+  pub net_some : (n m : ℕ) → r ≡ Some (n, m) → host_seen true false ≡ host_seen (net_sound r) false
   net_some n m q = rw q
 
   module _ (look : Bool) (a : ℕ) where
-    pub net_unread : r ≡ R.Nothing → host_seen false false ≡ host_seen (net_sound r) (look && net_covers r a)
+    pub net_unread : r ≡ None → host_seen false false ≡ host_seen (net_sound r) (look && net_covers r a)
     net_unread q = rw q (ap (host_seen false) (sym (Bool.and-false look)))
 
-    pub net_read : (n m : ℕ) → r ≡ R.Net n m → (x : Bool) → x ≡ eqb n (bit_and a m) → host_seen true (look && x) ≡ host_seen (net_sound r) (look && net_covers r a)
+    pub net_read : (n m : ℕ) → r ≡ Some (n, m) → (x : Bool) → x ≡ eqb n (bit_and a m) → host_seen true (look && x) ≡ host_seen (net_sound r) (look && net_covers r a)
     net_read n m q x is_x = rw (q, is_x)
 
-module _ (e : List ℕ) (look : Bool) (host : Host) (r : NetRead) (is-r : r ≡ as_net (dotted_net e)) (x : HostSeen) where
+module _ (e : List ℕ) (look : Bool) (host : Host) (r : Option (ℕ × ℕ)) (is-r : r ≡ as_net (dotted_net e)) (x : HostSeen) where
   net_is : net_sound r ≡ is_some (dotted_pattern e)
   net_is = ap net_sound is-r ∙ by (dotted_net e) ∙ sym (dotted_pattern_sound e)
     where
       by : (o : Option (ℕ × ℕ)) → net_sound (as_net o) ≡ is_some o
-      by none = refl
-      by (some p) = refl
+      by None = refl
+      by (Some p) = refl
 
   unmatched : dotted_covers e host ≡ false → x ≡ host_seen (net_sound r) false → x ≡ host_seen (is_some (dotted_pattern e)) (look && dotted_covers e host)
   unmatched q is_x = is_x ∙ ap₂ host_seen net_is (sym (ap (λ (m : Bool). look && m) q ∙ Bool.and-false look))
@@ -105,8 +101,8 @@ module _ (e : List ℕ) (look : Bool) (host : Host) (r : NetRead) (is-r : r ≡ 
 
 -- ## Bracketed patterns
 
-module _ (e : List ℕ) (look : Bool) (host : Host) (r : PrefixRead) (is-r : r ≡ as_prefix (bracket_prefix e)) where
-  pub bracket_unread : r ≡ P.Nothing → host_seen false false ≡ host_seen (is_some (bracket_pattern e)) (look && bracket_covers e host)
+module _ (e : List ℕ) (look : Bool) (host : Host) (r : Option (ℕ × ℕ × ℕ)) (is-r : r ≡ as_prefix (bracket_prefix e)) where
+  pub bracket_unread : r ≡ None → host_seen false false ≡ host_seen (is_some (bracket_pattern e)) (look && bracket_covers e host)
   bracket_unread q = ap₂ host_seen (bracket_pattern_nothing e r is-r q) (sym (ap (λ (m : Bool). look && m) (by host.addr) ∙ Bool.and-false look))
     where
       by : (a : Addr) → addr_case a false (λ n. false) (prefix_covers e) ≡ false
@@ -114,7 +110,7 @@ module _ (e : List ℕ) (look : Bool) (host : Host) (r : PrefixRead) (is-r : r �
       by (A.V4 a) = refl
       by (A.V6 h l) = sym (prefix_covers_nothing e r is-r q (h * 2 ^ 64 + l))
 
-  pub bracket_read : (h l m : ℕ) → r ≡ P.Prefix h l m → (x : Bool) → x ≡ prefix_holds (h * 2 ^ 64 + l) m host
+  pub bracket_read : (h l m : ℕ) → r ≡ Some (h, l, m) → (x : Bool) → x ≡ prefix_holds (h * 2 ^ 64 + l) m host
       → host_seen true (look && x) ≡ host_seen (is_some (bracket_pattern e)) (look && bracket_covers e host)
   bracket_read h l m q x is_x = ap₂ host_seen (bracket_pattern_prefix e r is-r h l m q) (ap (λ (m : Bool). look && m) (is_x ∙ by host.addr))
     where
@@ -163,7 +159,7 @@ module _ (e : List ℕ) (w : Wildcard) (is-w : w ≡ wildcard_of e) (look : Bool
   found : (v : Wildcard) → w ≡ v → (x : HostSeen) → x ≡ pattern_seen look (wildcard_pattern v or_else form_pattern (form_of e) e) (endpoint host name) → Found x
   found v q x is_x = rw (host_pattern_at e w v is-w q) is_x
 
-  wildcard_seen : (v : Wildcard) (f : Endpoint → Bool) → wildcard_pattern v ≡ some f → w ≡ v → (x : Bool) → x ≡ f (endpoint host name)
+  wildcard_seen : (v : Wildcard) (f : Endpoint → Bool) → wildcard_pattern v ≡ Some f → w ≡ v → (x : Bool) → x ≡ f (endpoint host name)
       → Found (host_seen true (look && x))
   unfolding pattern_seen
   wildcard_seen v f p q x is_x = found v q (host_seen true (look && x)) (rw (p, is_x))

@@ -5,27 +5,18 @@
 --   wildcard_of e, form_of e       == the wildcard that e is; what e is read as where it is none
 --   dotted_net e, bracket_prefix e == the net and mask, or the address and prefix length, that a pattern of addresses writes
 -- Assumes nothing: these are definitions.
-use Rattle.std.specs.Prelude.{ℕ, ◌-◌, ◌*◌, ◌/◌, ◌%◌, ◌^◌, Bool, true, false, not, ◌&&◌, ◌||◌, List, [], ◌∷◌, ◌≡◌, leb, ltb, eqb, length, take, drop}
-use Rattle.std.proofs.Math.Option.{Option, none, some}
+use Rattle.std.specs.Prelude.{ℕ, ◌-◌, ◌*◌, ◌/◌, ◌%◌, ◌^◌, Bool, true, false, not, ◌&&◌, ◌||◌, List, [], ◌∷◌, ◌≡◌, leb, ltb, eqb, length, take, drop, None, Option, Some}
 use Rattle.std.specs.Int.Bits.{bit_and}
 use Rattle.text.specs.Basics.{when◌then◌else◌, ◌>>=◌, ◌or_else◌, given, holds, is_some, any, all, each}
 use Rattle.text.specs.Text.{bytes, among, first_among, last_among, split_once, split, is_digit, equal_fold, is_word}
 use Rattle.text.specs.Number.{from_digits, read_decimal}
-use Rattle.text.specs.declared.NumberRead.{NumberRead}
-use Rattle.text.specs.declared.NumberRead.TheVariants as T
 use Rattle.address.specs.Address.{same_prefix, addr_case, read_v4, read_v6}
-use Rattle.address.specs.declared.read.V6Read.{V6Read}
-use Rattle.address.specs.declared.read.V6Read.TheVariants as V6
 use Rattle.patterns.specs.declared.Host.{Host}
 use Rattle.patterns.specs.declared.HostSeen.{HostSeen}
 use Rattle.patterns.specs.declared.pattern.Wildcard.{Wildcard}
 use Rattle.patterns.specs.declared.pattern.Wildcard.TheVariants as W
 use Rattle.patterns.specs.declared.pattern.Form.{Form}
 use Rattle.patterns.specs.declared.pattern.Form.TheVariants as F
-use Rattle.patterns.specs.declared.net.NetRead.{NetRead}
-use Rattle.patterns.specs.declared.net.NetRead.TheVariants as R
-use Rattle.patterns.specs.declared.net.PrefixRead.{PrefixRead}
-use Rattle.patterns.specs.declared.net.PrefixRead.TheVariants as P
 use Rattle.patterns.specs.Host.{Endpoint, name_case, name_known, addr_known}
 use Rattle.patterns.specs.Pattern.{Pattern, is_name_byte, domain_pattern, leading_fields, read_mask, net_mask, bracket_pattern, dotted_pattern, name_pattern, host_pattern}
 
@@ -62,12 +53,12 @@ pub record Named (e : List ℕ) : Type 0 where
 
 -- what a wildcard matches
 abbrev pub wildcard_pattern : Wildcard → Pattern
-wildcard_pattern W.Nothing = none
-wildcard_pattern W.All = some λ h. true
-wildcard_pattern W.Local = some λ h. name_known h && not (any (among ".") h.name)
-wildcard_pattern W.Known = some λ h. name_known h && addr_known h
-wildcard_pattern W.Unknown = some λ h. name_case h true false false || not (addr_known h)
-wildcard_pattern W.Paranoid = some λ h. name_case h false true false
+wildcard_pattern W.Nothing = None
+wildcard_pattern W.All = Some λ h. true
+wildcard_pattern W.Local = Some λ h. name_known h && not (any (among ".") h.name)
+wildcard_pattern W.Known = Some λ h. name_known h && addr_known h
+wildcard_pattern W.Unknown = Some λ h. name_case h true false false || not (addr_known h)
+wildcard_pattern W.Paranoid = Some λ h. name_case h false true false
 
 -- ## Matching
 
@@ -100,9 +91,9 @@ host_matches e h = matches_pattern (host_pattern e) h
 
 -- ## Nets and prefixes
 
-abbrev pub as_net : Option (ℕ × ℕ) → NetRead
-as_net none = R.Nothing
-as_net (some p) = R.Net p.0 p.1
+abbrev pub as_net : Option (ℕ × ℕ) → Option (ℕ × ℕ)
+as_net None = None
+as_net (Some p) = Some (p.0, p.1)
 
 -- the net of the k leading fields that write n
 abbrev pub leading_net : ℕ → ℕ → ℕ × ℕ
@@ -110,7 +101,7 @@ leading_net k n = (n * 2 ^ (32 - 8 * k), 2 ^ 32 - 2 ^ (32 - 8 * k))
 
 -- the fields of t, each followed by a dot
 unfoldable pub dotted_fields : List ℕ → Option (List ℕ)
-dotted_fields t = when last_among "." t then each (read_decimal 255) (split "." (take (length t - 1) t)) else none
+dotted_fields t = when last_among "." t then each (read_decimal 255) (split "." (take (length t - 1) t)) else None
 
 -- the net of one to three such fields
 unfoldable pub fields_net : List ℕ → Option (ℕ × ℕ)
@@ -118,55 +109,55 @@ fields_net t = do
   fs ← dotted_fields t
   given (leb (length fs) 3) (leading_net (length fs) (from_digits 256 0 fs))
 
-abbrev pub pair_net : NumberRead → NumberRead → NetRead
-pair_net T.Nothing m = R.Nothing
-pair_net (T.Value n) T.Nothing = R.Nothing
-pair_net (T.Value n) (T.Value m) = R.Net n m
+abbrev pub pair_net : Option ℕ → Option ℕ → Option (ℕ × ℕ)
+pair_net None m = None
+pair_net (Some n) None = None
+pair_net (Some n) (Some m) = Some (n, m)
 
 unfoldable pub mask_net : List ℕ → Option (ℕ × ℕ)
 mask_net e = do
   p ← split_once (bytes "/") e
   net ← read_v4 p.0
   mask ← read_mask p.1
-  some (net, mask)
+  Some (net, mask)
 
 unfoldable pub dotted_net : List ℕ → Option (ℕ × ℕ)
-dotted_net e = (read_v4 e >>= λ n. some (n, 4294967295)) or_else fields_net e or_else mask_net e
+dotted_net e = (read_v4 e >>= λ n. Some (n, 4294967295)) or_else fields_net e or_else mask_net e
 
 -- an address of 128 bits, and the number of leading bits to compare
-abbrev pub as_prefix : Option (ℕ × ℕ) → PrefixRead
-as_prefix none = P.Nothing
-as_prefix (some p) = P.Prefix (p.0 / 2 ^ 64) (p.0 % 2 ^ 64) p.1
+abbrev pub as_prefix : Option (ℕ × ℕ) → Option (ℕ × ℕ × ℕ)
+as_prefix None = None
+as_prefix (Some p) = Some ((p.0 / 2 ^ 64), (p.0 % 2 ^ 64), p.1)
 
-abbrev pub prefix_with : V6Read → NumberRead → PrefixRead
-prefix_with V6.Nothing m = P.Nothing
-prefix_with (V6.Value h l) T.Nothing = P.Nothing
-prefix_with (V6.Value h l) (T.Value m) = P.Prefix h l m
+abbrev pub prefix_with : Option (ℕ × ℕ) → Option ℕ → Option (ℕ × ℕ × ℕ)
+prefix_with None m = None
+prefix_with (Some (h, l)) None = None
+prefix_with (Some (h, l)) (Some m) = Some (h, l, m)
 
 unfoldable pub prefix_length : List ℕ → Option ℕ
-prefix_length [] = some 128
-prefix_length (x ∷ t) = when among "/" x then read_decimal 128 t else none
+prefix_length [] = Some 128
+prefix_length (x ∷ t) = when among "/" x then read_decimal 128 t else None
 
 unfoldable pub bracket_prefix : List ℕ → Option (ℕ × ℕ)
 bracket_prefix e = do
   p ← split_once (bytes "]") (drop 1 e)
   n ← read_v6 p.0
   m ← prefix_length p.1
-  some (n, m)
+  Some (n, m)
 
 -- ## What patterns of addresses cover
 
-abbrev pub net_sound : NetRead → Bool
-net_sound R.Nothing = false
-net_sound (R.Net n m) = true
+abbrev pub net_sound : Option (ℕ × ℕ) → Bool
+net_sound None = false
+net_sound (Some (n, m)) = true
 
-abbrev pub net_covers : NetRead → ℕ → Bool
-net_covers R.Nothing a = false
-net_covers (R.Net n m) a = eqb n (bit_and a m)
+abbrev pub net_covers : Option (ℕ × ℕ) → ℕ → Bool
+net_covers None a = false
+net_covers (Some (n, m)) a = eqb n (bit_and a m)
 
 -- what a dotted pattern tests of an IPv4 address
 unfoldable pub dotted_test : List ℕ → Option (ℕ → Bool)
-dotted_test e = (read_v4 e >>= λ n. some (eqb n)) or_else leading_fields e or_else net_mask e
+dotted_test e = (read_v4 e >>= λ n. Some (eqb n)) or_else leading_fields e or_else net_mask e
 
 abbrev pub dotted_covers : List ℕ → Host → Bool
 dotted_covers e h = addr_case h.addr false (λ a. holds (λ f. f a) (dotted_test e)) (λ a. false)

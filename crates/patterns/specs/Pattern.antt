@@ -1,9 +1,8 @@
 -- Document 01, "Elements": host patterns. A pattern is what it matches, none where it is of no kind.
 --   host_pattern e == the pattern that e writes
 -- Assumes nothing: these are definitions.
-use Rattle.std.specs.Prelude.{ℕ, ◌-◌, ◌^◌, Bool, true, false, not, ◌&&◌, ◌||◌, List, [], ◌∷◌, length, take, drop, leb, ltb, eqb}
+use Rattle.std.specs.Prelude.{ℕ, ◌-◌, ◌^◌, Bool, true, false, not, ◌&&◌, ◌||◌, List, [], ◌∷◌, length, take, drop, leb, ltb, eqb, None, Option, Some}
 use Prim.Native.String.{String}
-use Rattle.std.proofs.Math.Option.{Option, none, some}
 use Rattle.std.specs.Int.Bits.{bit_and}
 use Rattle.text.specs.Basics.{when◌then◌else◌, ◌>>=◌, ◌or_else◌, given, any, all, first, each}
 use Rattle.text.specs.Text.{bytes, among, starts_with, first_among, last_among, split_once, split, in_range, is_digit, is_letter, equal_fold, is_word}
@@ -43,11 +42,11 @@ bracket_pattern e = do
   p ← split_once (bytes "]") (drop 1 e)
   n ← read_v6 p.0
   m ← prefix_length p.1
-  some λ h. addr_case h.host.addr false (λ a. false) (same_prefix 128 m n)
+  Some λ h. addr_case h.host.addr false (λ a. false) (same_prefix 128 m n)
   where
     prefix_length : List ℕ → Option ℕ
-    prefix_length [] = some 128
-    prefix_length (x ∷ t) = when among "/" x then read_decimal 128 t else none
+    prefix_length [] = Some 128
+    prefix_length (x ∷ t) = when among "/" x then read_decimal 128 t else None
 
 -- "one to three fields, each followed by a dot (first fields of the address)"
 unfoldable pub leading_fields : List ℕ → Option (ℕ → Bool)
@@ -60,7 +59,7 @@ abbrev pub length_mask : ℕ → ℕ
 length_mask m = 2 ^ 32 - 2 ^ (32 - m)
 
 unfoldable pub read_mask : List ℕ → Option ℕ
-read_mask t = read_v4 t or_else (read_decimal 32 t >>= λ m. some (length_mask m))
+read_mask t = read_v4 t or_else (read_decimal 32 t >>= λ m. Some (length_mask m))
 
 -- "net/mask, matched when `net` equals the bitwise AND of the address and the mask"; request 2: "after a four-field net", "Net bits
 -- outside the mask still match nothing."
@@ -69,13 +68,13 @@ net_mask e = do
   p ← split_once (bytes "/") e
   net ← read_v4 p.0
   mask ← read_mask p.1
-  some λ a. eqb net (bit_and a mask)
+  Some λ a. eqb net (bit_and a mask)
 
 -- "Only digits, dots, slashes: `n.n.n.n`; one to three fields ..; or net/mask .. These match IPv4 addresses only, never a name."
 unfoldable pub dotted_pattern : List ℕ → Pattern
 dotted_pattern e = do
-  f ← (read_v4 e >>= λ n. some (eqb n)) or_else leading_fields e or_else net_mask e
-  some λ h. addr_case h.host.addr false f (λ a. false)
+  f ← (read_v4 e >>= λ n. Some (eqb n)) or_else leading_fields e or_else net_mask e
+  Some λ h. addr_case h.host.addr false f (λ a. false)
 
 -- "Otherwise a known name, equal."; names "are 1 to 255 bytes, and don't end in a dot unless they begin with one"
 unfoldable pub name_pattern : List ℕ → Pattern

@@ -1,7 +1,6 @@
 // Patterns of addresses: the dotted ones of IPv4 are read as a net and a mask, the bracketed ones of IPv6 as a prefix.
 //   dotted_seen(e, look, host), bracket_seen(e, look, host) == whether e is such a pattern and, if it is looked at, matches the host's address
 ghost use Rattle.std.specs.Prelude.{◌≡◌, false, ◌&&◌, ◌+◌, ◌*◌, ◌^◌, ◌<◌, ◌≤◌};
-ghost use Rattle.std.proofs.Math.Option.{some};
 ghost use Rattle.text.specs.Basics.{is_some};
 ghost use Rattle.text.specs.Scan.{as_number};
 ghost use Rattle.patterns.specs.Pattern.{bracket_pattern, read_mask, dotted_pattern};
@@ -13,88 +12,74 @@ use super::{Host, HostSeen};
 use address::Addr;
 use address::fields::{Run, ended_address, run_over};
 use address::prefix::{in_net, leading_ones_v4, same_prefix_v6};
-use address::read::{V6Read, read_v4, read_v6};
-use text::NumberRead;
-
-// A net and the mask that an address is put under before it is compared with the net.
-#[derive(Clone, Copy)]
-enum NetRead {
-    Nothing,
-    Net(u32, u32),
-}
-
-// An IPv6 address as its two halves, and how many of its leading bits are compared.
-#[derive(Clone, Copy)]
-enum PrefixRead {
-    Nothing,
-    Prefix(u64, u64, u32),
-}
+use address::read::read_v4;
+use address::read::read_v6;
 
 // A mask: as an address, or as the number of its leading ones.
-fn read_mask(s: &[u8]) -> NumberRead
+fn read_mask(s: &[u8]) -> Option<u32>
     ensures { result ≡ as_number (read_mask s.now) }
 {
     match read_v4(s) {
-        NumberRead::Value(mask) => NumberRead::Value(mask),
-        NumberRead::Nothing => match text::read_decimal(s, 32) {
-            NumberRead::Nothing => NumberRead::Nothing,
-            NumberRead::Value(m) => NumberRead::Value(leading_ones_v4(m)),
+        Some(mask) => Some(mask),
+        None => match text::read_decimal(s, 32) {
+            None => None,
+            Some(m) => Some(leading_ones_v4(m)),
         },
     }
 }
 
 // The net of count leading fields, which write n.
-fn leading_net(n: u32, count: u32) -> NetRead
+fn leading_net(n: u32, count: u32) -> Option<(u32, u32)>
     requires { (1 ≤ count) × (count ≤ 3) × (n < 256 ^ count) }
-    ensures { result ≡ as_net (some (leading_net count n)) }
+    ensures { result ≡ as_net (Some (leading_net count n)) }
 {
     let shift = 32 - 8 * count;
-    NetRead::Net(n << shift, (4294967295 >> shift) << shift)
+    Some((n << shift, (4294967295 >> shift) << shift))
 }
 
 // A net and a mask, where both were read.
-fn pair_net(net: NumberRead, mask: NumberRead) -> NetRead
+fn pair_net(net: Option<u32>, mask: Option<u32>) -> Option<(u32, u32)>
     ensures { result ≡ pair_net net mask }
 {
     match net {
-        NumberRead::Nothing => NetRead::Nothing,
-        NumberRead::Value(n) => match mask {
-            NumberRead::Nothing => NetRead::Nothing,
-            NumberRead::Value(m) => NetRead::Net(n, m),
+        None => None,
+        Some(n) => match mask {
+            None => None,
+            Some(m) => Some((n, m)),
         },
     }
 }
 
 // The net of a dotted pattern without a slash, by the state of the pass over its fields: an address, as the net of that address alone, or one
 // to three fields, each with its dot.
-fn ended_net(n: u32, k: u32, v: u32, begun: bool) -> NetRead
+fn ended_net(n: u32, k: u32, v: u32, begun: bool) -> Option<(u32, u32)>
     requires n_bound { n < 16777216 }
     requires v_bound { v ≤ 255 }
     requires k_bound { (k ≤ 3) × (n < 256 ^ k) }
     ensures { result ≡ as_net (ended_net n k v begun) }
 {
     if begun {
-        return pair_net(ended_address(n, k, v, begun), NumberRead::Value(4294967295));
+        return pair_net(ended_address(n, k, v, begun), Some(4294967295));
     }
     if k == 0 {
-        return NetRead::Nothing;
+        return None;
     }
     leading_net(n, k)
 }
 
 // The net of a dotted pattern, read in one pass: where a slash stops it, the mask follows.
-fn read_dotted(e: &[u8]) -> NetRead
+fn read_dotted(e: &[u8]) -> Option<(u32, u32)>
     ensures { result ≡ as_net (dotted_net e.now) }
 {
     let run = run_over(e, 0);
     match run {
-        Run::Failed => NetRead::Nothing,
+        Run::Failed => None,
         Run::At(j, n, k, v, begun) => {
             if e.len() <= j {
                 return ended_net(n, k, v, begun);
             }
             if e[j] != b'/' {
-                return NetRead::Nothing;
+                return None;
             }
             let after = j + 1;
             pair_net(ended_address(n, k, v, begun), read_mask(&e[after..]))
@@ -103,57 +88,57 @@ fn read_dotted(e: &[u8]) -> NetRead
 }
 
 // The prefix length after the bracket: none written is 128.
-fn read_length(s: &[u8]) -> NumberRead
+fn read_length(s: &[u8]) -> Option<u32>
     ensures { result ≡ as_number (prefix_length s.now) }
 {
     if s.len() == 0 {
-        return NumberRead::Value(128);
+        return Some(128);
     }
     if s[0] != b'/' {
-        return NumberRead::Nothing;
+        return None;
     }
     text::read_decimal(&s[1..], 128)
 }
 
 // An address and a prefix length, where both were read.
-fn pair_prefix(address: V6Read, length: NumberRead) -> PrefixRead
+fn pair_prefix(address: Option<(u64, u64)>, length: Option<u32>) -> Option<(u64, u64, u32)>
     ensures { result ≡ prefix_with address length }
 {
     match address {
-        V6Read::Nothing => PrefixRead::Nothing,
-        V6Read::Value(high, low) => match length {
-            NumberRead::Nothing => PrefixRead::Nothing,
-            NumberRead::Value(m) => PrefixRead::Prefix(high, low, m),
+        None => None,
+        Some((high, low)) => match length {
+            None => None,
+            Some(m) => Some((high, low, m)),
         },
     }
 }
 
 // The prefix of a bracketed pattern: what stands between its first byte and the first closing bracket, and after that.
-fn read_bracket(e: &[u8]) -> PrefixRead
+fn read_bracket(e: &[u8]) -> Option<(u64, u64, u32)>
     ensures { result ≡ as_prefix (bracket_prefix e.now) }
 {
     if e.len() == 0 {
-        return PrefixRead::Nothing;
+        return None;
     }
     let s = &e[1..];
     let i = text::index_of(s, b']');
     if i == s.len() {
-        return PrefixRead::Nothing;
+        return None;
     }
     let after = i + 1;
     pair_prefix(read_v6(&s[..i]), read_length(&s[after..]))
 }
 
 // Whether a net was read, where no address is compared with it.
-fn net_sound(net: NetRead) -> HostSeen
+fn net_sound(net: Option<(u32, u32)>) -> HostSeen
     ensures { result ≡ host_seen (net_sound net) false }
 {
     match net {
-        NetRead::Nothing => HostSeen {
+        None => HostSeen {
             sound: false,
             matches: false,
         },
-        NetRead::Net(_, _) => HostSeen {
+        Some((_, _)) => HostSeen {
             sound: true,
             matches: false,
         },
@@ -161,15 +146,15 @@ fn net_sound(net: NetRead) -> HostSeen
 }
 
 // Whether a net was read and, if it is looked at, an address lies in it.
-fn net_seen(net: NetRead, look: bool, a: u32) -> HostSeen
+fn net_seen(net: Option<(u32, u32)>, look: bool, a: u32) -> HostSeen
     ensures { result ≡ host_seen (net_sound net) (look && net_covers net a) }
 {
     match net {
-        NetRead::Nothing => HostSeen {
+        None => HostSeen {
             sound: false,
             matches: false,
         },
-        NetRead::Net(net, mask) => HostSeen {
+        Some((net, mask)) => HostSeen {
             sound: true,
             matches: look & in_net(net, mask, a),
         },
@@ -207,11 +192,11 @@ pub fn bracket_seen(e: &[u8], look: bool, host: Host) -> HostSeen
 {
     let prefix = read_bracket(e);
     match prefix {
-        PrefixRead::Nothing => HostSeen {
+        None => HostSeen {
             sound: false,
             matches: false,
         },
-        PrefixRead::Prefix(high, low, m) => HostSeen {
+        Some((high, low, m)) => HostSeen {
             sound: true,
             matches: look & prefix_matches(host, high, low, m),
         },

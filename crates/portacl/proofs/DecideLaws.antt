@@ -1,9 +1,9 @@
 -- Laws that tie what the code computes to the definitions of the decision.
 -- Assumes nothing.
+use Rattle.std.specs.Prelude.{Err, None, Ok, Option, Result, Some}
 use Prim.Native.Nat.{ℕ, ◌+◌, ◌<◌, ◌≤◌}
 use mathlib.Core.Bool.{Bool, true, false, not, ◌&&◌, ◌||◌, or-false, or_assoc}
 use mathlib.Core.List.{List, [], ◌∷◌, map}
-use mathlib.Core.Option.{Option, none, some}
 use mathlib.Core.Path.{◌≡◌, refl, sym, ap, ap₂, ◌∙◌}
 use native.Mathlib.Omega.{arith}
 use borrow.Author.Tests.{eq-eqb, ne_eqb, lt-ltb, le-ltb, lt-leb, le-leb}
@@ -16,32 +16,24 @@ use Rattle.section.specs.declared.Fault.TheVariants as F
 use Rattle.section.specs.declared.Refusal.{Refusal}
 use Rattle.section.specs.Refusal.{refusal, placeless}
 use Rattle.section.specs.Section as S
-use Rattle.portacl.specs.declared.Checked.{Checked}
-use Rattle.portacl.specs.declared.Checked.TheVariants as C
 use Rattle.portacl.specs.declared.Decision.{Decision}
 use Rattle.portacl.specs.declared.Decision.TheVariants.{NotRuled, Exempt, Granted, Denied}
 use Rattle.portacl.specs.declared.Entry.{Entry}
 use Rattle.portacl.specs.declared.Protocol.{Protocol}
-use Rattle.portacl.specs.declared.EntryRead.{EntryRead}
-use Rattle.portacl.specs.declared.EntryRead.TheVariants.{Nothing, Value}
 use Rattle.portacl.specs.declared.Protocol.TheVariants.{Tcp, Udp}
-use Rattle.portacl.specs.declared.Ruling.{Ruling}
-use Rattle.portacl.specs.declared.Ruling.TheVariants.{Refused, Answered}
 use Rattle.portacl.specs.declared.Settings.{Settings}
-use Rattle.portacl.specs.declared.Walked.{Walked}
-use Rattle.portacl.specs.declared.Walked.TheVariants.{Bad, Sound}
 use Rattle.portacl.specs.Portacl.{bind, Bind, portacl_ruling, read_word, read_entry, entries, entry_fault, portacl_fault, portacl_decision, decide_portacl}
 use Rattle.portacl.specs.Code.{checked_of, as_entry, entry_data, id_data, protocol_data, port_data, grants_to, entries_data, walk, decision_of}
 use Rattle.portacl.proofs.WalkLaws.{as_entry_none, as_entry_some}
 
 -- what an entry that was read grants
 abbrev pub grants_of : Option Entry → Option (Bind → Bool)
-grants_of none = none
-grants_of (some x) = some (grants_to x)
+grants_of None = None
+grants_of (Some x) = Some (grants_to x)
 
 step : {A : Type 0} (o : Option A) (f : A → Option Entry) (g : A → Option (Bind → Bool)) → ((a : A) → g a ≡ grants_of (f a)) → (o >>= g) ≡ grants_of (o >>= f)
-step none f g h = refl
-step (some a) f g h = h a
+step None f g h = refl
+step (Some a) f g h = h a
 
 read_entry_entry_data : (e : List ℕ) → read_entry e ≡ grants_of (entry_data e)
 unfolding read_entry entry_data id_data protocol_data port_data grants_to
@@ -55,11 +47,11 @@ read_entry_entry_data e =
     step (read_decimal 65535 d.1) _ _ λ port. refl
 
 -- whether there is an entry, from the code's answer
-module _ (e : List ℕ) (r : EntryRead) (is-r : r ≡ as_entry (entry_data e)) where
-  pub entry_none : r ≡ Nothing → false ≡ is_some (read_entry e)
+module _ (e : List ℕ) (r : Option Entry) (is-r : r ≡ as_entry (entry_data e)) where
+  pub entry_none : r ≡ None → false ≡ is_some (read_entry e)
   entry_none k = rw (read_entry_entry_data e, as_entry_none (entry_data e) (sym is-r ∙ k))
 
-  pub entry_some : (x : Entry) → r ≡ Value x → true ≡ is_some (read_entry e)
+  pub entry_some : (x : Entry) → r ≡ Some x → true ≡ is_some (read_entry e)
   entry_some x k = rw (read_entry_entry_data e, as_entry_some x (entry_data e) (sym is-r ∙ k))
 
 -- ## The entries
@@ -74,53 +66,53 @@ entries_entries_data [] = refl
 entries_entries_data (x ∷ t) = map_read_entry (split "," (x ∷ t))
 
 -- the refusal by what the walk found
-abbrev fault_of : Walked → Option Refusal
-fault_of (Bad n) = some (refusal F.BadEntry (S.portacl).order n)
-fault_of (Sound g) = none
+abbrev fault_of : Result Bool ℕ → Option Refusal
+fault_of (Err n) = Some (refusal F.BadEntry (S.portacl).order n)
+fault_of (Ok g) = None
 
 entry_fault_walk : (b : Bind) (n : ℕ) (g : Bool) (es : List (Option Entry)) → entry_fault n (map grants_of es) ≡ fault_of (walk b n g es)
 unfolding entry_fault walk
 entry_fault_walk b n g [] = refl
-entry_fault_walk b n g (none ∷ es) = refl
-entry_fault_walk b n g (some x ∷ es) = entry_fault_walk b (n + 1) (g || grants_to x b) es
+entry_fault_walk b n g (None ∷ es) = refl
+entry_fault_walk b n g (Some x ∷ es) = entry_fault_walk b (n + 1) (g || grants_to x b) es
 
-any_walk : (b : Bind) (n : ℕ) (g h : Bool) (es : List (Option Entry)) → walk b n g es ≡ Sound h → h ≡ (g || any (holds λ grants. grants b) (map grants_of es))
+any_walk : (b : Bind) (n : ℕ) (g h : Bool) (es : List (Option Entry)) → walk b n g es ≡ Ok h → h ≡ (g || any (holds λ grants. grants b) (map grants_of es))
 unfolding walk any
 any_walk b n g h [] e = let q : h ≡ g = cc in q ∙ sym (or-false g)
-any_walk b n g h (none ∷ es) e = let z : ◌≡◌ {A = ℕ} 0 1 = cc in absurd (omega arith)
-any_walk b n g h (some x ∷ es) e = any_walk b (n + 1) (g || grants_to x b) h es e ∙ or_assoc g (grants_to x b) (any (holds λ grants. grants b) (map grants_of es))
+any_walk b n g h (None ∷ es) e = let z : ◌≡◌ {A = ℕ} 0 1 = cc in absurd (omega arith)
+any_walk b n g h (Some x ∷ es) e = any_walk b (n + 1) (g || grants_to x b) h es e ∙ or_assoc g (grants_to x b) (any (holds λ grants. grants b) (map grants_of es))
 
 -- ## The check
 
-module _ (t : List ℕ) (b : Bind) (w : Walked) (is-w : w ≡ walk b 1 false (entries_data t)) where
+module _ (t : List ℕ) (b : Bind) (w : Result Bool ℕ) (is-w : w ≡ walk b 1 false (entries_data t)) where
   portacl_fault_walk : portacl_fault t ≡ fault_of w
   unfolding portacl_fault
   portacl_fault_walk = rw (entries_entries_data t, is-w) (entry_fault_walk b 1 false (entries_data t))
 
-  module _ (n : ℕ) (e : w ≡ Bad n) (r : Refusal) (is-r : r ≡ refusal F.BadEntry (S.portacl).order n) where
-    fault_bad : portacl_fault t ≡ some r
+  module _ (n : ℕ) (e : w ≡ Err n) (r : Refusal) (is-r : r ≡ refusal F.BadEntry (S.portacl).order n) where
+    fault_bad : portacl_fault t ≡ Some r
     fault_bad = portacl_fault_walk ∙ rw (e, is-r)
 
-    pub check_bad : C.Refused r ≡ checked_of (portacl_fault t)
+    pub check_bad : Err r ≡ checked_of (portacl_fault t)
     check_bad = rw fault_bad
 
-  module _ (g : Bool) (e : w ≡ Sound g) where
-    fault_none : portacl_fault t ≡ none
+  module _ (g : Bool) (e : w ≡ Ok g) where
+    fault_none : portacl_fault t ≡ None
     fault_none = portacl_fault_walk ∙ rw e
 
-    pub check_sound : C.Sound ≡ checked_of (portacl_fault t)
+    pub check_sound : (Ok tt) ≡ checked_of (portacl_fault t)
     check_sound = rw fault_none
 
     granting : g ≡ any (holds λ grants. grants b) (entries t)
     granting = rw (entries_entries_data t) (any_walk b 1 false g (entries_data t) (sym is-w ∙ e))
 
-pub checked_of_refused : (o : Option Refusal) (r : Refusal) → checked_of o ≡ C.Refused r → o ≡ some r
-checked_of_refused none r e = let z : ◌≡◌ {A = ℕ} 0 1 = cc in absurd (omega arith)
-checked_of_refused (some q) r e = cc
+pub checked_of_refused : (o : Option Refusal) (r : Refusal) → checked_of o ≡ Err r → o ≡ Some r
+checked_of_refused None r e = let z : ◌≡◌ {A = ℕ} 0 1 = cc in absurd (omega arith)
+checked_of_refused (Some q) r e = cc
 
-pub checked_of_sound : (o : Option Refusal) → checked_of o ≡ C.Sound → o ≡ none
-checked_of_sound none e = refl
-checked_of_sound (some q) e = let z : ◌≡◌ {A = ℕ} 0 1 = cc in absurd (omega arith)
+pub checked_of_sound : (o : Option Refusal) → checked_of o ≡ (Ok tt) → o ≡ None
+checked_of_sound None e = refl
+checked_of_sound (Some q) e = let z : ◌≡◌ {A = ℕ} 0 1 = cc in absurd (omega arith)
 
 -- ## By the settings
 
@@ -163,28 +155,28 @@ module _ (t : List ℕ) (s : Settings) (uid : ℕ) (groups : List ℕ) (protocol
   abbrev b : Bind
   b = bind uid groups protocol port
 
-  abbrev ruling : Ruling
-  ruling = portacl_ruling (decide_portacl t s (some b))
+  abbrev ruling : Result Decision Refusal
+  ruling = portacl_ruling (decide_portacl t s (Some b))
 
-  pub decide_over_lem : o ≡ true → (r : Refusal) → r ≡ refusal F.OverLimit (S.portacl).order 0 → Refused r ≡ ruling
+  pub decide_over_lem : o ≡ true → (r : Refusal) → r ≡ refusal F.OverLimit (S.portacl).order 0 → Err r ≡ ruling
   unfolding decide_portacl
   decide_over_lem e r is-r = rw (← is-o, e, is-r)
 
   module _ (e : o ≡ false) where
-    module _ (many : 16 < length groups) (c : Checked) (is_c : c ≡ checked_of (portacl_fault t)) where
-      pub decide_unsound : (r : Refusal) → c ≡ C.Refused r → Refused r ≡ ruling
+    module _ (many : 16 < length groups) (c : Result Unit Refusal) (is_c : c ≡ checked_of (portacl_fault t)) where
+      pub decide_unsound : (r : Refusal) → c ≡ Err r → Err r ≡ ruling
       unfolding decide_portacl
       decide_unsound r q = rw (← is-o, e, checked_of_refused (portacl_fault t) r (sym is_c ∙ q))
 
-      pub decide_many : c ≡ C.Sound → (r : Refusal) → r ≡ placeless F.BadRequest → Refused r ≡ ruling
+      pub decide_many : c ≡ (Ok tt) → (r : Refusal) → r ≡ placeless F.BadRequest → Err r ≡ ruling
       unfolding decide_portacl
       decide_many q r is-r = rw (← is-o, e, checked_of_sound (portacl_fault t) (sym is_c ∙ q), lt-leb (length groups) 16 many, is-r)
 
-    module _ (few : length groups ≤ 16) (w : Walked) (is-w : w ≡ walk b 1 false (entries_data t)) where
-      pub decide_bad : (n : ℕ) → w ≡ Bad n → (r : Refusal) → r ≡ refusal F.BadEntry (S.portacl).order n → Refused r ≡ ruling
+    module _ (few : length groups ≤ 16) (w : Result Bool ℕ) (is-w : w ≡ walk b 1 false (entries_data t)) where
+      pub decide_bad : (n : ℕ) → w ≡ Err n → (r : Refusal) → r ≡ refusal F.BadEntry (S.portacl).order n → Err r ≡ ruling
       unfolding decide_portacl
       decide_bad n q r is-r = rw (← is-o, e, fault_bad t b w is-w n q r is-r)
 
-      pub decide_answer : (g : Bool) → w ≡ Sound g → (d : Decision) → d ≡ decision_of s uid port g → Answered d ≡ ruling
+      pub decide_answer : (g : Bool) → w ≡ Ok g → (d : Decision) → d ≡ decision_of s uid port g → Ok d ≡ ruling
       unfolding decide_portacl portacl_decision decision_of
-      decide_answer g q d is_d = rw (← is-o, e, fault_none t b w is-w g q, le-leb (length groups) 16 few, ← (granting t b w is-w g q)) (ap Answered is_d)
+      decide_answer g q d is_d = rw (← is-o, e, fault_none t b w is-w g q, le-leb (length groups) 16 few, ← (granting t b w is-w g q)) (ap Ok is_d)

@@ -1,10 +1,10 @@
 -- Laws of the walk that notes ports, and what is noted in the end: the ports of the entries that grant.
 --   notes_here == after a sound text the byte of a port is 1 where an entry grants it, else as it was
 -- Assumes nothing.
+use Rattle.std.specs.Prelude.{Err, None, Ok, Option, Some}
 use Prim.Native.Nat.{ℕ, ◌+◌, ◌-◌, ◌<◌, ◌≤◌}
 use mathlib.Core.Bool.{Bool, true, false, not, ◌&&◌, ◌||◌}
 use mathlib.Core.List.{List, [], ◌∷◌, map}
-use mathlib.Core.Option.{Option, none, some}
 use mathlib.Core.Path.{◌≡◌, refl, sym, ap, ◌∙◌}
 use native.Mathlib.Omega.{arith}
 use borrow.Author.Tests.{le-leb, lt-leb, eqb-true, eqb-false, ltb-false, lt-ltb, le-ltb}
@@ -19,11 +19,7 @@ use Rattle.section.specs.declared.Fault.TheVariants as F
 use Rattle.section.specs.declared.Refusal.{Refusal}
 use Rattle.section.specs.Refusal.{refusal}
 use Rattle.section.specs.Section as S
-use Rattle.portacl.specs.declared.Checked.{Checked}
-use Rattle.portacl.specs.declared.Checked.TheVariants as C
 use Rattle.portacl.specs.declared.Entry.{Entry}
-use Rattle.portacl.specs.declared.EntryRead.{EntryRead}
-use Rattle.portacl.specs.declared.EntryRead.TheVariants.{Nothing, Value}
 use Rattle.portacl.specs.declared.Protocol.{Protocol}
 use Rattle.portacl.specs.declared.Protocol.TheVariants.{Tcp, Udp}
 use Rattle.portacl.specs.Portacl.{bind, Bind, protocol_word, entries, entry_fault, portacl_fault}
@@ -36,8 +32,8 @@ use Rattle.portacl.proofs.DecideLaws.{grants_of, entries_entries_data}
 fault_in_entry_fault : (n : ℕ) (es : List (Option Entry)) → entry_fault n (map grants_of es) ≡ fault_in n es
 unfolding entry_fault fault_in
 fault_in_entry_fault n [] = refl
-fault_in_entry_fault n (none ∷ es) = refl
-fault_in_entry_fault n (some x ∷ es) = fault_in_entry_fault (n + 1) es
+fault_in_entry_fault n (None ∷ es) = refl
+fault_in_entry_fault n (Some x ∷ es) = fault_in_entry_fault (n + 1) es
 
 pub portacl_fault_fault_in : (t : List ℕ) → portacl_fault t ≡ fault_in 1 (entries_data t)
 unfolding portacl_fault
@@ -55,7 +51,7 @@ pub record Noting (t : List ℕ) (uid : ℕ) (m₀ u₀ m u : List ℕ) (n at : 
   pub over_tcp : notes uid Tcp (entries_data t) m₀ ≡ notes uid Tcp (entries_from at t) m
   pub over_udp : notes uid Udp (entries_data t) u₀ ≡ notes uid Udp (entries_from at t) u
 
-pub note_empty : (t : List ℕ) → length t ≡ 0 → C.Sound ≡ checked_of (portacl_fault t)
+pub note_empty : (t : List ℕ) → length t ≡ 0 → Ok tt ≡ checked_of (portacl_fault t)
 unfolding fault_in entries_data
 note_empty [] e = rw (portacl_fault_fault_in [])
 note_empty (x ∷ t) e = absurd (omega arith)
@@ -106,7 +102,7 @@ module _ (uid : ℕ) (p : Protocol) (x : Entry) (m : List ℕ) (s : Bool) (is-s 
 
 module _ (t : List ℕ) (uid : ℕ) (m₀ u₀ m u : List ℕ) (n at : ℕ) (w : Noting t uid m₀ u₀ m u n at) where
   module _ (h : length t < at) where
-    pub noting_end : C.Sound ≡ checked_of (portacl_fault t)
+    pub noting_end : (Ok tt) ≡ checked_of (portacl_fault t)
     unfolding fault_in entries_from
     noting_end = rw (portacl_fault_fault_in t, w.fault, lt-leb at (length t) h)
 
@@ -119,17 +115,17 @@ module _ (t : List ℕ) (uid : ℕ) (m₀ u₀ m u : List ℕ) (n at : ℕ) (w :
     noting_end_udp = sym (w.over_udp ∙ rw (lt-leb at (length t) h))
 
   module _ (h : at ≤ length t) (i : ℕ) (is-i : i ≡ index_of 44 (take (length t - at) (drop at t))) (l : i ≤ length (take (length t - at) (drop at t)))
-      (r : EntryRead) (is-r : r ≡ as_entry (entry_data (take (at + i - at) (drop at t)))) where
+      (r : Option Entry) (is-r : r ≡ as_entry (entry_data (take (at + i - at) (drop at t)))) where
     more : entries_from at t ≡ entry_data (take (at + i - at) (drop at t)) ∷ entries_from (at + i + 1) t
     more =
         let q : at + i - at ≡ i = omega arith in
         rw (q, next t at i h (rw (take_rest t at) at is-i))
 
-    module _ (e : r ≡ Nothing) where
-      none_read : entry_data (take (at + i - at) (drop at t)) ≡ none
+    module _ (e : r ≡ None) where
+      none_read : entry_data (take (at + i - at) (drop at t)) ≡ None
       none_read = as_entry_none (entry_data (take (at + i - at) (drop at t))) (sym is-r ∙ e)
 
-      pub noting_bad : (f : Refusal) → f ≡ refusal F.BadEntry (S.portacl).order n → C.Refused f ≡ checked_of (portacl_fault t)
+      pub noting_bad : (f : Refusal) → f ≡ refusal F.BadEntry (S.portacl).order n → Err f ≡ checked_of (portacl_fault t)
       unfolding fault_in
       noting_bad f is_f = rw (portacl_fault_fault_in t, w.fault, more, none_read, is_f)
 
@@ -141,7 +137,7 @@ module _ (t : List ℕ) (uid : ℕ) (m₀ u₀ m u : List ℕ) (n at : ℕ) (w :
       unfolding notes
       noting_bad_udp = sym (w.over_udp ∙ rw (more, none_read))
 
-    pub noting_on : (x : Entry) → r ≡ Value x → (m' u' : List ℕ) → m' ≡ noted uid Tcp x m → u' ≡ noted uid Udp x u
+    pub noting_on : (x : Entry) → r ≡ Some x → (m' u' : List ℕ) → m' ≡ noted uid Tcp x m → u' ≡ noted uid Udp x u
         → Noting t uid m₀ u₀ m' u' (n + 1) (at + i + 1)
     unfolding notes fault_in
     noting_on x e m' u' is_m is-u =
@@ -194,12 +190,12 @@ noted_here uid p x m port h = rw (granted_alone uid p port x) (by (is_for uid p 
 abbrev pub granting : ℕ → Protocol → ℕ → List (Option Entry) → Bool
 granting uid p port es = any (holds λ x. grants_to x (bind uid [] p port)) es
 
-notes_from : (uid : ℕ) (p : Protocol) (n : ℕ) (es : List (Option Entry)) (m : List ℕ) (port : ℕ) → port < length m → fault_in n es ≡ none
+notes_from : (uid : ℕ) (p : Protocol) (n : ℕ) (es : List (Option Entry)) (m : List ℕ) (port : ℕ) → port < length m → fault_in n es ≡ None
     → get_or (notes uid p es m) port 0 ≡ (when granting uid p port es then 1 else get_or m port 0)
 unfolding notes fault_in any
 notes_from uid p n [] m port h e = refl
-notes_from uid p n (none ∷ es) m port h e = let z : ◌≡◌ {A = ℕ} 0 1 = cc in absurd (omega arith)
-notes_from uid p n (some x ∷ es) m port h e =
+notes_from uid p n (None ∷ es) m port h e = let z : ◌≡◌ {A = ℕ} 0 1 = cc in absurd (omega arith)
+notes_from uid p n (Some x ∷ es) m port h e =
     notes_from uid p (n + 1) es (noted uid p x m) port (rw (length_noted uid p x m) h) e
     ∙ rw (noted_here uid p x m port h) (by (grants_to x (bind uid [] p port)) (granting uid p port es))
   where
@@ -211,10 +207,10 @@ notes_from uid p n (some x ∷ es) m port h e =
 pub any_granted : (b : Bind) (es : List (Option Entry)) → any (holds λ grants. grants b) (map grants_of es) ≡ any (holds λ x. grants_to x b) es
 unfolding any
 any_granted b [] = refl
-any_granted b (none ∷ es) = any_granted b es
-any_granted b (some x ∷ es) = ap (λ (z : Bool). grants_to x b || z) (any_granted b es)
+any_granted b (None ∷ es) = any_granted b es
+any_granted b (Some x ∷ es) = ap (λ (z : Bool). grants_to x b || z) (any_granted b es)
 
-pub notes_here : (uid : ℕ) (p : Protocol) (t m : List ℕ) (port : ℕ) → port < length m → portacl_fault t ≡ none
+pub notes_here : (uid : ℕ) (p : Protocol) (t m : List ℕ) (port : ℕ) → port < length m → portacl_fault t ≡ None
     → get_or (notes uid p (entries_data t) m) port 0 ≡ (when any (holds λ grants. grants (bind uid [] p port)) (entries t) then 1 else get_or m port 0)
 notes_here uid p t m port h e =
     rw (entries_entries_data t, any_granted (bind uid [] p port) (entries_data t))

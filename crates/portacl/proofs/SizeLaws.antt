@@ -1,11 +1,11 @@
 -- The bytes of a list against the ports that it grants: every port granted over a protocol has an entry of its own.
 --   granted_bytes == the weights of the ports granted over tcp, and of those over udp, are together at most as many as the list's bytes
 -- Assumes nothing.
+use Rattle.std.specs.Prelude.{None, Option, Some}
 use Prim.Native.Nat.{ℕ, zero, suc, ◌+◌, ◌*◌, ◌<◌, ◌≤◌}
 use Prim.Native.String.{String}
 use mathlib.Core.Bool.{Bool, true, false, not, ◌&&◌, ◌||◌}
 use mathlib.Core.List.{List, [], ◌∷◌, ◌++◌, map}
-use mathlib.Core.Option.{Option, none, some}
 use mathlib.Core.Path.{◌≡◌, refl, sym, ap, ap₂, ◌∙◌}
 use native.Mathlib.Omega.{arith}
 use borrow.Author.Tests.{ne_eqb, eqb-true}
@@ -87,20 +87,20 @@ module _ (q : ℕ) (g : ℕ → Bool) where
 
 weights : List (Option Entry) → ℕ
 weights [] = 0
-weights (none ∷ es) = weights es
-weights (some x ∷ es) = weight x.port + weights es
+weights (None ∷ es) = weights es
+weights (Some x ∷ es) = weight x.port + weights es
 
 -- those of the entries of the user id over a protocol
 weights_for : ℕ → Protocol → List (Option Entry) → ℕ
 weights_for uid p [] = 0
-weights_for uid p (none ∷ es) = weights_for uid p es
-weights_for uid p (some x ∷ es) = (when is_for uid p x then weight x.port else 0) + weights_for uid p es
+weights_for uid p (None ∷ es) = weights_for uid p es
+weights_for uid p (Some x ∷ es) = (when is_for uid p x then weight x.port else 0) + weights_for uid p es
 
 sum_granting : (uid : ℕ) (p : Protocol) (es : List (Option Entry)) (k from : ℕ) → sum_if (λ q. granting uid p q es) k from ≤ weights_for uid p es
 unfolding weights_for any
 sum_granting uid p [] k from = omega (arith, sum_none k from)
-sum_granting uid p (none ∷ es) k from = sum_granting uid p es k from
-sum_granting uid p (some x ∷ es) k from = by (is_for uid p x) refl (sum_granting uid p es k from)
+sum_granting uid p (None ∷ es) k from = sum_granting uid p es k from
+sum_granting uid p (Some x ∷ es) k from = by (is_for uid p x) refl (sum_granting uid p es k from)
   where
     step : (b : Bool) → is_for uid p x ≡ b → sum_if (λ q. grants_to x (bind uid [] p q) || granting uid p q es) k from
         ≡ sum_if (λ q. b && eqb x.port q || granting uid p q es) k from
@@ -115,8 +115,8 @@ sum_granting uid p (some x ∷ es) k from = by (is_for uid p x) refl (sum_granti
 weights_both : (uid : ℕ) (es : List (Option Entry)) → weights_for uid Tcp es + weights_for uid Udp es ≤ weights es
 unfolding weights_for weights equal
 weights_both uid [] = omega arith
-weights_both uid (none ∷ es) = weights_both uid es
-weights_both uid (some x ∷ es) = by x.protocol (not x.group) (eqb x.id uid) (weights_both uid es)
+weights_both uid (None ∷ es) = weights_both uid es
+weights_both uid (Some x ∷ es) = by x.protocol (not x.group) (eqb x.id uid) (weights_both uid es)
   where
     by : (p : Protocol) (g i : Bool) → weights_for uid Tcp es + weights_for uid Udp es ≤ weights es
         → ((when equal (protocol_word p) (bytes "tcp") && g && i then weight x.port else 0) + weights_for uid Tcp es)
@@ -131,15 +131,15 @@ weights_both uid (some x ∷ es) = by x.protocol (not x.group) (eqb x.id uid) (w
 
 -- ## The bytes of an entry
 
-some_same : {A : Type 0} (a b : A) → some a ≡ some b → a ≡ b
+some_same : {A : Type 0} (a b : A) → Some a ≡ Some b → a ≡ b
 some_same a b e = cc
 
-bind_some : {A B : Type 0} (o : Option A) (f : A → Option B) (b : B) → (o >>= f) ≡ some b → (a : A) × (o ≡ some a) × (f a ≡ some b)
-bind_some none f b e = let z : ◌≡◌ {A = ℕ} 0 1 = cc in absurd (omega arith)
-bind_some (some a) f b e = (a, refl, e)
+bind_some : {A B : Type 0} (o : Option A) (f : A → Option B) (b : B) → (o >>= f) ≡ Some b → (a : A) × (o ≡ Some a) × (f a ≡ Some b)
+bind_some None f b e = let z : ◌≡◌ {A = ℕ} 0 1 = cc in absurd (omega arith)
+bind_some (Some a) f b e = (a, refl, e)
 
 -- a word of three bytes
-three : {A : Type 0} (t : List ℕ) (p q : String × A) (x : A) → length (bytes p.0) ≡ 3 → length (bytes q.0) ≡ 3 → read_word t p q ≡ some x → length t ≡ 3
+three : {A : Type 0} (t : List ℕ) (p q : String × A) (x : A) → length (bytes p.0) ≡ 3 → length (bytes q.0) ≡ 3 → read_word t p q ≡ Some x → length t ≡ 3
 three t p q x h k e = by (equal (bytes p.0) t) refl (equal (bytes q.0) t) refl
   where
     by : (b : Bool) → equal (bytes p.0) t ≡ b → (c : Bool) → equal (bytes q.0) t ≡ c → length t ≡ 3
@@ -148,7 +148,7 @@ three t p q x h k e = by (equal (bytes p.0) t) refl (equal (bytes q.0) t) refl
     by false f false g = let r = rw (f, g) at e in let z : ◌≡◌ {A = ℕ} 0 1 = cc in absurd (omega arith)
 
 -- a number is read from its own text
-own_text : (m : ℕ) (t : List ℕ) (n : ℕ) → read_decimal m t ≡ some n → t ≡ decimal n
+own_text : (m : ℕ) (t : List ℕ) (n : ℕ) → read_decimal m t ≡ Some n → t ≡ decimal n
 unfolding read_decimal
 own_text m t n e = by (leb v m && equal t (decimal v)) refl
   where
@@ -159,15 +159,15 @@ own_text m t n e = by (leb v m && equal t (decimal v)) refl
     by true f =
         let same : v ≡ n = some_same v n (sym (ap (λ (b : Bool). given b v) f) ∙ e) in
         eq_of_equal t (decimal v) (and_true (leb v m) (equal t (decimal v)) f).1 ∙ ap decimal same
-    by false f = let r : none ≡ some n = sym (ap (λ (b : Bool). given b v) f) ∙ e in let z : ◌≡◌ {A = ℕ} 0 1 = cc in absurd (omega arith)
+    by false f = let r : None ≡ Some n = sym (ap (λ (b : Bool). given b v) f) ∙ e in let z : ◌≡◌ {A = ℕ} 0 1 = cc in absurd (omega arith)
 
-parts_length : (t : List ℕ) (p : List ℕ × List ℕ) → split_once (bytes ":") t ≡ some p → length t ≡ length p.0 + (1 + length p.1)
+parts_length : (t : List ℕ) (p : List ℕ × List ℕ) → split_once (bytes ":") t ≡ Some p → length t ≡ length p.0 + (1 + length p.1)
 parts_length t p e =
     let whole = ap length (split_once_some (bytes ":") t p e) in
     let sum = length-append p.0 (bytes ":" ++ p.1) in
     omega arith
 
-entry_bytes_lem : (e : List ℕ) (x : Entry) → entry_data e ≡ some x → weight x.port ≤ length e
+entry_bytes_lem : (e : List ℕ) (x : Entry) → entry_data e ≡ Some x → weight x.port ≤ length e
 unfolding entry_data id_data protocol_data port_data weight
 entry_bytes_lem e x h =
     let a = bind_some (split_once (bytes ":") e) _ x h in
@@ -214,8 +214,8 @@ weights_lengths [] = omega arith
 weights_lengths (w ∷ ws) = by (entry_data w) refl (weights_lengths ws)
   where
     by : (o : Option Entry) → entry_data w ≡ o → weights (map entry_data ws) ≤ lengths ws → weights (o ∷ map entry_data ws) ≤ length w + lengths ws
-    by none e ih = omega arith
-    by (some x) e ih = let l = entry_bytes_lem w x e in omega arith
+    by None e ih = omega arith
+    by (Some x) e ih = let l = entry_bytes_lem w x e in omega arith
 
 list_weights : (t : List ℕ) → weights (entries_data t) ≤ length t
 unfolding weights entries_data

@@ -1,9 +1,9 @@
 -- Laws of the walk over the entries of a text.
 -- Assumes nothing.
+use Rattle.std.specs.Prelude.{Err, None, Ok, Option, Some}
 use Prim.Native.Nat.{ℕ, ◌+◌, ◌-◌, ◌<◌, ◌≤◌}
 use mathlib.Core.Bool.{Bool, true, false, ◌||◌}
 use mathlib.Core.List.{List, [], ◌∷◌, map}
-use mathlib.Core.Option.{Option, none, some}
 use mathlib.Core.Path.{◌≡◌, refl, sym, ◌∙◌}
 use native.Mathlib.Omega.{arith}
 use borrow.Author.Tests.{le-leb, lt-leb, leb-true, leb-false}
@@ -15,20 +15,17 @@ use Rattle.text.specs.Text.{split}
 use Rattle.text.specs.Scan.{index_of}
 use Rattle.text.proofs.ScanLaws.{take_rest, split_mark, split_no_mark}
 use Rattle.portacl.specs.declared.Entry.{Entry}
-use Rattle.portacl.specs.declared.EntryRead.{EntryRead}
-use Rattle.portacl.specs.declared.EntryRead.TheVariants.{Nothing, Value}
-use Rattle.portacl.specs.declared.Walked.TheVariants.{Bad, Sound}
 use Rattle.portacl.specs.Portacl.{Bind}
 use Rattle.portacl.specs.Code.{as_entry, entry_data, grants_to, entries_data, walk}
 
 -- what was read, from the code's answer
-pub as_entry_none : (o : Option Entry) → as_entry o ≡ Nothing → o ≡ none
-as_entry_none none e = refl
-as_entry_none (some x) e = let z : ◌≡◌ {A = ℕ} 0 1 = cc in absurd (omega arith)
+pub as_entry_none : (o : Option Entry) → as_entry o ≡ None → o ≡ None
+as_entry_none None e = refl
+as_entry_none (Some x) e = let z : ◌≡◌ {A = ℕ} 0 1 = cc in absurd (omega arith)
 
-pub as_entry_some : (x : Entry) (o : Option Entry) → as_entry o ≡ Value x → o ≡ some x
-as_entry_some x none e = let z : ◌≡◌ {A = ℕ} 0 1 = cc in absurd (omega arith)
-as_entry_some x (some y) e = cc
+pub as_entry_some : (x : Entry) (o : Option Entry) → as_entry o ≡ Some x → o ≡ Some x
+as_entry_some x None e = let z : ◌≡◌ {A = ℕ} 0 1 = cc in absurd (omega arith)
+as_entry_some x (Some y) e = cc
 
 -- the entries from a place on: past the end there is none
 unfoldable pub entries_from : ℕ → List ℕ → List (Option Entry)
@@ -55,7 +52,7 @@ pub record Walking (t : List ℕ) (b : Bind) (g : Bool) (n at : ℕ) : Type 0 wh
   pub numbered : n ≤ at + 1
   pub so_far : walk b 1 false (entries_data t) ≡ walk b n g (entries_from at t)
 
-pub walk_empty : (t : List ℕ) (b : Bind) → length t ≡ 0 → Sound false ≡ walk b 1 false (entries_data t)
+pub walk_empty : (t : List ℕ) (b : Bind) → length t ≡ 0 → Ok false ≡ walk b 1 false (entries_data t)
 unfolding walk entries_data
 walk_empty [] b e = refl
 walk_empty (x ∷ t) b e = absurd (omega arith)
@@ -66,22 +63,22 @@ walking_start [] b n = absurd (n refl)
 walking_start (x ∷ t) b n = record { within = omega arith; numbered = omega arith; so_far = rw (le-leb 0 (length (x ∷ t)) (omega arith)) }
 
 module _ (t : List ℕ) (b : Bind) (g : Bool) (n at : ℕ) (w : Walking t b g n at) where
-  pub walking_end : length t < at → Sound g ≡ walk b 1 false (entries_data t)
+  pub walking_end : length t < at → Ok g ≡ walk b 1 false (entries_data t)
   unfolding walk entries_from
   walking_end h = sym (w.so_far ∙ rw (lt-leb at (length t) h))
 
   module _ (h : at ≤ length t) (i : ℕ) (is-i : i ≡ index_of 44 (take (length t - at) (drop at t))) (l : i ≤ length (take (length t - at) (drop at t)))
-      (r : EntryRead) (is-r : r ≡ as_entry (entry_data (take (at + i - at) (drop at t)))) where
+      (r : Option Entry) (is-r : r ≡ as_entry (entry_data (take (at + i - at) (drop at t)))) where
     more : walk b 1 false (entries_data t) ≡ walk b n g (entry_data (take (at + i - at) (drop at t)) ∷ entries_from (at + i + 1) t)
     more =
         let q : at + i - at ≡ i = omega arith in
         w.so_far ∙ rw (q, next t at i h (rw (take_rest t at) at is-i))
 
-    pub walking_bad : r ≡ Nothing → Bad n ≡ walk b 1 false (entries_data t)
+    pub walking_bad : r ≡ None → Err n ≡ walk b 1 false (entries_data t)
     unfolding walk
     walking_bad e = sym (more ∙ rw (as_entry_none (entry_data (take (at + i - at) (drop at t))) (sym is-r ∙ e)))
 
-    pub walking_on : (x : Entry) → r ≡ Value x → (y : Bool) → y ≡ grants_to x b → Walking t b (g || y) (n + 1) (at + i + 1)
+    pub walking_on : (x : Entry) → r ≡ Some x → (y : Bool) → y ≡ grants_to x b → Walking t b (g || y) (n + 1) (at + i + 1)
     unfolding walk
     walking_on x e y is_y = record {
       within = let k : i ≤ length t - at = rw (take_rest t at, length-drop at t) at l in omega arith;

@@ -9,8 +9,7 @@
 --   fault_in n es     == the refusal of the first bad entry of es, numbered from n
 --   notes u p es m   == the bytes m, 1 at each port that an entry of es, up to the first bad one, grants the user id u over the protocol p
 -- Assumes nothing: these are definitions.
-use Rattle.std.specs.Prelude.{ℕ, ◌+◌, Bool, true, false, not, ◌&&◌, ◌||◌, List, [], ◌∷◌, map, length, set, ltb, eqb}
-use Rattle.std.proofs.Math.Option.{Option, none, some}
+use Rattle.std.specs.Prelude.{ℕ, ◌+◌, Bool, true, false, not, ◌&&◌, ◌||◌, List, [], ◌∷◌, map, length, set, ltb, eqb, Err, None, Ok, Option, Result, Some}
 use Rattle.text.specs.Basics.{when◌then◌else◌, ◌>>=◌, is_empty, any}
 use Rattle.text.specs.Text.{bytes, equal, split_once, split}
 use Rattle.text.specs.Number.{read_decimal}
@@ -18,23 +17,17 @@ use Rattle.section.specs.declared.Fault.TheVariants as F
 use Rattle.section.specs.declared.Refusal.{Refusal}
 use Rattle.section.specs.Refusal.{refusal}
 use Rattle.section.specs.Section as S
-use Rattle.portacl.specs.declared.Checked.{Checked}
-use Rattle.portacl.specs.declared.Checked.TheVariants as C
 use Rattle.portacl.specs.declared.Decision.{Decision}
 use Rattle.portacl.specs.declared.Decision.TheVariants.{NotRuled, Exempt, Granted, Denied}
 use Rattle.portacl.specs.declared.Entry.{Entry}
-use Rattle.portacl.specs.declared.EntryRead.{EntryRead}
-use Rattle.portacl.specs.declared.EntryRead.TheVariants.{Nothing, Value}
 use Rattle.portacl.specs.declared.Protocol.{Protocol}
 use Rattle.portacl.specs.declared.Protocol.TheVariants.{Tcp, Udp}
 use Rattle.portacl.specs.declared.Settings.{Settings}
-use Rattle.portacl.specs.declared.Walked.{Walked}
-use Rattle.portacl.specs.declared.Walked.TheVariants.{Bad, Sound}
 use Rattle.portacl.specs.Portacl.{Bind, read_word, protocol_word}
 
-abbrev pub checked_of : Option Refusal → Checked
-checked_of none = C.Sound
-checked_of (some r) = C.Refused r
+abbrev pub checked_of : Option Refusal → Result Unit Refusal
+checked_of None = Ok tt
+checked_of (Some r) = Err r
 
 -- the paper's words; no promise cites them
 abbrev pub decision_word : Decision → List ℕ
@@ -45,9 +38,9 @@ decision_word Denied = bytes "denied"
 
 -- ## An entry
 
-abbrev pub as_entry : Option Entry → EntryRead
-as_entry none = Nothing
-as_entry (some x) = Value x
+abbrev pub as_entry : Option Entry → Option Entry
+as_entry None = None
+as_entry (Some x) = Some x
 
 abbrev pub entry : Bool → ℕ → Protocol → ℕ → Entry
 entry group id protocol port = record { group = group; id = id; protocol = protocol; port = port }
@@ -56,7 +49,7 @@ entry group id protocol port = record { group = group; id = id; protocol = proto
 unfoldable pub port_data : Bool → ℕ → Protocol → List ℕ → Option Entry
 port_data group id protocol t = do
   port ← read_decimal 65535 t
-  some (entry group id protocol port)
+  Some (entry group id protocol port)
 
 unfoldable pub protocol_data : Bool → ℕ → List ℕ → Option Entry
 protocol_data group id t = do
@@ -85,10 +78,10 @@ grants_to x b = equal (protocol_word x.protocol) (protocol_word b.protocol) && e
 unfoldable pub entries_data : List ℕ → List (Option Entry)
 entries_data t = when is_empty t then [] else map entry_data (split "," t)
 
-unfoldable pub walk : Bind → ℕ → Bool → List (Option Entry) → Walked
-walk b n g [] = Sound g
-walk b n g (none ∷ es) = Bad n
-walk b n g (some x ∷ es) = walk b (n + 1) (g || grants_to x b) es
+unfoldable pub walk : Bind → ℕ → Bool → List (Option Entry) → Result Bool ℕ
+walk b n g [] = Ok g
+walk b n g (None ∷ es) = Err n
+walk b n g (Some x ∷ es) = walk b (n + 1) (g || grants_to x b) es
 
 unfoldable pub decision_of : Settings → ℕ → ℕ → Bool → Decision
 decision_of s uid port granted =
@@ -102,9 +95,9 @@ decision_of s uid port granted =
 -- ## Ports noted
 
 unfoldable pub fault_in : ℕ → List (Option Entry) → Option Refusal
-fault_in n [] = none
-fault_in n (none ∷ es) = some (refusal F.BadEntry (S.portacl).order n)
-fault_in n (some x ∷ es) = fault_in (n + 1) es
+fault_in n [] = None
+fault_in n (None ∷ es) = Some (refusal F.BadEntry (S.portacl).order n)
+fault_in n (Some x ∷ es) = fault_in (n + 1) es
 
 -- the entry is the user id's own, over the protocol
 abbrev pub is_for : ℕ → Protocol → Entry → Bool
@@ -115,5 +108,5 @@ noted uid protocol x m = when is_for uid protocol x && ltb x.port (length m) the
 
 unfoldable pub notes : ℕ → Protocol → List (Option Entry) → List ℕ → List ℕ
 notes uid protocol [] m = m
-notes uid protocol (none ∷ es) m = m
-notes uid protocol (some x ∷ es) m = notes uid protocol es (noted uid protocol x m)
+notes uid protocol (None ∷ es) m = m
+notes uid protocol (Some x ∷ es) m = notes uid protocol es (noted uid protocol x m)

@@ -6,7 +6,6 @@
 #![tactic(auto)]
 
 ghost use Rattle.std.specs.Prelude.{false, [], ◌∷◌, ◌≡◌, eqb};
-ghost use Rattle.std.proofs.Math.Option.{some};
 ghost use Rattle.text.specs.Basics.{when◌then◌else◌, is_some, any};
 ghost use Rattle.text.specs.Text.{equal};
 ghost use Rattle.portacl.specs.Portacl.{bind, protocol_word, read_entry, portacl_ruling, portacl_fault, decide_portacl};
@@ -15,7 +14,6 @@ ghost use Rattle.portacl.specs.Code.{checked_of, as_entry, entry_data, id_data, 
 ghost use Rattle.portacl.specs.Code.{noted, notes};
 
 use section::{Fault, Refusal};
-use text::NumberRead;
 
 // The words of the decision.
 #[derive(Clone, Copy)]
@@ -41,20 +39,6 @@ pub struct Settings {
     pub autoport_exempt: u32,
 }
 
-// What decide answers: a refusal, or the decision.
-#[derive(Clone, Copy)]
-pub enum Ruling {
-    Refused(Refusal),
-    Answered(Decision),
-}
-
-// What check answers: the refusal of a bad entry, or that there is none.
-#[derive(Clone, Copy)]
-pub enum Checked {
-    Sound,
-    Refused(Refusal),
-}
-
 // Who may bind what: the user id, or the group id, a port of a protocol.
 #[derive(Clone, Copy)]
 struct Entry {
@@ -64,27 +48,13 @@ struct Entry {
     pub port: u32,
 }
 
-// An entry that was read, or none.
-#[derive(Clone, Copy)]
-enum EntryRead {
-    Nothing,
-    Value(Entry),
-}
-
-// What the walk over the entries finds: the number of the first bad one, or whether one grants.
-#[derive(Clone, Copy)]
-enum Walked {
-    Bad(usize),
-    Sound(bool),
-}
-
 // An entry's port, the last of its parts.
-fn read_port(group: bool, id: u32, protocol: Protocol, s: &[u8]) -> EntryRead
+fn read_port(group: bool, id: u32, protocol: Protocol, s: &[u8]) -> Option<Entry>
     ensures { result ≡ as_entry (port_data group id protocol s.now) }
 {
     match text::read_decimal(s, 65535) {
-        NumberRead::Nothing => EntryRead::Nothing,
-        NumberRead::Value(port) => EntryRead::Value(Entry {
+        None => None,
+        Some(port) => Some(Entry {
             group,
             id,
             protocol,
@@ -94,12 +64,12 @@ fn read_port(group: bool, id: u32, protocol: Protocol, s: &[u8]) -> EntryRead
 }
 
 // An entry from its protocol on.
-fn read_protocol(group: bool, id: u32, s: &[u8]) -> EntryRead
+fn read_protocol(group: bool, id: u32, s: &[u8]) -> Option<Entry>
     ensures { result ≡ as_entry (protocol_data group id s.now) }
 {
     let colon = text::index_of(s, b':');
     if colon == s.len() {
-        return EntryRead::Nothing;
+        return None;
     }
     let after = colon + 1;
     if text::equal(b"tcp", &s[..colon]) {
@@ -108,31 +78,31 @@ fn read_protocol(group: bool, id: u32, s: &[u8]) -> EntryRead
     if text::equal(b"udp", &s[..colon]) {
         return read_port(group, id, Protocol::Udp, &s[after..]);
     }
-    EntryRead::Nothing
+    None
 }
 
 // An entry from its id on.
-fn read_id(group: bool, s: &[u8]) -> EntryRead
+fn read_id(group: bool, s: &[u8]) -> Option<Entry>
     ensures { result ≡ as_entry (id_data group s.now) }
 {
     let colon = text::index_of(s, b':');
     if colon == s.len() {
-        return EntryRead::Nothing;
+        return None;
     }
     let after = colon + 1;
     match text::read_decimal(&s[..colon], 4294967295) {
-        NumberRead::Nothing => EntryRead::Nothing,
-        NumberRead::Value(id) => read_protocol(group, id, &s[after..]),
+        None => None,
+        Some(id) => read_protocol(group, id, &s[after..]),
     }
 }
 
 // The entry that s writes, idtype:id:protocol:port.
-fn read_entry(s: &[u8]) -> EntryRead
+fn read_entry(s: &[u8]) -> Option<Entry>
     ensures { result ≡ as_entry (entry_data s.now) }
 {
     let colon = text::index_of(s, b':');
     if colon == s.len() {
-        return EntryRead::Nothing;
+        return None;
     }
     let after = colon + 1;
     if text::equal(b"uid", &s[..colon]) {
@@ -141,7 +111,7 @@ fn read_entry(s: &[u8]) -> EntryRead
     if text::equal(b"gid", &s[..colon]) {
         return read_id(true, &s[after..]);
     }
-    EntryRead::Nothing
+    None
 }
 
 // Whether s is of the form of an entry.
@@ -149,8 +119,8 @@ pub fn is_entry(s: &[u8]) -> bool
     ensures { result ≡ is_some (read_entry s.now) }
 {
     match read_entry(s) {
-        EntryRead::Nothing => false,
-        EntryRead::Value(_) => true,
+        None => false,
+        Some(_) => true,
     }
 }
 
@@ -208,11 +178,11 @@ fn grants(entry: Entry, uid: u32, groups: &[u32], protocol: Protocol, port: u16)
 }
 
 // Every entry is read, and held against the bind.
-fn walk_entries(text: &[u8], uid: u32, groups: &[u32], protocol: Protocol, port: u16) -> Walked
+fn walk_entries(text: &[u8], uid: u32, groups: &[u32], protocol: Protocol, port: u16) -> Result<bool, usize>
     ensures { result ≡ walk (bind uid groups.now protocol port) 1 false (entries_data text.now) }
 {
     if text.len() == 0 {
-        return Walked::Sound(false);
+        return Ok(false);
     }
     let mut granted = false;
     let mut number = 1;
@@ -220,15 +190,15 @@ fn walk_entries(text: &[u8], uid: u32, groups: &[u32], protocol: Protocol, port:
     while at <= text.len() {
         let end = at + text::index_of(&text[at..], b',');
         match read_entry(&text[at..end]) {
-            EntryRead::Nothing => return Walked::Bad(number),
-            EntryRead::Value(entry) => {
+            None => return Err(number),
+            Some(entry) => {
                 granted = granted | grants(entry, uid, groups, protocol, port);
             }
         }
         number += 1;
         at = end + 1;
     }
-    Walked::Sound(granted)
+    Ok(granted)
 }
 
 // Notes the port of an entry of the user id over the protocol: its byte becomes 1.
@@ -246,24 +216,24 @@ fn note(ports: &mut [u8], entry: Entry, uid: u32, protocol: Protocol)
 
 // The refusal of the first entry that is not of its form. Up to it the ports that the entries of the user id grant are noted, those over tcp and
 // those over udp; groups are passed over, and so are ports beyond the lent bytes.
-pub fn note_ports(tcp: &mut [u8], udp: &mut [u8], text: &[u8], uid: u32) -> Checked
+pub fn note_ports(tcp: &mut [u8], udp: &mut [u8], text: &[u8], uid: u32) -> Result<(), Refusal>
     ensures answer { result ≡ checked_of (portacl_fault text.now) }
     ensures over_tcp { tcp.new ≡ notes uid Tcp (entries_data text.now) tcp.old }
     ensures over_udp { udp.new ≡ notes uid Udp (entries_data text.now) udp.old }
 {
     if text.len() == 0 {
-        return Checked::Sound;
+        return Ok(());
     }
     let mut number = 1;
     let mut at = 0;
     while at <= text.len() {
         let end = at + text::index_of(&text[at..], b',');
         match read_entry(&text[at..end]) {
-            EntryRead::Nothing => return Checked::Refused(section::Portacl::refusal(
+            None => return Err(section::Portacl::refusal(
                 Fault::BadEntry,
                 number,
             )),
-            EntryRead::Value(entry) => {
+            Some(entry) => {
                 note(tcp, entry, uid, Protocol::Tcp);
                 note(udp, entry, uid, Protocol::Udp);
             }
@@ -271,7 +241,7 @@ pub fn note_ports(tcp: &mut [u8], udp: &mut [u8], text: &[u8], uid: u32) -> Chec
         number += 1;
         at = end + 1;
     }
-    Checked::Sound
+    Ok(())
 }
 
 // The decision, where granted says whether an entry grants.
@@ -298,13 +268,13 @@ fn by_settings(settings: Settings, uid: u32, port: u16, granted: bool) -> Decisi
 }
 
 // The refusal of the first entry that is not of its form.
-pub fn check(text: &[u8]) -> Checked
+pub fn check(text: &[u8]) -> Result<(), Refusal>
     ensures { result ≡ checked_of (portacl_fault text.now) }
 {
     let groups: [u32; 0] = [];
     match walk_entries(text, 0, &groups, Protocol::Tcp, 0) {
-        Walked::Bad(number) => Checked::Refused(section::Portacl::refusal(Fault::BadEntry, number)),
-        Walked::Sound(_) => Checked::Sound,
+        Err(number) => Err(section::Portacl::refusal(Fault::BadEntry, number)),
+        Ok(_) => Ok(()),
     }
 }
 
@@ -316,20 +286,20 @@ pub fn decide(
     groups: &[u32],
     protocol: Protocol,
     port: u16,
-) -> Ruling
-    ensures { result ≡ portacl_ruling (decide_portacl text.now settings (some (bind uid groups.now protocol port))) }
+) -> Result<Decision, Refusal>
+    ensures { result ≡ portacl_ruling (decide_portacl text.now settings (Some (bind uid groups.now protocol port))) }
 {
     if section::Portacl::over(text.len()) {
-        return Ruling::Refused(section::Portacl::refusal(Fault::OverLimit, 0));
+        return Err(section::Portacl::refusal(Fault::OverLimit, 0));
     }
     if 16 < groups.len() {
         return match check(text) {
-            Checked::Refused(refusal) => Ruling::Refused(refusal),
-            Checked::Sound => Ruling::Refused(section::placeless(Fault::BadRequest)),
+            Err(refusal) => Err(refusal),
+            Ok(()) => Err(section::placeless(Fault::BadRequest)),
         };
     }
     match walk_entries(text, uid, groups, protocol, port) {
-        Walked::Bad(number) => Ruling::Refused(section::Portacl::refusal(Fault::BadEntry, number)),
-        Walked::Sound(granted) => Ruling::Answered(by_settings(settings, uid, port, granted)),
+        Err(number) => Err(section::Portacl::refusal(Fault::BadEntry, number)),
+        Ok(granted) => Ok(by_settings(settings, uid, port, granted)),
     }
 }

@@ -1,10 +1,10 @@
 -- Laws of the decision by both files, shaped as the calls and tests of the code hand their facts over.
 -- Assumes nothing.
+use Rattle.std.specs.Prelude.{Err, None, Ok, Option, Result, Some}
 use Prim.Native.Nat.{ℕ, ◌+◌, ◌-◌, ◌≤◌, ◌<◌}
 use native.Mathlib.Omega.{arith}
 use mathlib.Core.Bool.{Bool, true, false, not}
 use mathlib.Core.List.{List, []}
-use mathlib.Core.Option.{Option, none, some}
 use mathlib.Core.Path.{◌≡◌, refl, sym, ap, ap₂, ◌∙◌}
 use lib.Dec.{ltb}
 use lib.ListN.{length, take, drop, drop_of_length-le}
@@ -13,7 +13,7 @@ use Rattle.text.specs.Basics.{when◌then◌else◌, ◌or_else◌, given, is_so
 use Rattle.text.proofs.ScanLaws.{take_rest}
 use Rattle.section.specs.declared.Fault.TheVariants as F
 use Rattle.section.specs.declared.Refusal.{Refusal}
-use Rattle.section.specs.Refusal.{refused, answered, refusal, placeless, ◌before◌}
+use Rattle.section.specs.Refusal.{refusal, placeless, ◌before◌}
 use Rattle.section.specs.Section as S
 use Rattle.lines.specs.Line.{Line, lines}
 use Rattle.tables.specs.declared.entry.Framing.{Framing}
@@ -32,13 +32,8 @@ use Rattle.rules.specs.declared.Verdict.TheVariants.{Granted, Denied}
 use Rattle.rules.specs.declared.File.TheVariants.{Allow, Deny}
 use Rattle.rules.specs.declared.Answer.{Answer}
 use Rattle.rules.specs.declared.Reported.{Reported}
-use Rattle.rules.specs.declared.Ruling.TheVariants as R
-use Rattle.rules.specs.declared.hosts_file.Pass.{Pass}
-use Rattle.rules.specs.declared.hosts_file.Pass.TheVariants as P
 use Rattle.rules.specs.declared.hosts_file.Tally.{Tally}
 use Rattle.rules.specs.declared.search.Searched.{Searched}
-use Rattle.rules.specs.declared.search.Finding.{Finding}
-use Rattle.rules.specs.declared.search.Finding.TheVariants as Finding
 use Rattle.rules.specs.Check.{hosts_fault, tables_fault}
 use Rattle.rules.specs.Search.{line_answer, search, decide_over, decide, decide_tables, command_bytes}
 use Rattle.rules.specs.Looked.{looked, number_of, looked_over, reported}
@@ -49,21 +44,21 @@ use Rattle.rules.proofs.FileLaws.{tallied_pass}
 
 -- ## The pass over both files
 
-module _ (p q : Pass) where
-  pub on_faulty : (g : Refusal) → p ≡ P.Faulty g → P.Faulty g ≡ combined p q
+module _ (p q : Result (Option Answer) Refusal) where
+  pub on_faulty : (g : Refusal) → p ≡ Err g → Err g ≡ combined p q
   on_faulty g e = rw e
 
-  pub on_unmatched : p ≡ P.Unmatched → q ≡ combined p q
+  pub on_unmatched : p ≡ (Ok None) → q ≡ combined p q
   on_unmatched e = rw e
 
-  module _ (a : Answer) (e : p ≡ P.Matched a) where
-    pub on_then_faulty : (g : Refusal) → q ≡ P.Faulty g → P.Faulty g ≡ combined p q
+  module _ (a : Answer) (e : p ≡ Ok (Some a)) where
+    pub on_then_faulty : (g : Refusal) → q ≡ Err g → Err g ≡ combined p q
     on_then_faulty g f = rw (e, f)
 
-    pub on_then_unmatched : q ≡ P.Unmatched → P.Matched a ≡ combined p q
+    pub on_then_unmatched : q ≡ (Ok None) → Ok (Some a) ≡ combined p q
     on_then_unmatched f = rw (e, f)
 
-    pub on_then_matched : (c : Answer) → q ≡ P.Matched c → P.Matched a ≡ combined p q
+    pub on_then_matched : (c : Answer) → q ≡ Ok (Some c) → Ok (Some a) ≡ combined p q
     on_then_matched c f = rw (e, f)
 
 -- nothing is counted where nothing is looked for
@@ -76,26 +71,26 @@ sum_both a b = capped_left a (capped b) ∙ capped_add a b
 
 -- an answer in the second text is looked for, and its rules are counted, only if the first one has none
 combined_tally : (o o' : Option Refusal) (x x' : Option Answer) (a : ℕ) (d : Bool → ℕ) → d false ≡ 0
-    → tallied (combined (pass_of o x) (pass_of o' (when is_unmatched (pass_of o x) then x' else none)))
-    (capped ((tallied (pass_of o x) (capped a)).looked + (tallied (pass_of o' (when is_unmatched (pass_of o x) then x' else none))
+    → tallied (combined (pass_of o x) (pass_of o' (when is_unmatched (pass_of o x) then x' else None)))
+    (capped ((tallied (pass_of o x) (capped a)).looked + (tallied (pass_of o' (when is_unmatched (pass_of o x) then x' else None))
     (capped (d (is_unmatched (pass_of o x))))).looked))
     ≡ tallied (pass_of (o or_else o') (x or_else x')) (capped (a + (when is_some x then 0 else d true)))
-combined_tally (some g) o' x x' a d z = refl
-combined_tally none (some g) none x' a d z = refl
-combined_tally none none none none a d z = ap (tallied P.Unmatched) (sum_both a (d true))
-combined_tally none none none (some c) a d z = ap (tallied (P.Matched c)) (sum_both a (d true))
-combined_tally none (some g) (some c) x' a d z = refl
-combined_tally none none (some c) x' a d z = ap (tallied (P.Matched c)) (sum_both a (d false) ∙ ap (λ (n : ℕ). capped (a + n)) z)
+combined_tally (Some g) o' x x' a d z = refl
+combined_tally None (Some g) None x' a d z = refl
+combined_tally None None None None a d z = ap (tallied (Ok None)) (sum_both a (d true))
+combined_tally None None None (Some c) a d z = ap (tallied (Ok (Some c))) (sum_both a (d true))
+combined_tally None (Some g) (Some c) x' a d z = refl
+combined_tally None None (Some c) x' a d z = ap (tallied (Ok (Some c))) (sum_both a (d false) ∙ ap (λ (n : ℕ). capped (a + n)) z)
 
 pub both_pass : (r : Query) (allow deny : List ℕ)
     → (x : Tally) → x ≡ tallied (pass_text 1 Granted Allow true r allow) (capped (lines_looked Granted Allow true r (lines allow)))
     → (b : Bool) → b ≡ is_unmatched x.pass
     → (y : Tally) → y ≡ tallied (pass_text 2 Denied Deny b r deny) (capped (lines_looked Denied Deny b r (lines deny)))
-    → (s : Pass) → s ≡ combined x.pass y.pass → (k : ℕ) → k ≡ capped (x.looked + y.looked) → (t : Tally) → t ≡ tallied s k
+    → (s : Result (Option Answer) Refusal) → s ≡ combined x.pass y.pass → (k : ℕ) → k ≡ capped (x.looked + y.looked) → (t : Tally) → t ≡ tallied s k
     → t ≡ tallied (pass_both r allow deny) (capped (both_looked r allow deny))
 unfolding pass_both pass_text both_looked
 both_pass r allow deny x is_x b is_b y is_y s is-s k is-k t is-t =
-    let p : Pass = pass_text 1 Granted Allow true r allow in
+    let p : Result (Option Answer) Refusal = pass_text 1 Granted Allow true r allow in
     let a : ℕ = lines_looked Granted Allow true r (lines allow) in
     let d : Bool → ℕ = λ b. lines_looked Denied Deny b r (lines deny) in
     let px : x.pass ≡ p = ap (λ (z : Tally). z.pass) is_x ∙ tallied_pass p (capped a) in
@@ -111,20 +106,20 @@ both_pass r allow deny x is_x b is_b y is_y s is-s k is-k t is-t =
 -- ## The ruling
 
 module _ (a : Answer) (n : ℕ) (b : Bool) where
-  pub request_sound : b ≡ true → record { ruling = R.Answered a; looked = n } ≡ refusing_request b a n
+  pub request_sound : b ≡ true → record { ruling = Ok a; looked = n } ≡ refusing_request b a n
   request_sound e = rw e
 
   pub request_refused : b ≡ false → (g : Refusal) → g ≡ placeless F.BadRequest → (x : Reported) → x ≡ refused_report g → x ≡ refusing_request b a n
   request_refused e g is-g x is_x = is_x ∙ rw (e, is-g)
 
-module _ (p : Pass) (x : Reported) where
-  pub refuse_faulty : (g : Refusal) → p ≡ P.Faulty g → x ≡ refused_report g → x ≡ refused_by p
+module _ (p : Result (Option Answer) Refusal) (x : Reported) where
+  pub refuse_faulty : (g : Refusal) → p ≡ Err g → x ≡ refused_report g → x ≡ refused_by p
   refuse_faulty g e is_x = is_x ∙ rw e
 
-  pub refuse_unmatched : p ≡ P.Unmatched → (g : Refusal) → g ≡ placeless F.BadRequest → x ≡ refused_report g → x ≡ refused_by p
+  pub refuse_unmatched : p ≡ (Ok None) → (g : Refusal) → g ≡ placeless F.BadRequest → x ≡ refused_report g → x ≡ refused_by p
   refuse_unmatched e g is-g is_x = is_x ∙ rw (e, is-g)
 
-  pub refuse_matched : (a : Answer) → p ≡ P.Matched a → (g : Refusal) → g ≡ placeless F.BadRequest → x ≡ refused_report g → x ≡ refused_by p
+  pub refuse_matched : (a : Answer) → p ≡ Ok (Some a) → (g : Refusal) → g ≡ placeless F.BadRequest → x ≡ refused_report g → x ≡ refused_by p
   refuse_matched a e g is-g is_x = is_x ∙ rw (e, is-g)
 
 -- a doubt is a refusal; h is the request q as it is held
@@ -139,68 +134,68 @@ module _ (o : Option Refusal) (ts : List Table) (allow deny names : List ℕ) (q
   found_held = searched answer_held (capped (looked ts allow deny (request_at names h)))
 
   abbrev ruled : Reported
-  ruled = reported (o before decide_over ts allow deny (some given_request)) (looked_over ts allow deny (some given_request))
+  ruled = reported (o before decide_over ts allow deny (Some given_request)) (looked_over ts allow deny (Some given_request))
 
-  ruled_held : reported (o before (when well_formed (request_at names h) then answered answer_held else refused (placeless F.BadRequest))) found_held.looked
+  ruled_held : reported (o before (when well_formed (request_at names h) then Ok answer_held else Err (placeless F.BadRequest))) found_held.looked
       ≡ ruled
   unfolding looked_over
   ruled_held = rw (held_at_lem names q h is-h, held_fits given_request)
       (by o (well_formed given_request) (search (match_of ts) allow deny (held given_request)) (capped (looked ts allow deny (held given_request))))
     where
       by : (o : Option Refusal) (b : Bool) (a : Answer) (n : ℕ)
-          → reported (o before (when b then answered a else refused (placeless F.BadRequest))) n
-          ≡ reported (o before (when b then answered a else refused (placeless F.BadRequest)))
-          (number_of (when b then answered n else refused (placeless F.BadRequest)))
-      by (some g) b a n = refl
-      by none true a n = refl
-      by none false a n = refl
+          → reported (o before (when b then Ok a else Err (placeless F.BadRequest))) n
+          ≡ reported (o before (when b then Ok a else Err (placeless F.BadRequest)))
+          (number_of (when b then Ok n else Err (placeless F.BadRequest)))
+      by (Some g) b a n = refl
+      by None true a n = refl
+      by None false a n = refl
 
-  pub rule_answer_lem : (f : Finding) → f ≡ finding_of o found_held → (y : Searched) → f ≡ Finding.Answer y
+  pub rule_answer_lem : (f : Option Searched) → f ≡ finding_of o found_held → (y : Searched) → f ≡ Some y
       → (b : Bool) → b ≡ well_formed (request_at names h) → (r : Reported) → r ≡ refusing_request b y.answer y.looked → r ≡ ruled
   rule_answer_lem f is_f y e b is_b r is-r = by o (sym is_f ∙ e) ∙ ruled_held
     where
       fits : (b : Bool) → refusing_request b answer_held found_held.looked
-          ≡ reported (when b then answered answer_held else refused (placeless F.BadRequest)) found_held.looked
+          ≡ reported (when b then Ok answer_held else Err (placeless F.BadRequest)) found_held.looked
       fits true = refl
       fits false = refl
 
-      by : (o : Option Refusal) → finding_of o found_held ≡ Finding.Answer y
-          → r ≡ reported (o before (when well_formed (request_at names h) then answered answer_held else refused (placeless F.BadRequest))) found_held.looked
-      by none k =
+      by : (o : Option Refusal) → finding_of o found_held ≡ Some y
+          → r ≡ reported (o before (when well_formed (request_at names h) then Ok answer_held else Err (placeless F.BadRequest))) found_held.looked
+      by None k =
           let same : found_held ≡ y = cc in
           is-r ∙ rw (← same, is_b) (fits (well_formed (request_at names h)))
-      by (some g) k = let z : ◌≡◌ {A = ℕ} 0 1 = cc in absurd (omega arith)
+      by (Some g) k = let z : ◌≡◌ {A = ℕ} 0 1 = cc in absurd (omega arith)
 
-  pub rule_doubtful : (f : Finding) → f ≡ finding_of o found_held → f ≡ Finding.Doubtful
-      → (p : Pass) → p ≡ pass_of o none → (r : Reported) → r ≡ refused_by p → r ≡ ruled
+  pub rule_doubtful : (f : Option Searched) → f ≡ finding_of o found_held → f ≡ None
+      → (p : Result (Option Answer) Refusal) → p ≡ pass_of o None → (r : Reported) → r ≡ refused_by p → r ≡ ruled
   rule_doubtful f is_f e p is-p r is-r = by o (sym is_f ∙ e) (is-r ∙ ap refused_by is-p)
     where
-      by : (o : Option Refusal) → finding_of o found_held ≡ Finding.Doubtful → r ≡ refused_by (pass_of o none)
-          → r ≡ reported (o before decide_over ts allow deny (some given_request)) (looked_over ts allow deny (some given_request))
-      by none k l = let z : ◌≡◌ {A = ℕ} 0 1 = cc in absurd (omega arith)
-      by (some g) k l = l
+      by : (o : Option Refusal) → finding_of o found_held ≡ None → r ≡ refused_by (pass_of o None)
+          → r ≡ reported (o before decide_over ts allow deny (Some given_request)) (looked_over ts allow deny (Some given_request))
+      by None k l = let z : ◌≡◌ {A = ℕ} 0 1 = cc in absurd (omega arith)
+      by (Some g) k l = l
 
 module _ (allow deny : List ℕ) (r : Request) (x : Bool) (is_x : x ≡ ltb 16384 (length allow)) where
   pub decide_allow : x ≡ true → (g : Refusal) → g ≡ refusal F.OverLimit 1 0 → (z : Reported) → z ≡ refused_report g
-      → z ≡ reported (decide allow deny (some r)) (looked_over [] allow deny (some r))
+      → z ≡ reported (decide allow deny (Some r)) (looked_over [] allow deny (Some r))
   unfolding decide
   decide_allow e g is-g z is-z = is-z ∙ rw (← is_x, e, is-g)
 
   module _ (within : x ≡ false) (y : Bool) (is_y : y ≡ ltb 16384 (length deny)) where
     pub decide_deny : y ≡ true → (g : Refusal) → g ≡ refusal F.OverLimit 2 0 → (z : Reported) → z ≡ refused_report g
-        → z ≡ reported (decide allow deny (some r)) (looked_over [] allow deny (some r))
+        → z ≡ reported (decide allow deny (Some r)) (looked_over [] allow deny (Some r))
     unfolding decide
     decide_deny e g is-g z is-z = is-z ∙ rw (← is_x, within, ← is_y, e, is-g)
 
     pub decide_contents : y ≡ false → (q : Reported)
-        → q ≡ reported (contents_fault allow deny [] before decide_over (tables_of []) allow deny (some r)) (looked_over (tables_of []) allow deny (some r))
-        → q ≡ reported (decide allow deny (some r)) (looked_over [] allow deny (some r))
+        → q ≡ reported (contents_fault allow deny [] before decide_over (tables_of []) allow deny (Some r)) (looked_over (tables_of []) allow deny (Some r))
+        → q ≡ reported (decide allow deny (Some r)) (looked_over [] allow deny (Some r))
     unfolding decide contents_fault lines_fault read_tables
     decide_contents e q is-q = is-q ∙ sym (rw (← is_x, within, ← is_y, e))
 
 module _ (allow deny tables : List ℕ) (r : Request) (x : Bool) (is_x : x ≡ ltb 16384 (length allow)) where
   abbrev tabled : Reported
-  tabled = reported (decide_tables allow deny tables (some r)) (looked_over (tables_of tables) allow deny (some r))
+  tabled = reported (decide_tables allow deny tables (Some r)) (looked_over (tables_of tables) allow deny (Some r))
 
   pub tabled_allow : x ≡ true → (g : Refusal) → g ≡ refusal F.OverLimit 1 0 → (z : Reported) → z ≡ refused_report g → z ≡ tabled
   unfolding decide_tables
@@ -212,23 +207,23 @@ module _ (allow deny tables : List ℕ) (r : Request) (x : Bool) (is_x : x ≡ l
     tabled_deny e g is-g z is-z = is-z ∙ rw (← is_x, within, ← is_y, e, is-g)
 
     pub tabled_framed : y ≡ false → (q : Reported)
-        → q ≡ reported ((tables_frame tables or_else contents_fault allow deny tables) before decide_over (tables_of tables) allow deny (some r))
-        (looked_over (tables_of tables) allow deny (some r))
+        → q ≡ reported ((tables_frame tables or_else contents_fault allow deny tables) before decide_over (tables_of tables) allow deny (Some r))
+        (looked_over (tables_of tables) allow deny (Some r))
         → q ≡ tabled
     unfolding decide_tables contents_fault lines_fault
     tabled_framed short q is-q = is-q
         ∙ sym (rw (← is_x, within, ← is_y, short)
-        (ap (λ (o : Option Refusal). reported (o before decide_over (tables_of tables) allow deny (some r)) (looked_over (tables_of tables) allow deny (some r)))
+        (ap (λ (o : Option Refusal). reported (o before decide_over (tables_of tables) allow deny (Some r)) (looked_over (tables_of tables) allow deny (Some r)))
         (by (tables_frame tables) (hosts_fault S.allow allow) (hosts_fault S.deny deny) (tables_fault allow deny tables))))
       where
         by : (a b c d : Option Refusal) → (a or_else b or_else c or_else d) ≡ (a or_else (b or_else c or_else d))
-        by none b c d = refl
-        by (some x) b c d = refl
+        by None b c d = refl
+        by (Some x) b c d = refl
 
 module _ (allow deny tables : List ℕ) (r : Request) (f : Framing) (is_f : f ≡ frame_of (read_tables tables)) where
   abbrev framed_report : Reported
-  framed_report = reported ((tables_frame tables or_else contents_fault allow deny tables) before decide_over (tables_of tables) allow deny (some r))
-      (looked_over (tables_of tables) allow deny (some r))
+  framed_report = reported ((tables_frame tables or_else contents_fault allow deny tables) before decide_over (tables_of tables) allow deny (Some r))
+      (looked_over (tables_of tables) allow deny (Some r))
 
   pub framed_cut : f ≡ Framing.Cut → (g : Refusal) → g ≡ refusal F.CutShort 5 0 → (z : Reported) → z ≡ refused_report g → z ≡ framed_report
   framed_cut k g is-g z is-z = is-z ∙ rw (frame_cut tables f is_f k, is-g)
@@ -237,8 +232,8 @@ module _ (allow deny tables : List ℕ) (r : Request) (f : Framing) (is_f : f �
   framed_trailing k g is-g z is-z = is-z ∙ rw (frame_trailing tables f is_f k, is-g)
 
   pub framed_contents : f ≡ Framing.Sound → (q : Reported)
-      → q ≡ reported (contents_fault allow deny tables before decide_over (tables_of tables) allow deny (some r))
-      (looked_over (tables_of tables) allow deny (some r))
+      → q ≡ reported (contents_fault allow deny tables before decide_over (tables_of tables) allow deny (Some r))
+      (looked_over (tables_of tables) allow deny (Some r))
       → q ≡ framed_report
   framed_contents k q is-q = is-q ∙ sym (rw (frame_sound tables f is_f k))
 

@@ -1,15 +1,15 @@
 -- Examples, computed from the definitions: a definition that answers otherwise is refused here.
 -- Assumes nothing.
+use Rattle.std.specs.Prelude.{Err, Some}
 use Prim.Native.Nat.{ℕ}
 use mathlib.Core.Bool.{false}
 use mathlib.Core.List.{List, [], ◌∷◌}
-use mathlib.Core.Option.{some}
 use mathlib.Core.Path.{◌≡◌, refl}
 use Rattle.text.specs.Basics.{any, all, first}
 use Rattle.text.specs.Text.{bytes, equal, split_once, split, lower, equal_fold}
 use Rattle.text.specs.Number.{from_digits}
 use Rattle.section.specs.declared.Fault.TheVariants as F
-use Rattle.section.specs.Refusal.{lowest, refusal, refused}
+use Rattle.section.specs.Refusal.{lowest, refusal}
 use Rattle.address.specs.declared.Addr.TheVariants as A
 use Rattle.lines.specs.Line.{line, join, logical_lines, lines, has_bad_byte}
 use Rattle.lines.specs.Rule.{split_separator, non_empty, elements, parse_rule}
@@ -38,13 +38,13 @@ endless = 0 ∷ 1 ∷ 1 ∷ 97 ∷ 0 ∷ 0 ∷ 0 ∷ 2 ∷ 47 ∷ 97 ∷ []
 
 pub record Examples : Type 0 where
   -- "within a line the lowest number": the byte 1, and no ending newline
-  pub lowest_number : line_fault (line 1 0 (1 ∷ []) false) ≡ some F.Unended
+  pub lowest_number : line_fault (line 1 0 (1 ∷ []) false) ≡ Some F.Unended
   -- "then allow, deny ..; then 13": the byte 1 in a line of allow, and a request outside its sizes
-  pub request_last : decide (1 ∷ 10 ∷ []) [] (some unfit) ≡ refused (refusal F.BadByte 1 1)
+  pub request_last : decide (1 ∷ 10 ∷ []) [] (Some unfit) ≡ Err (refusal F.BadByte 1 1)
   -- 16: "a rule that leads more than four deep"
-  pub too_deep : tables_fault (bytes "x:/a\n") [] endless ≡ some (refusal F.TooDeep 1 1)
+  pub too_deep : tables_fault (bytes "x:/a\n") [] endless ≡ Some (refusal F.TooDeep 1 1)
   -- "these three follow 12 in that order": deny names a table that is missing, allow one that leads too deep
-  pub missing_first : tables_fault (bytes "x:/a\n") (bytes "x:/b\n") endless ≡ some (refusal F.TableName 2 1)
+  pub missing_first : tables_fault (bytes "x:/a\n") (bytes "x:/b\n") endless ≡ Some (refusal F.TableName 2 1)
 
 pub examples : Examples
 unfolding any all first equal split_once split lower equal_fold from_digits lowest join logical_lines lines has_bad_byte

@@ -2,10 +2,10 @@
 -- Joining commutes with parting at a separator, since no dropped pair holds a colon or a bracket; what holds no newline is its own join,
 -- so that the parts of a joined line are joined already.
 -- Assumes nothing.
+use Rattle.std.specs.Prelude.{None, Option, Result, Some, unwrap_or}
 use Prim.Native.Nat.{ℕ}
 use mathlib.Core.Bool.{Bool, true, false, ◌&&◌, true≢false}
 use mathlib.Core.List.{List, [], ◌∷◌, ◌++◌, reverse, reverse_aux, reverse-append}
-use mathlib.Core.Option.{Option, none, some, get_or}
 use mathlib.Core.Path.{◌≡◌, refl, sym, ap, ◌∙◌}
 use borrow.Author.Tests.{eqb-true}
 use Rattle.text.specs.Basics.{when◌then◌else◌, is_empty, any, all}
@@ -24,14 +24,13 @@ use Rattle.lists.specs.Check.{rule_fault, rule_names}
 use Rattle.lists.specs.Walk.{rule_found_by}
 use Rattle.lists.specs.Looked.{rule_looked_by}
 use Rattle.lists.specs.Code.{NoNewline, line_found, line_looked, judged_fault}
-use Rattle.rules.specs.declared.hosts_file.Examined.{Examined}
 use Rattle.rules.specs.FileCode.{Query, query_found, query_looked, examined_as, rule_examined}
 
 -- ## Parting at a separator
 
 abbrev pub join_parts : Option (List ℕ × List ℕ) → Option (List ℕ × List ℕ)
-join_parts none = none
-join_parts (some p) = some (join p.0, join p.1)
+join_parts None = None
+join_parts (Some p) = Some (join p.0, join p.1)
 
 -- a backslash before a newline
 abbrev is_pair : ℕ → ℕ → Bool
@@ -47,8 +46,8 @@ pair_bytes x y e =
     (eqb-true x 92 (sym (any_one x 92) ∙ f.0), eqb-true y 10 (sym (any_one y 10) ∙ f.1))
 
 join_parts_pair : (o : Option (List ℕ × List ℕ)) → join_parts (cons_first 92 (cons_first 10 o)) ≡ join_parts o
-join_parts_pair none = refl
-join_parts_pair (some p) = rw (join_pair p.0)
+join_parts_pair None = refl
+join_parts_pair (Some p) = rw (join_pair p.0)
 
 split_separator_pair : (b : Bool) (t : List ℕ) → split_separator b (92 ∷ 10 ∷ t) ≡ cons_first 92 (cons_first 10 (split_separator b t))
 unfolding split_separator any
@@ -62,10 +61,10 @@ unfolding split_separator
 join_parts_byte x y t b e = by (is_separator b y) (split_separator (inside_after b y) t)
   where
     by : (c : Bool) (o : Option (List ℕ × List ℕ))
-        → cons_first x (join_parts (when c then some ([], t) else cons_first y o)) ≡ join_parts (cons_first x (when c then some ([], t) else cons_first y o))
+        → cons_first x (join_parts (when c then Some ([], t) else cons_first y o)) ≡ join_parts (cons_first x (when c then Some ([], t) else cons_first y o))
     by true o = rw (join_plain x [] refl)
-    by false none = refl
-    by false (some p) = rw (join_kept x y p.0 e)
+    by false None = refl
+    by false (Some p) = rw (join_kept x y p.0 e)
 
 join_nil : ◌≡◌ {A = List ℕ} [] (join [])
 unfolding join
@@ -78,9 +77,9 @@ unfolding split_separator
 parts_cons b x t h = by (is_separator b x)
   where
     by : (c : Bool)
-        → (when c then some ([], join t) else cons_first x (split_separator (inside_after b x) (join t)))
-        ≡ join_parts (when c then some ([], t) else cons_first x (split_separator (inside_after b x) t))
-    by true = ap (λ (s : List ℕ). some (s, join t)) join_nil
+        → (when c then Some ([], join t) else cons_first x (split_separator (inside_after b x) (join t)))
+        ≡ join_parts (when c then Some ([], t) else cons_first x (split_separator (inside_after b x) t))
+    by true = ap (λ (s : List ℕ). Some (s, join t)) join_nil
     by false = h
 
 split_separator_one : (b : Bool) (x : ℕ) → split_separator b (join (x ∷ [])) ≡ join_parts (split_separator b (x ∷ []))
@@ -107,8 +106,8 @@ split_separator_join b (x ∷ y ∷ t) =
 -- ## What holds no newline
 
 abbrev pub AllParts : (ℕ → Bool) → Option (List ℕ × List ℕ) → Type 0
-AllParts q none = Unit {0}
-AllParts q (some p) = (all q p.0 ≡ true) × (all q p.1 ≡ true)
+AllParts q None = Unit {0}
+AllParts q (Some p) = (all q p.0 ≡ true) × (all q p.1 ≡ true)
 
 split_separator_all : (q : ℕ → Bool) (b : Bool) (t : List ℕ) → all q t ≡ true → AllParts q (split_separator b t)
 unfolding split_separator all
@@ -117,10 +116,10 @@ split_separator_all q b (x ∷ t) e =
     let f = and_true (q x) (all q t) e in
     by (is_separator b x) (split_separator (inside_after b x) t) f.0 f.1 (split_separator_all q (inside_after b x) t f.1)
   where
-    by : (c : Bool) (o : Option (List ℕ × List ℕ)) → q x ≡ true → all q t ≡ true → AllParts q o → AllParts q (when c then some ([], t) else cons_first x o)
+    by : (c : Bool) (o : Option (List ℕ × List ℕ)) → q x ≡ true → all q t ≡ true → AllParts q o → AllParts q (when c then Some ([], t) else cons_first x o)
     by true o f g h = (refl, g)
-    by false none f g h = tt
-    by false (some p) f g h = (rw f h.0, h.1)
+    by false None f g h = tt
+    by false (Some p) f g h = (rw f h.0, h.1)
 
 pub joined_all : (s : List ℕ) → NoNewline (join s) → AllParts is_no_newline (join_parts (split_separator false s))
 joined_all s h = rw (← (split_separator_join false s)) (split_separator_all is_no_newline false (join s) h)
@@ -137,12 +136,12 @@ has_bad_percent_join s h = rw (join_clean (join s) h)
 
 -- the parts of a line, as a rule
 abbrev pub rule_by : List ℕ × List ℕ → Option (List ℕ × List ℕ) → Rule
-rule_by p o = let q : List ℕ × List ℕ = get_or o (p.1, []) in rule (elements p.0) (elements q.0) q.1
+rule_by p o = let q : List ℕ × List ℕ = unwrap_or o (p.1, []) in rule (elements p.0) (elements q.0) q.1
 
 module _ (b : Bool) (r : Query) where
-  tells : Rule → Examined
+  tells : Rule → Result Looked Fault
   unfolding rule_found_by rule_looked_by
-  tells u = examined_as (judged_fault r.view (some u)) (looked_for (when b then query_found r u else No) (counted b (capped (query_looked r u))))
+  tells u = examined_as (judged_fault r.view (Some u)) (looked_for (when b then query_found r u else No) (counted b (capped (query_looked r u))))
 
   tells_command : (ds cs : List (List ℕ)) (c : List ℕ) → NoNewline (join c) → tells (rule ds cs (join c)) ≡ tells (rule ds cs c)
   unfolding tells judged_fault rule_fault rule_names rule_found_by rule_looked_by
@@ -150,14 +149,14 @@ module _ (b : Bool) (r : Query) where
 
   tells_rest : (d t : List ℕ) (o : Option (List ℕ × List ℕ)) → NoNewline (join d) → NoNewline (join t) → AllParts is_no_newline (join_parts o)
       → tells (rule_by (join d, join t) (join_parts o)) ≡ tells (rule_by (d, t) o)
-  tells_rest d t none h k l = rw (elements_join d h, elements_join t k)
-  tells_rest d t (some q) h k l = rw (elements_join d h, elements_join q.0 l.0) (tells_command (elements d) (elements q.0) q.1 l.1)
+  tells_rest d t None h k l = rw (elements_join d h, elements_join t k)
+  tells_rest d t (Some q) h k l = rw (elements_join d h, elements_join q.0 l.0) (tells_command (elements d) (elements q.0) q.1 l.1)
 
   rule_examined_parts : (s : List ℕ) (o : Option (List ℕ × List ℕ)) → split_separator false s ≡ o → AllParts is_no_newline (join_parts o)
       → rule_examined b r (join s) ≡ rule_examined b r s
   unfolding rule_examined line_found line_looked parse_rule tells
-  rule_examined_parts s none e h = rw (split_separator_join false s, e)
-  rule_examined_parts s (some p) e h =
+  rule_examined_parts s None e h = rw (split_separator_join false s, e)
+  rule_examined_parts s (Some p) e h =
       rw (split_separator_join false s, e)
       (ap (λ (o : Option (List ℕ × List ℕ)). tells (rule_by (join p.0, join p.1) o)) (split_separator_join false p.1)
       ∙ tells_rest p.0 p.1 (split_separator false p.1) h.0 h.1 (joined_all p.1 h.1))

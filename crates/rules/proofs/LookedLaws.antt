@@ -1,10 +1,10 @@
 -- Document 02, request 12: the walk looks at no element twice, so without tables the number is at most that of the elements.
 -- Each list, rule, line and file is bounded by the sum of what its elements count; an element that names no table counts one.
 -- Assumes nothing.
+use Rattle.std.specs.Prelude.{None, Option, Some}
 use Prim.Native.Nat.{ℕ, ◌+◌, ◌≤◌}
 use mathlib.Core.Bool.{Bool, true, false, ◌||◌}
 use mathlib.Core.List.{List, [], ◌∷◌}
-use mathlib.Core.Option.{Option, none, some}
 use mathlib.Core.Path.{◌≡◌, refl}
 use native.Mathlib.Omega.{arith}
 use Rattle.text.specs.Basics.{when◌then◌else◌, holds, is_some, any, first, sum, sum_until}
@@ -68,8 +68,8 @@ abbrev names : List ℕ → Bool
 names e = holds (λ n. true) (named_table e)
 
 unnamed_one : (c : List ℕ → ℕ) (o : Option (List ℕ)) → holds (λ n. true) o ≡ false → looked_with c o ≡ 1
-unnamed_one c none e = refl
-unnamed_one c (some n) e = let z : ◌≡◌ {A = ℕ} 0 1 = cc in absurd (omega arith)
+unnamed_one c None e = refl
+unnamed_one c (Some n) e = let z : ◌≡◌ {A = ℕ} 0 1 = cc in absurd (omega arith)
 
 list_ones : (c : List ℕ → ℕ) (ws : List (List ℕ)) → any names ws ≡ false → list_sum (element_looked c) ws ≡ list_elements ws
 unfolding any sum element_looked
@@ -105,8 +105,8 @@ module _ (ts : List Table) where
       by : (b : Bool) (o : Option Rule) → (when b then false else holds (rule_names (λ n. true)) o) ≡ false
           → (when b then 0 else of_rule (rule_looked ts r) o) ≤ (when b then 0 else of_rule rule_elements o)
       by true o e = omega arith
-      by false none e = omega arith
-      by false (some u) e = rule_le r u e
+      by false None e = omega arith
+      by false (Some u) e = rule_le r u e
 
   until_le : (p : Line → Bool) (r : Request) (ls : List Line) → any (line_names (λ n. true)) ls ≡ false
       → sum_until p (line_count (rule_looked ts r)) ls ≤ sum (line_count rule_elements) ls

@@ -1,15 +1,15 @@
 -- Document 02, request 12: "Where demand 3 gives equal answers the number is equal too". What an element counts knows no user; and wherever the walk
 -- for a user not fetched does not ask, the walk for any other user takes the same turns.
 -- Assumes nothing.
+use Rattle.std.specs.Prelude.{Err, None, Ok, Option, Some, unwrap_or}
 use Prim.Native.Nat.{ℕ, ◌+◌}
 use mathlib.Core.Bool.{Bool, true, false, ◌||◌}
 use mathlib.Core.List.{List, [], ◌∷◌}
-use mathlib.Core.Option.{Option, none, some, get_or}
 use mathlib.Core.Path.{◌≡◌, refl, sym, ap, ◌∙◌}
 use Rattle.text.specs.Basics.{when◌then◌else◌, ◌>>=◌, ◌or_else◌, is_some, first, sum_until}
 use Rattle.section.specs.declared.Fault.TheVariants as F
 use Rattle.section.specs.declared.Refusal.{Refusal}
-use Rattle.section.specs.Refusal.{Outcome, refused, answered, placeless, ◌before◌}
+use Rattle.section.specs.Refusal.{Outcome, placeless, ◌before◌}
 use Rattle.section.specs.Section.{part}
 use Rattle.lines.specs.Line.{Line, lines, is_comment, is_blank}
 use Rattle.lines.specs.Rule.{Rule, parse_rule, is_except}
@@ -124,11 +124,11 @@ module _ (ts : List Table) (r : Request) (t₀ : List ℕ) (u : User) (t : List 
         quiet x Yes h = tt
         quiet x Ask h = h
 
-        by : (b : Bool) (o : Option Rule) → QuietAnswer (when b then none else (o >>= λ x. rule_answer v f l x (rule_found (match_of ts) unasked x)))
+        by : (b : Bool) (o : Option Rule) → QuietAnswer (when b then None else (o >>= λ x. rule_answer v f l x (rule_found (match_of ts) unasked x)))
             → (when b then 0 else of_rule (rule_looked ts asked) o) ≡ (when b then 0 else of_rule (rule_looked ts unasked) o)
         by true o h = refl
-        by false none h = refl
-        by false (some x) h = rule_looked_same x (quiet x (rule_found (match_of ts) unasked x) h)
+        by false None h = refl
+        by false (Some x) h = rule_looked_same x (quiet x (rule_found (match_of ts) unasked x) h)
 
     until_same : (ls : List Line) → QuietAnswer (first (line_answer v f (rule_found (match_of ts) unasked)) ls)
         → sum_until (λ l. is_some (line_answer v f (rule_found (match_of ts) asked) l)) (line_count (rule_looked ts asked)) ls
@@ -144,8 +144,8 @@ module _ (ts : List Table) (r : Request) (t₀ : List ℕ) (u : User) (t : List 
             ≡ sum_until (λ l. is_some (line_answer v f (rule_found (match_of ts) unasked) l)) (line_count (rule_looked ts unasked)) ls)
             → sum_until (λ l. is_some (line_answer v f (rule_found (match_of ts) asked) l)) (line_count (rule_looked ts asked)) (l ∷ ls)
             ≡ sum_until (λ l. is_some (line_answer v f (rule_found (match_of ts) unasked) l)) (line_count (rule_looked ts unasked)) (l ∷ ls)
-        by none e q ih = rw (line_looked_same l (rw e tt), line_same (match_of ts) r t₀ u t v f l (rw e tt), e, ih q)
-        by (some a) e q ih = rw (line_looked_same l (rw e q), line_same (match_of ts) r t₀ u t v f l (rw e q), e)
+        by None e q ih = rw (line_looked_same l (rw e tt), line_same (match_of ts) r t₀ u t v f l (rw e tt), e, ih q)
+        by (Some a) e q ih = rw (line_looked_same l (rw e q), line_same (match_of ts) r t₀ u t v f l (rw e q), e)
 
   first_line_same : (ls : List Line) → QuietAnswer (first (line_answer Ver.Granted Deciding.Allow (rule_found (match_of ts) unasked)) ls)
       → first (line_answer Ver.Granted Deciding.Allow (rule_found (match_of ts) asked)) ls
@@ -167,19 +167,19 @@ module _ (ts : List Table) (r : Request) (t₀ : List ℕ) (u : User) (t : List 
 
       by : (o : Option Answer) → first (line_answer Ver.Granted Deciding.Allow (rule_found (match_of ts) unasked)) (lines allow) ≡ o
           → (p : Option Answer) → first (line_answer Ver.Denied Deciding.Deny (rule_found (match_of ts) unasked)) (lines deny) ≡ p
-          → QuietVerdict (get_or (o or_else p) none_matched).verdict → looked ts allow deny asked ≡ looked ts allow deny unasked
-      by (some a) e p g h = rw (
+          → QuietVerdict (unwrap_or (o or_else p) none_matched).verdict → looked ts allow deny asked ≡ looked ts allow deny unasked
+      by (Some a) e p g h = rw (
         until_same Ver.Granted Deciding.Allow (lines allow) (rw e h),
         first_line_same (lines allow) (rw e h),
         e,
       )
-      by none e none g h = rw (
+      by None e None g h = rw (
         until_same Ver.Granted Deciding.Allow (lines allow) (rw e tt),
         first_line_same (lines allow) (rw e tt),
         e,
         until_same Ver.Denied Deciding.Deny (lines deny) (rw g tt),
       )
-      by none e (some a) g h = rw (
+      by None e (Some a) g h = rw (
         until_same Ver.Granted Deciding.Allow (lines allow) (rw e tt),
         first_line_same (lines allow) (rw e tt),
         e,
@@ -188,15 +188,15 @@ module _ (ts : List Table) (r : Request) (t₀ : List ℕ) (u : User) (t : List 
 
 -- a number that is told only with an answer
 abbrev pub unless_refused : Outcome Answer → ℕ → ℕ
-unless_refused (refused f) n = 0
-unless_refused (answered a) n = n
+unless_refused (Err f) n = 0
+unless_refused (Ok a) n = n
 
 -- a call that neither asks nor is refused tells every user the same number
 module _ (r : Request) (t₀ : List ℕ) (u : User) (t : List ℕ) (e : well_formed (with_user r u t) ≡ well_formed (with_user r U.NotFetched t₀)) where
   pub over_looked_same : (o : Option Refusal) (ts : List Table) (allow deny : List ℕ)
-      → QuietOutcome (o before decide_over ts allow deny (some (with_user r U.NotFetched t₀)))
-      → unless_refused (o before decide_over ts allow deny (some (with_user r U.NotFetched t₀))) (looked_over ts allow deny (some (with_user r u t)))
-      ≡ unless_refused (o before decide_over ts allow deny (some (with_user r U.NotFetched t₀))) (looked_over ts allow deny (some (with_user r U.NotFetched t₀)))
+      → QuietOutcome (o before decide_over ts allow deny (Some (with_user r U.NotFetched t₀)))
+      → unless_refused (o before decide_over ts allow deny (Some (with_user r U.NotFetched t₀))) (looked_over ts allow deny (Some (with_user r u t)))
+      ≡ unless_refused (o before decide_over ts allow deny (Some (with_user r U.NotFetched t₀))) (looked_over ts allow deny (Some (with_user r U.NotFetched t₀)))
   unfolding looked_over
   over_looked_same o ts a d = by o (well_formed (with_user r U.NotFetched t₀)) (well_formed (with_user r u t)) e
     where
@@ -210,11 +210,11 @@ module _ (r : Request) (t₀ : List ℕ) (u : User) (t : List ℕ) (e : well_for
       k = capped (looked ts a d (held (with_user r U.NotFetched t₀)))
 
       by : (o : Option Refusal) (b b' : Bool) → b' ≡ b
-          → QuietOutcome (o before (when b then answered (search (match_of ts) a d x) else refused (placeless F.BadRequest)))
-          → unless_refused (o before (when b then answered (search (match_of ts) a d x) else refused (placeless F.BadRequest)))
-          (number_of (when b' then answered n else refused (placeless F.BadRequest)))
-          ≡ unless_refused (o before (when b then answered (search (match_of ts) a d x) else refused (placeless F.BadRequest)))
-          (number_of (when b then answered k else refused (placeless F.BadRequest)))
-      by (some f) b b' e h = refl
-      by none false b' e h = refl
-      by none true b' e h = rw e (ap capped (looked_same ts (held r) t₀ u t a d h))
+          → QuietOutcome (o before (when b then Ok (search (match_of ts) a d x) else Err (placeless F.BadRequest)))
+          → unless_refused (o before (when b then Ok (search (match_of ts) a d x) else Err (placeless F.BadRequest)))
+          (number_of (when b' then Ok n else Err (placeless F.BadRequest)))
+          ≡ unless_refused (o before (when b then Ok (search (match_of ts) a d x) else Err (placeless F.BadRequest)))
+          (number_of (when b then Ok k else Err (placeless F.BadRequest)))
+      by (Some f) b b' e h = refl
+      by None false b' e h = refl
+      by None true b' e h = rw e (ap capped (looked_same ts (held r) t₀ u t a d h))

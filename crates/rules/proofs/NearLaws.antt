@@ -2,10 +2,10 @@
 --   rule_near  == a rule looks at as much by counts that stop as by those that don't
 --   total_near == so do both files
 -- Assumes nothing.
+use Rattle.std.specs.Prelude.{None, Option, Some}
 use Prim.Native.Nat.{ℕ, ◌+◌}
 use mathlib.Core.Bool.{Bool, true, false, ◌||◌}
 use mathlib.Core.List.{List, [], ◌∷◌}
-use mathlib.Core.Option.{Option, none, some}
 use mathlib.Core.Path.{◌≡◌, refl, ◌∙◌}
 use Rattle.text.specs.Basics.{when◌then◌else◌, is_some, first, sum_until}
 use Rattle.lines.specs.Line.{Line, lines, is_comment, is_blank}
@@ -69,8 +69,8 @@ unfolding element_looked
 element_near x y near e = by (named_table e)
   where
     by : (o : Option (List ℕ)) → capped (looked_with x o) ≡ capped (looked_with y o)
-    by none = refl
-    by (some n) = capped_both 1 (x n) 1 (y n) refl (near n)
+    by None = refl
+    by (Some n) = capped_both 1 (x n) 1 (y n) refl (near n)
 
 pub rule_near : (s c : Matcher) (r : Request) (x x' y y' : List ℕ → ℕ) → Near x x' → Near y y' → Near (rule_looked_by s c x y r) (rule_looked_by s c x' y' r)
 unfolding rule_looked_by
@@ -91,8 +91,8 @@ line_near c k near l = by (is_comment l || is_blank l) (parse_rule l.raw)
   where
     by : (b : Bool) (o : Option Rule) → capped (when b then 0 else of_rule c o) ≡ capped (when b then 0 else of_rule k o)
     by true o = refl
-    by false none = refl
-    by false (some u) = near u
+    by false None = refl
+    by false (Some u) = near u
 
 until_near : (p : Line → Bool) (c k : Line → ℕ) → Near c k → (ls : List Line) → capped (sum_until p c ls) ≡ capped (sum_until p k ls)
 unfolding sum_until

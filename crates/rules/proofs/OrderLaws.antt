@@ -1,10 +1,10 @@
 -- The checks in the papers' order, each by a pass with the notes that it needs.
 -- Assumes nothing.
+use Rattle.std.specs.Prelude.{Err, None, Ok, Option, Result, Some}
 use Prim.Native.Nat.{ℕ}
 use native.Mathlib.Omega.{arith}
 use mathlib.Core.Bool.{Bool, true, false, not, ◌||◌}
 use mathlib.Core.List.{List, [], ◌∷◌}
-use mathlib.Core.Option.{Option, none, some}
 use mathlib.Core.Path.{◌≡◌, refl, sym, ap, ap₂, ◌∙◌}
 use lib.Dec.{eqb, ltb}
 use lib.ListN.{length}
@@ -26,8 +26,6 @@ use Rattle.views.proofs.ViewLaws.{closed, naming_right, names_only, unjudged}
 use Rattle.elements.specs.Code.{View, view_of}
 use Rattle.lists.specs.Code.{missing_by, deep_by, is_missing_name, is_deep_name}
 use Rattle.rules.specs.declared.Answer.{Answer}
-use Rattle.rules.specs.declared.hosts_file.Pass.{Pass}
-use Rattle.rules.specs.declared.hosts_file.Pass.TheVariants as P
 use Rattle.rules.specs.Check.{hosts_fault, naming_fault, missing_fault, depth_fault, tables_fault}
 use Rattle.rules.specs.FileCode.{hosts_fault_at, pass_of, combined}
 use Rattle.rules.specs.Code.{lines_fault, lines_fault_by, contents_fault, missing_both, depth_both, bad_table_by, from_depth, from_tables, Named}
@@ -36,56 +34,56 @@ use Rattle.rules.proofs.SearchLaws.{missing_of, noted_deep_of}
 
 -- ## Two checks, one after the other
 
-passes : (a b : Option Refusal) → combined (pass_of a none) (pass_of b none) ≡ pass_of (a or_else b) none
-passes none b = refl
-passes (some f) b = refl
+passes : (a b : Option Refusal) → combined (pass_of a None) (pass_of b None) ≡ pass_of (a or_else b) None
+passes None b = refl
+passes (Some f) b = refl
 
-module _ (a b : Option Refusal) (p q s : Pass) (is-p : p ≡ pass_of a none) (is-q : q ≡ pass_of b none) (is-s : s ≡ combined p q) where
-  both : s ≡ pass_of (a or_else b) none
+module _ (a b : Option Refusal) (p q s : Result (Option Answer) Refusal) (is-p : p ≡ pass_of a None) (is-q : q ≡ pass_of b None) (is-s : s ≡ combined p q) where
+  both : s ≡ pass_of (a or_else b) None
   both = is-s ∙ ap₂ combined is-p is-q ∙ passes a b
 
-pub both_lines : (v : View) (allow deny : List ℕ) (p q : Pass) → p ≡ pass_of (hosts_fault_at 1 v allow) none → q ≡ pass_of (hosts_fault_at 2 v deny) none
-    → (s : Pass) → s ≡ combined p q → s ≡ pass_of (lines_fault_by v allow deny) none
+pub both_lines : (v : View) (allow deny : List ℕ) (p q : Result (Option Answer) Refusal) → p ≡ pass_of (hosts_fault_at 1 v allow) None → q ≡ pass_of (hosts_fault_at 2 v deny) None
+    → (s : Result (Option Answer) Refusal) → s ≡ combined p q → s ≡ pass_of (lines_fault_by v allow deny) None
 unfolding lines_fault_by
 both_lines v allow deny p q is-p is-q s is-s = both (hosts_fault_at 1 v allow) (hosts_fault_at 2 v deny) p q s is-p is-q is-s
 
 -- what a check answers by its fault
-module _ (o : Option Refusal) (p : Pass) (is-p : p ≡ pass_of o none) where
-  pub check_clean : p ≡ P.Unmatched → o ≡ none
+module _ (o : Option Refusal) (p : Result (Option Answer) Refusal) (is-p : p ≡ pass_of o None) where
+  pub check_clean : p ≡ (Ok None) → o ≡ None
   check_clean e = by o (sym is-p ∙ e)
     where
-      by : (o : Option Refusal) → pass_of o none ≡ P.Unmatched → o ≡ none
-      by none k = refl
-      by (some f) k = let z : ◌≡◌ {A = ℕ} 0 1 = cc in absurd (omega arith)
+      by : (o : Option Refusal) → pass_of o None ≡ (Ok None) → o ≡ None
+      by None k = refl
+      by (Some f) k = let z : ◌≡◌ {A = ℕ} 0 1 = cc in absurd (omega arith)
 
-  pub check_faulty : (g : Refusal) → p ≡ P.Faulty g → (q : Option Refusal) → P.Faulty g ≡ pass_of (o or_else q) none
+  pub check_faulty : (g : Refusal) → p ≡ Err g → (q : Option Refusal) → Err g ≡ pass_of (o or_else q) None
   check_faulty g e q = by o (sym is-p ∙ e)
     where
-      by : (o : Option Refusal) → pass_of o none ≡ P.Faulty g → P.Faulty g ≡ pass_of (o or_else q) none
-      by none k = let z : ◌≡◌ {A = ℕ} 0 1 = cc in absurd (omega arith)
-      by (some f) k = sym k
+      by : (o : Option Refusal) → pass_of o None ≡ Err g → Err g ≡ pass_of (o or_else q) None
+      by None k = let z : ◌≡◌ {A = ℕ} 0 1 = cc in absurd (omega arith)
+      by (Some f) k = sym k
 
-  pub check_never : (a : Answer) → p ≡ P.Matched a → ⊥
+  pub check_never : (a : Answer) → p ≡ Ok (Some a) → ⊥
   check_never a e = by o (sym is-p ∙ e)
     where
-      by : (o : Option Refusal) → pass_of o none ≡ P.Matched a → ⊥
-      by none k = let z : ◌≡◌ {A = ℕ} 0 1 = cc in omega arith
-      by (some f) k = let z : ◌≡◌ {A = ℕ} 0 1 = cc in omega arith
+      by : (o : Option Refusal) → pass_of o None ≡ Ok (Some a) → ⊥
+      by None k = let z : ◌≡◌ {A = ℕ} 0 1 = cc in omega arith
+      by (Some f) k = let z : ◌≡◌ {A = ℕ} 0 1 = cc in omega arith
 
 -- ## The lines alone
 
-pub lines_plain : (x allow deny : List ℕ) (p : Pass) → p ≡ pass_of (lines_fault_by (view_of x []) allow deny) none → p ≡ pass_of (lines_fault allow deny) none
+pub lines_plain : (x allow deny : List ℕ) (p : Result (Option Answer) Refusal) → p ≡ pass_of (lines_fault_by (view_of x []) allow deny) None → p ≡ pass_of (lines_fault allow deny) None
 unfolding lines_fault_by lines_fault
 lines_plain x allow deny p is-p =
-    is-p ∙ ap₂ (λ (a b : Option Refusal). pass_of (a or_else b) none) (text S.allow allow) (text S.deny deny)
+    is-p ∙ ap₂ (λ (a b : Option Refusal). pass_of (a or_else b) None) (text S.allow allow) (text S.deny deny)
   where
     text : (s : S.Section) (t : List ℕ) → hosts_fault_at s.order (view_of x []) t ≡ hosts_fault s t
     text s t = judged_plain s (view_of x []) t (λ n. ap is_deep_name (unjudged x n)) (λ n. ap is_missing_name (unjudged x n))
 
 -- ## Names that are missing
 
-module _ (allow deny t : List ℕ) (sound : lines_fault allow deny ≡ none) where
-  lines_sound : (hosts_fault S.allow allow ≡ none) × (hosts_fault S.deny deny ≡ none)
+module _ (allow deny t : List ℕ) (sound : lines_fault allow deny ≡ None) where
+  lines_sound : (hosts_fault S.allow allow ≡ None) × (hosts_fault S.deny deny ≡ None)
   unfolding lines_fault
   lines_sound = or_else_nones (hosts_fault S.allow allow) (hosts_fault S.deny deny) sound
 
@@ -109,9 +107,9 @@ module _ (allow deny t : List ℕ) (sound : lines_fault allow deny ≡ none) whe
         (judged_missing S.allow names allow shallow lines_sound.0 ∙ naming_same F.TableName (missing_by names) S.allow allow (is_missing (tables_of t)) missing)
         (judged_missing S.deny names deny shallow lines_sound.1 ∙ naming_same F.TableName (missing_by names) S.deny deny (is_missing (tables_of t)) missing)
 
-    module _ (p : Pass) (is-p : p ≡ pass_of (lines_fault_by names allow deny) none) where
-      missing_pass : p ≡ pass_of (missing_both (tables_of t) allow deny) none
-      missing_pass = is-p ∙ ap (λ (o : Option Refusal). pass_of o none) lines_missing
+    module _ (p : Result (Option Answer) Refusal) (is-p : p ≡ pass_of (lines_fault_by names allow deny) None) where
+      missing_pass : p ≡ pass_of (missing_both (tables_of t) allow deny) None
+      missing_pass = is-p ∙ ap (λ (o : Option Refusal). pass_of o None) lines_missing
 
       split : tables_fault allow deny t ≡ (missing_both (tables_of t) allow deny or_else from_tables allow deny t)
       unfolding tables_fault missing_both from_tables depth_both
@@ -123,20 +121,20 @@ module _ (allow deny t : List ℕ) (sound : lines_fault allow deny ≡ none) whe
           ap (λ (o : Option Refusal). o or_else bad_table_fault t) (or_else_assoc (a or_else c) d e)
           ∙ or_else_assoc (a or_else c) (d or_else e) (bad_table_fault t) ∙ or_else_assoc a c (d or_else e or_else bad_table_fault t)
 
-      pub naming_faulty : (g : Refusal) → p ≡ P.Faulty g → P.Faulty g ≡ pass_of (tables_fault allow deny t) none
+      pub naming_faulty : (g : Refusal) → p ≡ Err g → Err g ≡ pass_of (tables_fault allow deny t) None
       naming_faulty g e = rw split (check_faulty (missing_both (tables_of t) allow deny) p missing_pass g e (from_tables allow deny t))
 
-      pub naming_named : p ≡ P.Unmatched → Named allow deny t
+      pub naming_named : p ≡ (Ok None) → Named allow deny t
       naming_named e = record {
         named_whole = whole;
         named_lines = sound;
         named_missing = check_clean (missing_both (tables_of t) allow deny) p missing_pass e;
       }
 
-      pub naming_rest : p ≡ P.Unmatched → (q : Pass) → q ≡ pass_of (from_tables allow deny t) none → q ≡ pass_of (tables_fault allow deny t) none
+      pub naming_rest : p ≡ (Ok None) → (q : Result (Option Answer) Refusal) → q ≡ pass_of (from_tables allow deny t) None → q ≡ pass_of (tables_fault allow deny t) None
       naming_rest e q is-q = is-q ∙ sym (rw (split, check_clean (missing_both (tables_of t) allow deny) p missing_pass e))
 
-      pub naming_never : (a : Answer) → p ≡ P.Matched a → P.Unmatched ≡ pass_of (tables_fault allow deny t) none
+      pub naming_never : (a : Answer) → p ≡ Ok (Some a) → Ok None ≡ pass_of (tables_fault allow deny t) None
       naming_never a e = absurd (check_never (missing_both (tables_of t) allow deny) p missing_pass a e)
 
 -- ## From the tables on
@@ -146,11 +144,11 @@ module _ (allow deny t : List ℕ) (named : Named allow deny t) where
     told : tables_checked (tables_of t) ≡ c
     told = ap tables_checked (sym named.named_whole) ∙ sym is_c
 
-    pub named_sound : c.misnamed ≡ 0 → table_name_fault (tables_of t) ≡ none
+    pub named_sound : c.misnamed ≡ 0 → table_name_fault (tables_of t) ≡ None
     named_sound e = names_none (tables_of t) c.misnamed (sym (ap (λ (x : TablesCheck). x.misnamed) told)) e
 
     pub named_misnamed : (c.misnamed ≡ 0 → ⊥) → (g : Refusal) → g ≡ refusal F.TableName 5 c.misnamed
-        → P.Faulty g ≡ pass_of (from_tables allow deny t) none
+        → Err g ≡ pass_of (from_tables allow deny t) None
     unfolding from_tables
     named_misnamed e g is-g = rw (names_some (tables_of t) c.misnamed (sym (ap (λ (x : TablesCheck). x.misnamed) told)) e, is-g)
 
@@ -158,11 +156,11 @@ module _ (allow deny t : List ℕ) (named : Named allow deny t) where
     unfolding bad_table_by
     bad_same = sym (bad_told t ∙ rw (told, ← named.named_whole))
 
-    pub named_depth : c.misnamed ≡ 0 → (q : Pass) → q ≡ pass_of (from_depth allow deny t c.unsound) none → q ≡ pass_of (from_tables allow deny t) none
+    pub named_depth : c.misnamed ≡ 0 → (q : Result (Option Answer) Refusal) → q ≡ pass_of (from_depth allow deny t c.unsound) None → q ≡ pass_of (from_tables allow deny t) None
     unfolding from_tables from_depth
     named_depth e q is-q = is-q ∙ sym (rw (named_sound e, ← bad_same))
 
-  module _ (closing : table_name_fault (tables_of t) ≡ none) (notes : List ℕ) (full : length notes ≡ 1026) (deep : Deep (tables_in t) 4 notes) where
+  module _ (closing : table_name_fault (tables_of t) ≡ None) (notes : List ℕ) (full : length notes ≡ 1026) (deep : Deep (tables_in t) 4 notes) where
     abbrev v : View
     v = view_of t notes
 
@@ -180,11 +178,11 @@ module _ (allow deny t : List ℕ) (named : Named allow deny t) where
         ap is_deep_name (naming_right (tables_in t) (closed (tables_in t) (rw named.named_whole closing)) notes deep t n (other_place t notes n many) filled)
         ∙ noted_deep_of (tables_in t) n ∙ ap (λ (y : List Table). leads_past y 4 n) named.named_whole
 
-    none_missing : (missing_fault (tables_of t) S.allow allow ≡ none) × (missing_fault (tables_of t) S.deny deny ≡ none)
+    none_missing : (missing_fault (tables_of t) S.allow allow ≡ None) × (missing_fault (tables_of t) S.deny deny ≡ None)
     unfolding missing_both
     none_missing = or_else_nones (missing_fault (tables_of t) S.allow allow) (missing_fault (tables_of t) S.deny deny) named.named_missing
 
-    depth_text : (s : S.Section) (u : List ℕ) → hosts_fault s u ≡ none → missing_fault (tables_of t) s u ≡ none
+    depth_text : (s : S.Section) (u : List ℕ) → hosts_fault s u ≡ None → missing_fault (tables_of t) s u ≡ None
         → hosts_fault_at s.order v u ≡ depth_fault (tables_of t) s u
     depth_text s u plain none_named =
         judged_deep s v u plain (naming_same F.TableName (missing_by v) s u (is_missing (tables_of t)) missing_v ∙ none_named)
@@ -193,28 +191,28 @@ module _ (allow deny t : List ℕ) (named : Named allow deny t) where
     lines_deep : lines_fault_by v allow deny ≡ depth_both (tables_of t) allow deny
     unfolding lines_fault_by depth_both
     lines_deep =
-        let sound : (hosts_fault S.allow allow ≡ none) × (hosts_fault S.deny deny ≡ none) = lines_sound allow deny t named.named_lines in
+        let sound : (hosts_fault S.allow allow ≡ None) × (hosts_fault S.deny deny ≡ None) = lines_sound allow deny t named.named_lines in
         ap₂ ◌or_else◌ (depth_text S.allow allow sound.0 none_missing.0) (depth_text S.deny deny sound.1 none_missing.1)
 
-    pub depth_checked : (u : ℕ) (p : Pass) → p ≡ pass_of (lines_fault_by v allow deny) none → (q : Pass) → q ≡ pass_of (bad_table_by t u) none
-        → (s : Pass) → s ≡ combined p q → s ≡ pass_of (from_depth allow deny t u) none
+    pub depth_checked : (u : ℕ) (p : Result (Option Answer) Refusal) → p ≡ pass_of (lines_fault_by v allow deny) None → (q : Result (Option Answer) Refusal) → q ≡ pass_of (bad_table_by t u) None
+        → (s : Result (Option Answer) Refusal) → s ≡ combined p q → s ≡ pass_of (from_depth allow deny t u) None
     unfolding from_depth
     depth_checked u p is-p q is-q s is-s =
-        both (depth_both (tables_of t) allow deny) (bad_table_by t u) p q s (is-p ∙ ap (λ (o : Option Refusal). pass_of o none) lines_deep) is-q is-s
+        both (depth_both (tables_of t) allow deny) (bad_table_by t u) p q s (is-p ∙ ap (λ (o : Option Refusal). pass_of o None) lines_deep) is-q is-s
 
 -- ## Limits and unsound tables
 
 module _ (t : List ℕ) (u n : ℕ) (is-n : n ≡ length (tables_in t)) (y : Bool) (is_y : y ≡ ltb 12288 (length t)) where
-  pub sound_limits : (ltb 64 n || y) ≡ true → (g : Refusal) → g ≡ refusal F.BadTable 5 0 → P.Faulty g ≡ pass_of (bad_table_by t u) none
+  pub sound_limits : (ltb 64 n || y) ≡ true → (g : Refusal) → g ≡ refusal F.BadTable 5 0 → Err g ≡ pass_of (bad_table_by t u) None
   unfolding bad_table_by
   sound_limits e g is-g = rw (← is-n, ← is_y, e, is-g)
 
   module _ (e : (ltb 64 n || y) ≡ false) where
-    pub sound_all : u ≡ 0 → P.Unmatched ≡ pass_of (bad_table_by t u) none
+    pub sound_all : u ≡ 0 → Ok None ≡ pass_of (bad_table_by t u) None
     unfolding bad_table_by
     sound_all z = rw (← is-n, ← is_y, e, eq-eqb u 0 z)
 
-    pub sound_unsound : (u ≡ 0 → ⊥) → (g : Refusal) → g ≡ refusal F.BadTable 5 u → P.Faulty g ≡ pass_of (bad_table_by t u) none
+    pub sound_unsound : (u ≡ 0 → ⊥) → (g : Refusal) → g ≡ refusal F.BadTable 5 u → Err g ≡ pass_of (bad_table_by t u) None
     unfolding bad_table_by
     sound_unsound z g is-g = rw (← is-n, ← is_y, e, ne_eqb u 0 z, is-g)
 
@@ -225,28 +223,28 @@ module _ (t : List ℕ) (whole : tables_in t ≡ tables_of t) (c : TablesCheck) 
   checked_of_lem = ap tables_checked (sym whole) ∙ sym is_c
 
   pub five_misnamed : (c.misnamed ≡ 0 → ⊥) → (g : Refusal) → g ≡ refusal F.TableName 5 c.misnamed
-      → P.Faulty g ≡ pass_of (table_name_fault (tables_of t) or_else bad_table_fault t) none
+      → Err g ≡ pass_of (table_name_fault (tables_of t) or_else bad_table_fault t) None
   five_misnamed e g is-g = rw (names_some (tables_of t) c.misnamed (sym (ap (λ (x : TablesCheck). x.misnamed) checked_of_lem)) e, is-g)
 
-  pub five_named : c.misnamed ≡ 0 → (q : Pass) → q ≡ pass_of (bad_table_by t c.unsound) none
-      → q ≡ pass_of (table_name_fault (tables_of t) or_else bad_table_fault t) none
+  pub five_named : c.misnamed ≡ 0 → (q : Result (Option Answer) Refusal) → q ≡ pass_of (bad_table_by t c.unsound) None
+      → q ≡ pass_of (table_name_fault (tables_of t) or_else bad_table_fault t) None
   unfolding bad_table_by
   five_named e q is-q =
       is-q ∙ sym (rw (names_none (tables_of t) c.misnamed (sym (ap (λ (x : TablesCheck). x.misnamed) checked_of_lem)) e, bad_told t, checked_of_lem, ← whole))
 
 -- ## The lines, then the tables
 
-module _ (allow deny t : List ℕ) (p : Pass) (is-p : p ≡ pass_of (lines_fault allow deny) none) where
-  pub contents_faulty : (g : Refusal) → p ≡ P.Faulty g → P.Faulty g ≡ pass_of (contents_fault allow deny t) none
+module _ (allow deny t : List ℕ) (p : Result (Option Answer) Refusal) (is-p : p ≡ pass_of (lines_fault allow deny) None) where
+  pub contents_faulty : (g : Refusal) → p ≡ Err g → Err g ≡ pass_of (contents_fault allow deny t) None
   unfolding contents_fault
   contents_faulty g e = check_faulty (lines_fault allow deny) p is-p g e (tables_fault allow deny t)
 
-  pub contents_sound : p ≡ P.Unmatched → lines_fault allow deny ≡ none
+  pub contents_sound : p ≡ (Ok None) → lines_fault allow deny ≡ None
   contents_sound e = check_clean (lines_fault allow deny) p is-p e
 
-  pub contents_rest : p ≡ P.Unmatched → (q : Pass) → q ≡ pass_of (tables_fault allow deny t) none → q ≡ pass_of (contents_fault allow deny t) none
+  pub contents_rest : p ≡ (Ok None) → (q : Result (Option Answer) Refusal) → q ≡ pass_of (tables_fault allow deny t) None → q ≡ pass_of (contents_fault allow deny t) None
   unfolding contents_fault
   contents_rest e q is-q = is-q ∙ sym (rw (contents_sound e))
 
-  pub contents_never : (a : Answer) → p ≡ P.Matched a → P.Unmatched ≡ pass_of (contents_fault allow deny t) none
+  pub contents_never : (a : Answer) → p ≡ Ok (Some a) → Ok None ≡ pass_of (contents_fault allow deny t) None
   contents_never a e = absurd (check_never (lines_fault allow deny) p is-p a e)

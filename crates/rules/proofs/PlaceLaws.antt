@@ -4,11 +4,11 @@
 --   search_within == the same of the search over both texts
 --   pass-search  == the pass over both texts finds what the search answers
 -- Assumes nothing.
+use Rattle.std.specs.Prelude.{None, Option, Some, unwrap_or}
 use Prim.Native.Nat.{ℕ, ◌+◌, ◌-◌, ◌≤◌}
 use native.Mathlib.Omega.{arith}
 use mathlib.Core.Bool.{Bool, true, false, not, ◌&&◌, ◌||◌}
 use mathlib.Core.List.{List, [], ◌∷◌, ◌++◌}
-use mathlib.Core.Option.{Option, none, some, get_or}
 use mathlib.Core.Path.{◌≡◌, refl, subst, ◌∙◌}
 use lib.ListN.{length, length-append}
 use Rattle.text.specs.Basics.{when◌then◌else◌, ◌>>=◌, ◌or_else◌, is_empty, first}
@@ -39,42 +39,42 @@ pub record Within (f : File) (m : ℕ) (a : Answer) : Type 0 where
 abbrev rule_by : List ℕ → (List ℕ × List ℕ) → Rule
 rule_by d q = record { daemons = elements d; clients = elements q.0; command = q.1 }
 
-cons_first_within : (o : Option (List ℕ × List ℕ)) (x m : ℕ) (p : List ℕ × List ℕ) → ((q : List ℕ × List ℕ) → o ≡ some q → length q.1 ≤ m)
-    → cons_first x o ≡ some p → length p.1 ≤ m
-cons_first_within none x m p h e = let z : ◌≡◌ {A = ℕ} 0 1 = cc in absurd (omega arith)
-cons_first_within (some q) x m p h e =
+cons_first_within : (o : Option (List ℕ × List ℕ)) (x m : ℕ) (p : List ℕ × List ℕ) → ((q : List ℕ × List ℕ) → o ≡ Some q → length q.1 ≤ m)
+    → cons_first x o ≡ Some p → length p.1 ≤ m
+cons_first_within None x m p h e = let z : ◌≡◌ {A = ℕ} 0 1 = cc in absurd (omega arith)
+cons_first_within (Some q) x m p h e =
     let same : (x ∷ q.0, q.1) ≡ p = cc e in subst (λ (p : List ℕ × List ℕ). length p.1 ≤ m) same (h q refl)
 
-split_separator_within : (b : Bool) (t : List ℕ) (p : List ℕ × List ℕ) → split_separator b t ≡ some p → length p.1 ≤ length t
+split_separator_within : (b : Bool) (t : List ℕ) (p : List ℕ × List ℕ) → split_separator b t ≡ Some p → length p.1 ≤ length t
 unfolding split_separator
 split_separator_within b [] p e = let z : ◌≡◌ {A = ℕ} 0 1 = cc in absurd (omega arith)
 split_separator_within b (x ∷ t) p e = by (not b && among ":" x) (split_separator_within (when b then not (among "]" x) else among "[" x) t) e
   where
-    by : (c : Bool) → ((q : List ℕ × List ℕ) → split_separator (when b then not (among "]" x) else among "[" x) t ≡ some q → length q.1 ≤ length t)
-        → (when c then some ([], t) else cons_first x (split_separator (when b then not (among "]" x) else among "[" x) t)) ≡ some p
+    by : (c : Bool) → ((q : List ℕ × List ℕ) → split_separator (when b then not (among "]" x) else among "[" x) t ≡ Some q → length q.1 ≤ length t)
+        → (when c then Some ([], t) else cons_first x (split_separator (when b then not (among "]" x) else among "[" x) t)) ≡ Some p
         → length p.1 ≤ length (x ∷ t)
     by true ih e = let same : ([], t) ≡ p = cc e in subst (λ (p : List ℕ × List ℕ). length p.1 ≤ length (x ∷ t)) same (omega arith)
     by false ih e =
         let h : length p.1 ≤ length t = cons_first_within (split_separator (when b then not (among "]" x) else among "[" x) t) x (length t) p ih e in
         omega arith
 
-rest_within : (t : List ℕ) → length (get_or (split_separator false t) (t, [])).1 ≤ length t
+rest_within : (t : List ℕ) → length (unwrap_or (split_separator false t) (t, [])).1 ≤ length t
 rest_within t = by (split_separator false t) refl
   where
-    by : (o : Option (List ℕ × List ℕ)) → split_separator false t ≡ o → length (get_or o (t, [])).1 ≤ length t
-    by none e = omega arith
-    by (some p) e = split_separator_within false t p e
+    by : (o : Option (List ℕ × List ℕ)) → split_separator false t ≡ o → length (unwrap_or o (t, [])).1 ≤ length t
+    by None e = omega arith
+    by (Some p) e = split_separator_within false t p e
 
-parse_rule_within : (t : List ℕ) (u : Rule) → parse_rule t ≡ some u → length u.command ≤ length t
+parse_rule_within : (t : List ℕ) (u : Rule) → parse_rule t ≡ Some u → length u.command ≤ length t
 unfolding parse_rule
 parse_rule_within t u e = by (split_separator false t) refl e
   where
     by : (o : Option (List ℕ × List ℕ)) → split_separator false t ≡ o
-        → (o >>= λ p. some (rule_by p.0 (get_or (split_separator false p.1) (p.1, [])))) ≡ some u → length u.command ≤ length t
-    by none k e = let z : ◌≡◌ {A = ℕ} 0 1 = cc in absurd (omega arith)
-    by (some p) k e =
+        → (o >>= λ p. Some (rule_by p.0 (unwrap_or (split_separator false p.1) (p.1, [])))) ≡ Some u → length u.command ≤ length t
+    by None k e = let z : ◌≡◌ {A = ℕ} 0 1 = cc in absurd (omega arith)
+    by (Some p) k e =
         let h = split_separator_within false t p k in
-        let same : rule_by p.0 (get_or (split_separator false p.1) (p.1, [])) ≡ u = cc e in
+        let same : rule_by p.0 (unwrap_or (split_separator false p.1) (p.1, [])) ≡ u = cc e in
         subst (λ (u : Rule). length u.command ≤ length t) same (omega (arith, h, rest_within p.1))
 
 -- ## A line's answer
@@ -84,7 +84,7 @@ command_end true at m n h = omega arith
 command_end false at m n h = omega arith
 
 module _ (v : Verdict) (f : File) (r : Rule → Found) where
-  rule_within : (l : Line) (u : Rule) (x : Found) (a : Answer) → length u.command ≤ length l.raw → rule_answer v f l u x ≡ some a
+  rule_within : (l : Line) (u : Rule) (x : Found) (a : Answer) → length u.command ≤ length l.raw → rule_answer v f l u x ≡ Some a
       → Within f (l.place + length l.raw) a
   rule_within l u No a h e = let z : ◌≡◌ {A = ℕ} 0 1 = cc in absurd (omega arith)
   rule_within l u Yes a h e =
@@ -95,15 +95,15 @@ module _ (v : Verdict) (f : File) (r : Rule → Found) where
       let same : answer Ver.Ask f l.number (part 0 0) ≡ a = cc e in
       subst (Within f (l.place + length l.raw)) same (record { file = refl; end = omega arith })
 
-  line_within : (l : Line) (a : Answer) → line_answer v f r l ≡ some a → Within f (l.place + length l.raw) a
+  line_within : (l : Line) (a : Answer) → line_answer v f r l ≡ Some a → Within f (l.place + length l.raw) a
   unfolding line_answer
   line_within l a e = by (is_comment l || is_blank l) (parse_rule l.raw) refl e
     where
       by : (b : Bool) (o : Option Rule) → parse_rule l.raw ≡ o
-          → (when b then none else (o >>= λ u. rule_answer v f l u (r u))) ≡ some a → Within f (l.place + length l.raw) a
+          → (when b then None else (o >>= λ u. rule_answer v f l u (r u))) ≡ Some a → Within f (l.place + length l.raw) a
       by true o k e = let z : ◌≡◌ {A = ℕ} 0 1 = cc in absurd (omega arith)
-      by false none k e = let z : ◌≡◌ {A = ℕ} 0 1 = cc in absurd (omega arith)
-      by false (some u) k e = rule_within l u (r u) a (parse_rule_within l.raw u k) e
+      by false None k e = let z : ◌≡◌ {A = ℕ} 0 1 = cc in absurd (omega arith)
+      by false (Some u) k e = rule_within l u (r u) a (parse_rule_within l.raw u k) e
 
 -- ## A text's answer
 
@@ -152,19 +152,19 @@ lines_within m n at (s ∷ u ∷ ss) h =
     by false ls ih = ((omega arith, ih.0), refl)
 
 module _ (v : Verdict) (f : File) (r : Rule → Found) where
-  first_within : (m : ℕ) (ls : List Line) (a : Answer) → AllWithin m ls → first (line_answer v f r) ls ≡ some a → Within f m a
+  first_within : (m : ℕ) (ls : List Line) (a : Answer) → AllWithin m ls → first (line_answer v f r) ls ≡ Some a → Within f m a
   unfolding first
   first_within m [] a h e = let z : ◌≡◌ {A = ℕ} 0 1 = cc in absurd (omega arith)
   first_within m (l ∷ ls) a h e = by (line_answer v f r l) refl e (first_within m ls a h.1)
     where
-      by : (o : Option Answer) → line_answer v f r l ≡ o → o or_else first (line_answer v f r) ls ≡ some a
-          → (first (line_answer v f r) ls ≡ some a → Within f m a) → Within f m a
-      by none k e ih = ih e
-      by (some c) k e ih =
+      by : (o : Option Answer) → line_answer v f r l ≡ o → o or_else first (line_answer v f r) ls ≡ Some a
+          → (first (line_answer v f r) ls ≡ Some a → Within f m a) → Within f m a
+      by None k e ih = ih e
+      by (Some c) k e ih =
           let w = line_within v f r l a (k ∙ e) in
           record { file = w.file; end = omega (arith, w.end, h.0) }
 
-  pub text_within : (t : List ℕ) (a : Answer) → first (line_answer v f r) (lines t) ≡ some a → Within f (length t) a
+  pub text_within : (t : List ℕ) (a : Answer) → first (line_answer v f r) (lines t) ≡ Some a → Within f (length t) a
   unfolding lines
   text_within t a e =
       first_within (length t) (logical_lines 1 0 (split "\n" t)) a (lines_within (length t) 1 0 (split "\n" t) (omega (arith, split_total t))).0 e
@@ -184,8 +184,8 @@ module _ (m : Matcher) (allow deny : List ℕ) (r : Request) where
     where
       by : (x y : Option Answer) → first (line_answer Ver.Granted Allow (rule_found m r)) (lines allow) ≡ x
           → first (line_answer Ver.Denied Deny (rule_found m r)) (lines deny) ≡ y
-          → let a : Answer = get_or (x or_else y) (answer Ver.Granted Neither 0 (part 0 0)) in
+          → let a : Answer = unwrap_or (x or_else y) (answer Ver.Granted Neither 0 (part 0 0)) in
           a.command.place + a.command.len ≤ file_length allow deny a.file
-      by (some a) y e f = let w = text_within Ver.Granted Allow (rule_found m r) allow a e in rw w.file w.end
-      by none (some a) e f = let w = text_within Ver.Denied Deny (rule_found m r) deny a f in rw w.file w.end
-      by none none e f = omega arith
+      by (Some a) y e f = let w = text_within Ver.Granted Allow (rule_found m r) allow a e in rw w.file w.end
+      by None (Some a) e f = let w = text_within Ver.Denied Deny (rule_found m r) deny a f in rw w.file w.end
+      by None None e f = omega arith

@@ -3,11 +3,11 @@
 --   noted_none, noted_view == the notes on no tables, and those that a view gives
 --   found_doubtful, found_answer == what the search finds
 -- Assumes nothing.
+use Rattle.std.specs.Prelude.{Err, None, Ok, Option, Some, unwrap_or}
 use Prim.Native.Nat.{ℕ, zero, suc, ◌+◌, ◌≤◌}
 use native.Mathlib.Omega.{arith}
 use mathlib.Core.Bool.{Bool, true, false, not, ◌&&◌, ◌||◌, true≢false, or-false}
 use mathlib.Core.List.{List, [], ◌∷◌}
-use mathlib.Core.Option.{Option, none, some, get_or}
 use mathlib.Core.Path.{◌≡◌, refl, sym, ap, ap₂, fun_ext, subst, ◌∙◌}
 use lib.Dec.{eqb, ltb}
 use lib.ListN.{length, drop, drop_of_length-le}
@@ -51,12 +51,8 @@ use Rattle.lists.specs.Code.{missing_by, deep_by, is_missing_name, is_deep_name}
 use Rattle.rules.specs.declared.Verdict.TheVariants as Ver
 use Rattle.rules.specs.declared.File.TheVariants as File
 use Rattle.rules.specs.declared.Answer.{Answer}
-use Rattle.rules.specs.declared.hosts_file.Pass.{Pass}
-use Rattle.rules.specs.declared.hosts_file.Pass.TheVariants as P
 use Rattle.rules.specs.declared.hosts_file.Tally.{Tally}
 use Rattle.rules.specs.declared.search.Searched.{Searched}
-use Rattle.rules.specs.declared.search.Finding.{Finding}
-use Rattle.rules.specs.declared.search.Finding.TheVariants as Finding
 use Rattle.rules.specs.Check.{hosts_fault, naming_fault, missing_fault, depth_fault, tables_fault}
 use Rattle.rules.specs.Search.{answer, line_answer, search}
 use Rattle.rules.specs.Looked.{file_looked, looked}
@@ -73,10 +69,10 @@ pattern_at : (s m : Matcher) (h : Endpoint) → ((n : List ℕ) → s n h ≡ m 
 unfolding pattern_with
 pattern_at s m h same e = by (first_among "/" e) (table_name e)
   where
-    by : (b : Bool) (o : Option (List ℕ)) → matches_pattern (when b then (o >>= λ n. some (s n)) else host_pattern e) h
-        ≡ matches_pattern (when b then (o >>= λ n. some (m n)) else host_pattern e) h
-    by true none = refl
-    by true (some n) = same n
+    by : (b : Bool) (o : Option (List ℕ)) → matches_pattern (when b then (o >>= λ n. Some (s n)) else host_pattern e) h
+        ≡ matches_pattern (when b then (o >>= λ n. Some (m n)) else host_pattern e) h
+    by true None = refl
+    by true (Some n) = same n
     by false o = refl
 
 module _ (s m : Matcher) (r : Request) where
@@ -85,50 +81,50 @@ module _ (s m : Matcher) (r : Request) where
   daemon_at_lem same e = by (halves e)
     where
       both : (o : Option (List ℕ → Bool)) (p q : Pattern) → matches_pattern p r.server ≡ matches_pattern q r.server
-          → look_at r (o >>= λ f. p >>= λ g. some (λ x. found_if (f x.daemon && g x.server)))
-          ≡ look_at r (o >>= λ f. q >>= λ g. some (λ x. found_if (f x.daemon && g x.server)))
-      both none p q k = refl
-      both (some f) p q k = told f p ∙ ap (λ (b : Bool). found_if (f r.daemon && b)) k ∙ sym (told f q)
+          → look_at r (o >>= λ f. p >>= λ g. Some (λ x. found_if (f x.daemon && g x.server)))
+          ≡ look_at r (o >>= λ f. q >>= λ g. Some (λ x. found_if (f x.daemon && g x.server)))
+      both None p q k = refl
+      both (Some f) p q k = told f p ∙ ap (λ (b : Bool). found_if (f r.daemon && b)) k ∙ sym (told f q)
         where
-          told : (f : List ℕ → Bool) (p : Pattern) → look_at r (p >>= λ g. some (λ x. found_if (f x.daemon && g x.server)))
+          told : (f : List ℕ → Bool) (p : Pattern) → look_at r (p >>= λ g. Some (λ x. found_if (f x.daemon && g x.server)))
               ≡ found_if (f r.daemon && matches_pattern p r.server)
-          told f none = by_name (f r.daemon)
+          told f None = by_name (f r.daemon)
             where
               by_name : (b : Bool) → No ≡ found_if (b && false)
               by_name true = refl
               by_name false = refl
-          told f (some g) = refl
+          told f (Some g) = refl
 
       by : (h : Option (List ℕ × List ℕ)) → look_at r (daemon_parts s e h) ≡ look_at r (daemon_parts m e h)
-      by none = refl
-      by (some p) = both (daemon_name p.0) (pattern_with s p.1) (pattern_with m p.1) (pattern_at s m r.server same p.1)
+      by None = refl
+      by (Some p) = both (daemon_name p.0) (pattern_with s p.1) (pattern_with m p.1) (pattern_at s m r.server same p.1)
 
   pub client_at : ((n : List ℕ) → s n r.client ≡ m n r.client) → (e : List ℕ) → look_at r (client_element s e) ≡ look_at r (client_element m e)
   unfolding client_element client_parts
   client_at same e = by (halves e)
     where
       whole : (p q : Pattern) → matches_pattern p r.client ≡ matches_pattern q r.client
-          → look_at r (p >>= λ g. some (λ x. found_if (g x.client))) ≡ look_at r (q >>= λ g. some (λ x. found_if (g x.client)))
+          → look_at r (p >>= λ g. Some (λ x. found_if (g x.client))) ≡ look_at r (q >>= λ g. Some (λ x. found_if (g x.client)))
       whole p q k = told p ∙ ap found_if k ∙ sym (told q)
         where
-          told : (p : Pattern) → look_at r (p >>= λ g. some (λ x. found_if (g x.client))) ≡ found_if (matches_pattern p r.client)
-          told none = refl
-          told (some g) = refl
+          told : (p : Pattern) → look_at r (p >>= λ g. Some (λ x. found_if (g x.client))) ≡ found_if (matches_pattern p r.client)
+          told None = refl
+          told (Some g) = refl
 
       both : (o : Option (Request → Bool)) (p q : Pattern) → matches_pattern p r.client ≡ matches_pattern q r.client
-          → look_at r (o >>= λ f. p >>= λ g. some (λ x. when g x.client then user_case x Ask (found_if (f x)) (found_if (f x)) else No))
-          ≡ look_at r (o >>= λ f. q >>= λ g. some (λ x. when g x.client then user_case x Ask (found_if (f x)) (found_if (f x)) else No))
-      both none p q k = refl
-      both (some f) p q k = told p ∙ ap (λ (b : Bool). when b then user_case r Ask (found_if (f r)) (found_if (f r)) else No) k ∙ sym (told q)
+          → look_at r (o >>= λ f. p >>= λ g. Some (λ x. when g x.client then user_case x Ask (found_if (f x)) (found_if (f x)) else No))
+          ≡ look_at r (o >>= λ f. q >>= λ g. Some (λ x. when g x.client then user_case x Ask (found_if (f x)) (found_if (f x)) else No))
+      both None p q k = refl
+      both (Some f) p q k = told p ∙ ap (λ (b : Bool). when b then user_case r Ask (found_if (f r)) (found_if (f r)) else No) k ∙ sym (told q)
         where
-          told : (p : Pattern) → look_at r (p >>= λ g. some (λ x. when g x.client then user_case x Ask (found_if (f x)) (found_if (f x)) else No))
+          told : (p : Pattern) → look_at r (p >>= λ g. Some (λ x. when g x.client then user_case x Ask (found_if (f x)) (found_if (f x)) else No))
               ≡ (when matches_pattern p r.client then user_case r Ask (found_if (f r)) (found_if (f r)) else No)
-          told none = refl
-          told (some g) = refl
+          told None = refl
+          told (Some g) = refl
 
       by : (h : Option (List ℕ × List ℕ)) → look_at r (client_parts s e h) ≡ look_at r (client_parts m e h)
-      by none = whole (pattern_with s e) (pattern_with m e) (pattern_at s m r.client same e)
-      by (some p) = both (user_half p.0) (pattern_with s p.1) (pattern_with m p.1) (pattern_at s m r.client same p.1)
+      by None = whole (pattern_with s e) (pattern_with m e) (pattern_at s m r.client same e)
+      by (Some p) = both (user_half p.0) (pattern_with s p.1) (pattern_with m p.1) (pattern_at s m r.client same p.1)
 
 pub view_found_lem : (s c m : Matcher) (r : Request) → ((n : List ℕ) → s n r.server ≡ m n r.server) → ((n : List ℕ) → c n r.client ≡ m n r.client)
     → rule_found_by s c r ≡ rule_found m r
@@ -157,8 +153,8 @@ missing_of t (x ∷ notes) n e full =
     by (noted_place t (x ∷ notes) n) ∙ ap (λ (o : Option ℕ). not (is_some o)) e ∙ sym (missing_place (tables_in t) n)
   where
     by : (o : Option ℕ) → is_missing_name (placed_naming (x ∷ notes) o) ≡ not (is_some o)
-    by none = refl
-    by (some i) = sound (is_deep (x ∷ notes) i)
+    by None = refl
+    by (Some i) = sound (is_deep (x ∷ notes) i)
       where
         sound : (b : Bool) → is_missing_name (when b then Naming.Deep else Naming.Sound) ≡ false
         sound true = refl
@@ -170,8 +166,8 @@ unfolding leads_past any
 past_missing ts n e = by (table_named ts n) refl e
   where
     by : (o : Option Table) → table_named ts n ≡ o → not (is_some o) ≡ true → leads_past ts 4 n ≡ false
-    by none q k = rw q
-    by (some t) q k = absurd (true≢false (sym k))
+    by None q k = rw q
+    by (Some t) q k = absurd (true≢false (sym k))
 
 pub noted_deep_of : (ts : List Table) (n : List ℕ)
     → is_deep_name (when is_missing ts n then Naming.Missing else when leads_past ts 4 n then Naming.Deep else Naming.Sound) ≡ leads_past ts 4 n
@@ -248,16 +244,16 @@ naming_noted t r notes h = record { naming_missing = h.noted_missing; naming_dee
 -- ## What the search finds
 
 finding_some : (o p : Option Refusal) (a : Searched) → is_some o ≡ is_some p → finding_of o a ≡ finding_of p a
-finding_some none none a e = refl
-finding_some none (some g) a e = absurd (true≢false (sym e))
-finding_some (some f) none a e = absurd (true≢false e)
-finding_some (some f) (some g) a e = refl
+finding_some None None a e = refl
+finding_some None (Some g) a e = absurd (true≢false (sym e))
+finding_some (Some f) None a e = absurd (true≢false e)
+finding_some (Some f) (Some g) a e = refl
 
 finding_pass : (o : Option Refusal) (x : Option Answer) (n : ℕ)
-    → finding_by (tallied (pass_of o x) n) ≡ finding_of o (searched (get_or x (answer Ver.Granted File.Neither 0 (part 0 0))) n)
-finding_pass (some f) x n = refl
-finding_pass none none n = refl
-finding_pass none (some a) n = refl
+    → finding_by (tallied (pass_of o x) n) ≡ finding_of o (searched (unwrap_or x (answer Ver.Granted File.Neither 0 (part 0 0))) n)
+finding_pass (Some f) x n = refl
+finding_pass None None n = refl
+finding_pass None (Some a) n = refl
 
 or_order : (a b c d e f : Bool) → ((a || (b || c)) || (d || (e || f))) ≡ ((a || d) || ((((b || e) || false) || c) || f))
 or_order true b c d e f = refl
@@ -284,9 +280,9 @@ or_nones true b c h = absurd (true≢false h)
 or_nones false true c h = absurd (true≢false h)
 or_nones false false c h = (refl, (refl, h))
 
-none_of : (o : Option Refusal) → is_some o ≡ false → o ≡ none
-none_of none e = refl
-none_of (some f) e = absurd (true≢false e)
+none_of : (o : Option Refusal) → is_some o ≡ false → o ≡ None
+none_of None e = refl
+none_of (Some f) e = absurd (true≢false e)
 
 first_or : (a b : Bool) → (a || b) ≡ false → a ≡ false
 first_or true b h = h
@@ -301,15 +297,15 @@ module _ (allow deny t : List ℕ) (whole : tables_in t ≡ tables_of t) (r : Re
   abbrev found_answered : Searched
   found_answered = searched (search (match_of (tables_of t)) allow deny r) (capped (looked (tables_of t) allow deny r))
 
-  abbrev found : Finding
+  abbrev found : Option Searched
   found = finding_of (contents_fault allow deny t) found_answered
 
-  doubt : is_some (contents_fault allow deny t) ≡ true → Finding.Doubtful ≡ found
+  doubt : is_some (contents_fault allow deny t) ≡ true → None ≡ found
   doubt e = by (contents_fault allow deny t) e
     where
-      by : (o : Option Refusal) → is_some o ≡ true → Finding.Doubtful ≡ finding_of o found_answered
-      by none k = absurd (true≢false (sym k))
-      by (some f) k = refl
+      by : (o : Option Refusal) → is_some o ≡ true → None ≡ finding_of o found_answered
+      by None k = absurd (true≢false (sym k))
+      by (Some f) k = refl
 
   -- the faults of the tables themselves
   abbrev limits : Bool
@@ -324,14 +320,14 @@ module _ (allow deny t : List ℕ) (whole : tables_in t ≡ tables_of t) (r : Re
   named_some : is_some (table_name_fault (tables_of t)) ≡ misnamed
   named_some = rw (names_told (tables_of t), ← whole) (by (eqb (tables_checked (tables_in t)).misnamed 0))
     where
-      by : (b : Bool) → is_some (refused_by F.TableName (when b then none else some (tables_checked (tables_in t)).misnamed)) ≡ not b
+      by : (b : Bool) → is_some (refused_by F.TableName (when b then None else Some (tables_checked (tables_in t)).misnamed)) ≡ not b
       by true = refl
       by false = refl
 
   bad_some : is_some (bad_table_fault t) ≡ (limits || unsound)
   bad_some = rw (bad_told t, ← whole) (by limits (eqb (tables_checked (tables_in t)).unsound 0))
     where
-      by : (a b : Bool) → is_some (refused_by F.BadTable (given a 0 or_else (when b then none else some (tables_checked (tables_in t)).unsound))) ≡ (a || not b)
+      by : (a b : Bool) → is_some (refused_by F.BadTable (given a 0 or_else (when b then None else Some (tables_checked (tables_in t)).unsound))) ≡ (a || not b)
       by true b = refl
       by false true = refl
       by false false = refl
@@ -361,7 +357,7 @@ module _ (allow deny t : List ℕ) (whole : tables_in t ≡ tables_of t) (r : Re
       ∙ ap (λ (x : Bool). x || is_some d) (is_some_or_else (a or_else b) c ∙ ap₂ ◌||◌ (is_some_or_else a b) named_some)))
       bad_some)
 
-  pub found_doubtful : (x : Bool) → x ≡ tables_doubtful t → x ≡ true → Finding.Doubtful ≡ found
+  pub found_doubtful : (x : Bool) → x ≡ tables_doubtful t → x ≡ true → None ≡ found
   unfolding tables_doubtful
   found_doubtful x is_x e = doubt (contents_some
       ∙ doubt_some (is_some (hosts_fault S.allow allow) || is_some (hosts_fault S.deny deny))
@@ -436,7 +432,7 @@ module _ (allow deny t : List ℕ) (whole : tables_in t ≡ tables_of t) (r : Re
           ∙ total_near (rule_found (match_of ts) r) (query_looked query) (rule_looked ts r) same_looked allow deny
 
       pub found_answer : (p : Tally) → p ≡ tallied (pass_both query allow deny) (capped (both_looked query allow deny))
-          → (f : Finding) → f ≡ finding_by p → f ≡ found
+          → (f : Option Searched) → f ≡ finding_by p → f ≡ found
       unfolding pass_both search
       found_answer p is-p f is_f =
           let o : Option Refusal = hosts_fault_at 1 v allow or_else hosts_fault_at 2 v deny in
@@ -444,30 +440,30 @@ module _ (allow deny t : List ℕ) (whole : tables_in t ≡ tables_of t) (r : Re
           first (line_answer Ver.Granted File.Allow g) (lines allow) or_else first (line_answer Ver.Denied File.Deny g) (lines deny) in
           let end : Answer = answer Ver.Granted File.Neither 0 (part 0 0) in
           is_f ∙ ap finding_by is-p ∙ finding_pass o (answers (query_found query)) (capped (both_looked query allow deny))
-          ∙ ap₂ (λ (g : Rule → Found) (n : ℕ). finding_of o (searched (get_or (answers g) end) n)) same_found_lem both_looked_lem
-          ∙ finding_some o (contents_fault allow deny t) (searched (get_or (answers (rule_found (match_of ts) r)) end) (capped (looked ts allow deny r)))
+          ∙ ap₂ (λ (g : Rule → Found) (n : ℕ). finding_of o (searched (unwrap_or (answers g) end) n)) same_found_lem both_looked_lem
+          ∙ finding_some o (contents_fault allow deny t) (searched (unwrap_or (answers (rule_found (match_of ts) r)) end) (capped (looked ts allow deny r)))
           both_some
 
-  pub found_over : (x : Bool) → x ≡ tables_over t → x ≡ true → Finding.Doubtful ≡ found
+  pub found_over : (x : Bool) → x ≡ tables_over t → x ≡ true → None ≡ found
   unfolding tables_doubtful
   found_over x is_x e = found_doubtful (tables_doubtful t) refl (rw (← is_x, e))
 
   pub found_short : length t ≤ 2 → (p : Tally)
       → p ≡ tallied (pass_both (record { view = view_of t (0 ∷ 0 ∷ 0 ∷ []); request = r }) allow deny)
       (capped (both_looked (record { view = view_of t (0 ∷ 0 ∷ 0 ∷ []); request = r }) allow deny))
-      → (f : Finding) → f ≡ finding_by p → f ≡ found
+      → (f : Option Searched) → f ≡ finding_by p → f ≡ found
   found_short h p is-p f is_f = found_answer false (short_clear t h) refl (0 ∷ 0 ∷ 0 ∷ []) (notes_none t r h) p is-p f is_f
 
 -- ## What a pass, and the tables by themselves, tell
 
 module _ (p : Tally) where
-  pub by_faulty : (g : Refusal) → p.pass ≡ P.Faulty g → Finding.Doubtful ≡ finding_by p
+  pub by_faulty : (g : Refusal) → p.pass ≡ Err g → None ≡ finding_by p
   by_faulty g e = rw e
 
-  pub by_unmatched : p.pass ≡ P.Unmatched → Finding.Answer (searched (answer Ver.Granted File.Neither 0 (part 0 0)) p.looked) ≡ finding_by p
+  pub by_unmatched : p.pass ≡ (Ok None) → Some (searched (answer Ver.Granted File.Neither 0 (part 0 0)) p.looked) ≡ finding_by p
   by_unmatched e = rw e
 
-  pub by_matched : (a : Answer) → p.pass ≡ P.Matched a → Finding.Answer (searched a p.looked) ≡ finding_by p
+  pub by_matched : (a : Answer) → p.pass ≡ Ok (Some a) → Some (searched a p.looked) ≡ finding_by p
   by_matched a e = rw e
 
 module _ (t : List ℕ) (x : Bool) (is_x : x ≡ tables_over t) where
@@ -485,17 +481,17 @@ module _ (t : List ℕ) (x : Bool) (is_x : x ≡ tables_over t) where
 
 -- ## What a finding tells of the texts
 
-module _ (o : Option Refusal) (x : Searched) (f : Finding) (is_f : f ≡ finding_of o x) where
-  pub sound_answer : (y : Searched) → f ≡ Finding.Answer y → true ≡ not (is_some o)
+module _ (o : Option Refusal) (x : Searched) (f : Option Searched) (is_f : f ≡ finding_of o x) where
+  pub sound_answer : (y : Searched) → f ≡ Some y → true ≡ not (is_some o)
   sound_answer y e = by o (sym is_f ∙ e)
     where
-      by : (o : Option Refusal) → finding_of o x ≡ Finding.Answer y → true ≡ not (is_some o)
-      by none q = refl
-      by (some g) q = let z : ◌≡◌ {A = ℕ} 0 1 = cc q in absurd (omega arith)
+      by : (o : Option Refusal) → finding_of o x ≡ Some y → true ≡ not (is_some o)
+      by None q = refl
+      by (Some g) q = let z : ◌≡◌ {A = ℕ} 0 1 = cc q in absurd (omega arith)
 
-  pub sound_doubtful : f ≡ Finding.Doubtful → false ≡ not (is_some o)
+  pub sound_doubtful : f ≡ None → false ≡ not (is_some o)
   sound_doubtful e = by o (sym is_f ∙ e)
     where
-      by : (o : Option Refusal) → finding_of o x ≡ Finding.Doubtful → false ≡ not (is_some o)
-      by none q = let z : ◌≡◌ {A = ℕ} 0 1 = cc q in absurd (omega arith)
-      by (some g) q = refl
+      by : (o : Option Refusal) → finding_of o x ≡ None → false ≡ not (is_some o)
+      by None q = let z : ◌≡◌ {A = ℕ} 0 1 = cc q in absurd (omega arith)
+      by (Some g) q = refl

@@ -1,15 +1,15 @@
 -- Demand 3, first half: a verdict reached without asking for the user is the verdict for every user.
 -- The walk for a user not fetched and the walk for any other user agree, element by element, wherever the first does not ask.
 -- Assumes nothing.
+use Rattle.std.specs.Prelude.{Err, None, Ok, Option, Some, unwrap_or}
 use Prim.Native.Nat.{ℕ}
 use mathlib.Core.Bool.{Bool, true, false, not, ◌&&◌, ◌||◌}
 use mathlib.Core.List.{List, [], ◌∷◌}
-use mathlib.Core.Option.{Option, none, some, get_or}
 use mathlib.Core.Path.{◌≡◌, refl, ap}
 use Rattle.text.specs.Basics.{when◌then◌else◌, ◌>>=◌, ◌or_else◌, given, first}
 use Rattle.section.specs.declared.Fault.TheVariants as F
 use Rattle.section.specs.declared.Refusal.{Refusal}
-use Rattle.section.specs.Refusal.{Outcome, refused, answered, placeless, ◌before◌}
+use Rattle.section.specs.Refusal.{Outcome, placeless, ◌before◌}
 use Rattle.section.specs.Section as S
 use Rattle.section.specs.Section.{part, over_limit}
 use Rattle.lines.specs.Line.{Line, lines, is_comment, is_blank}
@@ -44,12 +44,12 @@ QuietVerdict Ver.Denied = Unit {0}
 QuietVerdict Ver.Ask = ⊥
 
 abbrev pub QuietAnswer : Option Answer → Type 0
-QuietAnswer none = Unit {0}
-QuietAnswer (some a) = QuietVerdict a.verdict
+QuietAnswer None = Unit {0}
+QuietAnswer (Some a) = QuietVerdict a.verdict
 
 abbrev pub QuietOutcome : Outcome Answer → Type 0
-QuietOutcome (refused r) = Unit {0}
-QuietOutcome (answered a) = QuietVerdict a.verdict
+QuietOutcome (Err r) = Unit {0}
+QuietOutcome (Ok a) = QuietVerdict a.verdict
 
 -- ## Choices that agree wherever the first is quiet
 
@@ -89,8 +89,8 @@ first_same f f' same (l ∷ ls) h = by (f l) (f' l) (same l) h (first_same f f' 
   where
     by : (o o' : Option Answer) → (QuietAnswer o → o' ≡ o) → QuietAnswer (o or_else first f ls) → (QuietAnswer (first f ls) → first f' ls ≡ first f ls)
         → (o' or_else first f' ls) ≡ (o or_else first f ls)
-    by none o' e h ih = rw (e tt) (ih h)
-    by (some a) o' e h ih = rw (e h)
+    by None o' e h ih = rw (e tt) (ih h)
+    by (Some a) o' e h ih = rw (e h)
 
 -- ## From an element to the call
 
@@ -108,20 +108,20 @@ module _ (m : Matcher) (r : Request) (t₀ : List ℕ) (u : User) (t : List ℕ)
   daemon_same e = by (halves e)
     where
       half : (o : Option (List ℕ → Bool)) (o' : Option (Endpoint → Bool))
-          → look_at asked (o >>= λ f. o' >>= λ g. some λ q. found_if (f q.daemon && g q.server))
-          ≡ look_at unasked (o >>= λ f. o' >>= λ g. some λ q. found_if (f q.daemon && g q.server))
-      half none o' = refl
-      half (some f) none = refl
-      half (some f) (some g) = refl
+          → look_at asked (o >>= λ f. o' >>= λ g. Some λ q. found_if (f q.daemon && g q.server))
+          ≡ look_at unasked (o >>= λ f. o' >>= λ g. Some λ q. found_if (f q.daemon && g q.server))
+      half None o' = refl
+      half (Some f) None = refl
+      half (Some f) (Some g) = refl
 
-      name : (o : Option (List ℕ → Bool)) → look_at asked (o >>= λ f. some λ q. found_if (f q.daemon))
-          ≡ look_at unasked (o >>= λ f. some λ q. found_if (f q.daemon))
-      name none = refl
-      name (some f) = refl
+      name : (o : Option (List ℕ → Bool)) → look_at asked (o >>= λ f. Some λ q. found_if (f q.daemon))
+          ≡ look_at unasked (o >>= λ f. Some λ q. found_if (f q.daemon))
+      name None = refl
+      name (Some f) = refl
 
       by : (o : Option (List ℕ × List ℕ)) → look_at asked (daemon_parts m e o) ≡ look_at unasked (daemon_parts m e o)
-      by none = name (daemon_name e)
-      by (some p) = half (daemon_name p.0) (pattern_with m p.1)
+      by None = name (daemon_name e)
+      by (Some p) = half (daemon_name p.0) (pattern_with m p.1)
 
   -- a client element that does not ask knows none either
   pub client_same : (e : List ℕ) → Quiet (look_at unasked (client_element m e)) → look_at asked (client_element m e) ≡ look_at unasked (client_element m e)
@@ -134,21 +134,21 @@ module _ (m : Matcher) (r : Request) (t₀ : List ℕ) (u : User) (t : List ℕ)
       asks false f h = refl
 
       half : (o : Option (Request → Bool)) (o' : Option (Endpoint → Bool))
-          → Quiet (look_at unasked (o >>= λ f. o' >>= λ g. some λ q. when g q.client then user_case q Ask (found_if (f q)) (found_if (f q)) else No))
-          → look_at asked (o >>= λ f. o' >>= λ g. some λ q. when g q.client then user_case q Ask (found_if (f q)) (found_if (f q)) else No)
-          ≡ look_at unasked (o >>= λ f. o' >>= λ g. some λ q. when g q.client then user_case q Ask (found_if (f q)) (found_if (f q)) else No)
-      half none o' h = refl
-      half (some f) none h = refl
-      half (some f) (some g) h = asks (g r.client) f h
+          → Quiet (look_at unasked (o >>= λ f. o' >>= λ g. Some λ q. when g q.client then user_case q Ask (found_if (f q)) (found_if (f q)) else No))
+          → look_at asked (o >>= λ f. o' >>= λ g. Some λ q. when g q.client then user_case q Ask (found_if (f q)) (found_if (f q)) else No)
+          ≡ look_at unasked (o >>= λ f. o' >>= λ g. Some λ q. when g q.client then user_case q Ask (found_if (f q)) (found_if (f q)) else No)
+      half None o' h = refl
+      half (Some f) None h = refl
+      half (Some f) (Some g) h = asks (g r.client) f h
 
-      name : (o : Option (Endpoint → Bool)) → look_at asked (o >>= λ g. some λ q. found_if (g q.client))
-          ≡ look_at unasked (o >>= λ g. some λ q. found_if (g q.client))
-      name none = refl
-      name (some g) = refl
+      name : (o : Option (Endpoint → Bool)) → look_at asked (o >>= λ g. Some λ q. found_if (g q.client))
+          ≡ look_at unasked (o >>= λ g. Some λ q. found_if (g q.client))
+      name None = refl
+      name (Some g) = refl
 
       by : (o : Option (List ℕ × List ℕ)) → Quiet (look_at unasked (client_parts m e o)) → look_at asked (client_parts m e o) ≡ look_at unasked (client_parts m e o)
-      by none h = name (pattern_with m e)
-      by (some p) h = half (user_half p.0) (pattern_with m p.1) h
+      by None h = name (pattern_with m e)
+      by (Some p) h = half (user_half p.0) (pattern_with m p.1) h
 
   pub rule_same : (x : Rule) → Quiet (rule_found m unasked x) → rule_found m asked x ≡ rule_found m unasked x
   unfolding rule_found_by
@@ -169,12 +169,12 @@ module _ (m : Matcher) (r : Request) (t₀ : List ℕ) (u : User) (t : List ℕ)
       quiet x Yes h = tt
       quiet x Ask h = h
 
-      by : (b : Bool) (o : Option Rule) → QuietAnswer (when b then none else (o >>= λ x. rule_answer v f l x (rule_found m unasked x)))
-          → (when b then none else (o >>= λ x. rule_answer v f l x (rule_found m asked x)))
-          ≡ (when b then none else (o >>= λ x. rule_answer v f l x (rule_found m unasked x)))
+      by : (b : Bool) (o : Option Rule) → QuietAnswer (when b then None else (o >>= λ x. rule_answer v f l x (rule_found m unasked x)))
+          → (when b then None else (o >>= λ x. rule_answer v f l x (rule_found m asked x)))
+          ≡ (when b then None else (o >>= λ x. rule_answer v f l x (rule_found m unasked x)))
       by true o h = refl
-      by false none h = refl
-      by false (some x) h = ap (rule_answer v f l x) (rule_same x (quiet x (rule_found m unasked x) h))
+      by false None h = refl
+      by false (Some x) h = ap (rule_answer v f l x) (rule_same x (quiet x (rule_found m unasked x) h))
 
   pub search_same : (allow deny : List ℕ) → QuietVerdict (search m allow deny unasked).verdict → search m allow deny asked ≡ search m allow deny unasked
   unfolding search
@@ -193,16 +193,16 @@ module _ (m : Matcher) (r : Request) (t₀ : List ℕ) (u : User) (t : List ℕ)
       none_matched = answer Ver.Granted Deciding.Neither 0 (part 0 0)
 
       two : (o o' p p' : Option Answer) → (QuietAnswer o → o' ≡ o) → (QuietAnswer p → p' ≡ p)
-          → QuietVerdict (get_or (o or_else p) none_matched).verdict → get_or (o' or_else p') none_matched ≡ get_or (o or_else p) none_matched
-      two (some a) o' p p' f g h = rw (f h)
-      two none o' none p' f g h = rw (f tt, g tt)
-      two none o' (some a) p' f g h = rw (f tt, g h)
+          → QuietVerdict (unwrap_or (o or_else p) none_matched).verdict → unwrap_or (o' or_else p') none_matched ≡ unwrap_or (o or_else p) none_matched
+      two (Some a) o' p p' f g h = rw (f h)
+      two None o' None p' f g h = rw (f tt, g tt)
+      two None o' (Some a) p' f g h = rw (f tt, g h)
 
 -- a call that neither asks nor is refused gives every user that fits the same outcome; so does one that is refused
 module _ (r : Request) (t₀ : List ℕ) (u : User) (t : List ℕ) (e : well_formed (with_user r u t) ≡ well_formed (with_user r U.NotFetched t₀)) where
   pub over_same : (o : Option Refusal) (ts : List Table) (allow deny : List ℕ)
-      → QuietOutcome (o before decide_over ts allow deny (some (with_user r U.NotFetched t₀)))
-      → (o before decide_over ts allow deny (some (with_user r u t))) ≡ (o before decide_over ts allow deny (some (with_user r U.NotFetched t₀)))
+      → QuietOutcome (o before decide_over ts allow deny (Some (with_user r U.NotFetched t₀)))
+      → (o before decide_over ts allow deny (Some (with_user r u t))) ≡ (o before decide_over ts allow deny (Some (with_user r U.NotFetched t₀)))
   over_same o ts a d = by o (well_formed (with_user r U.NotFetched t₀)) (well_formed (with_user r u t)) e
     where
       x : Request
@@ -212,21 +212,21 @@ module _ (r : Request) (t₀ : List ℕ) (u : User) (t : List ℕ) (e : well_for
       y = held (with_user r u t)
 
       by : (o : Option Refusal) (b b' : Bool) → b' ≡ b
-          → QuietOutcome (o before (when b then answered (search (match_of ts) a d x) else refused (placeless F.BadRequest)))
-          → (o before (when b' then answered (search (match_of ts) a d y) else refused (placeless F.BadRequest)))
-          ≡ (o before (when b then answered (search (match_of ts) a d x) else refused (placeless F.BadRequest)))
-      by (some f) b b' e h = refl
-      by none false b' e h = rw e
-      by none true b' e h = rw e (ap answered (search_same (match_of ts) (held r) t₀ u t a d h))
+          → QuietOutcome (o before (when b then Ok (search (match_of ts) a d x) else Err (placeless F.BadRequest)))
+          → (o before (when b' then Ok (search (match_of ts) a d y) else Err (placeless F.BadRequest)))
+          ≡ (o before (when b then Ok (search (match_of ts) a d x) else Err (placeless F.BadRequest)))
+      by (Some f) b b' e h = refl
+      by None false b' e h = rw e
+      by None true b' e h = rw e (ap Ok (search_same (match_of ts) (held r) t₀ u t a d h))
 
-  pub decide_same : (allow deny : List ℕ) → QuietOutcome (decide allow deny (some (with_user r U.NotFetched t₀)))
-      → decide allow deny (some (with_user r u t)) ≡ decide allow deny (some (with_user r U.NotFetched t₀))
+  pub decide_same : (allow deny : List ℕ) → QuietOutcome (decide allow deny (Some (with_user r U.NotFetched t₀)))
+      → decide allow deny (Some (with_user r u t)) ≡ decide allow deny (Some (with_user r U.NotFetched t₀))
   unfolding decide
   decide_same a d =
       over_same (over_limit S.allow a or_else over_limit S.deny d or_else hosts_fault S.allow a or_else hosts_fault S.deny d or_else tables_fault a d []) [] a d
 
-  pub decide_tables_same : (allow deny tables : List ℕ) → QuietOutcome (decide_tables allow deny tables (some (with_user r U.NotFetched t₀)))
-      → decide_tables allow deny tables (some (with_user r u t)) ≡ decide_tables allow deny tables (some (with_user r U.NotFetched t₀))
+  pub decide_tables_same : (allow deny tables : List ℕ) → QuietOutcome (decide_tables allow deny tables (Some (with_user r U.NotFetched t₀)))
+      → decide_tables allow deny tables (Some (with_user r u t)) ≡ decide_tables allow deny tables (Some (with_user r U.NotFetched t₀))
   unfolding decide_tables
   decide_tables_same a d x =
       over_same
@@ -275,18 +275,18 @@ module _ (m : Matcher) (r : Request) (fetched : Fetched r.user) where
   daemon_quiet e = by (halves e)
     where
       half : (o : Option (List ℕ → Bool)) (q : Option (Endpoint → Bool))
-          → Quiet (look_at r (o >>= λ f. q >>= λ g. some λ x. found_if (f x.daemon && g x.server)))
-      half none q = tt
-      half (some f) none = tt
-      half (some f) (some g) = found_if_quiet (f r.daemon && g r.server)
+          → Quiet (look_at r (o >>= λ f. q >>= λ g. Some λ x. found_if (f x.daemon && g x.server)))
+      half None q = tt
+      half (Some f) None = tt
+      half (Some f) (Some g) = found_if_quiet (f r.daemon && g r.server)
 
-      name : (o : Option (List ℕ → Bool)) → Quiet (look_at r (o >>= λ f. some λ x. found_if (f x.daemon)))
-      name none = tt
-      name (some f) = found_if_quiet (f r.daemon)
+      name : (o : Option (List ℕ → Bool)) → Quiet (look_at r (o >>= λ f. Some λ x. found_if (f x.daemon)))
+      name None = tt
+      name (Some f) = found_if_quiet (f r.daemon)
 
       by : (o : Option (List ℕ × List ℕ)) → Quiet (look_at r (daemon_parts m e o))
-      by none = name (daemon_name e)
-      by (some p) = half (daemon_name p.0) (pattern_with m p.1)
+      by None = name (daemon_name e)
+      by (Some p) = half (daemon_name p.0) (pattern_with m p.1)
 
   client_quiet : (e : List ℕ) → Quiet (look_at r (client_element m e))
   unfolding client_element client_parts
@@ -298,18 +298,18 @@ module _ (m : Matcher) (r : Request) (fetched : Fetched r.user) where
       user U.Known h b = found_if_quiet b
 
       half : (o : Option (Request → Bool)) (q : Option (Endpoint → Bool))
-          → Quiet (look_at r (o >>= λ f. q >>= λ g. some λ x. when g x.client then user_case x Ask (found_if (f x)) (found_if (f x)) else No))
-      half none q = tt
-      half (some f) none = tt
-      half (some f) (some g) = if_quiet (g r.client) (user_case r Ask (found_if (f r)) (found_if (f r))) No (user r.user fetched (f r)) tt
+          → Quiet (look_at r (o >>= λ f. q >>= λ g. Some λ x. when g x.client then user_case x Ask (found_if (f x)) (found_if (f x)) else No))
+      half None q = tt
+      half (Some f) None = tt
+      half (Some f) (Some g) = if_quiet (g r.client) (user_case r Ask (found_if (f r)) (found_if (f r))) No (user r.user fetched (f r)) tt
 
-      name : (o : Option (Endpoint → Bool)) → Quiet (look_at r (o >>= λ g. some λ x. found_if (g x.client)))
-      name none = tt
-      name (some g) = found_if_quiet (g r.client)
+      name : (o : Option (Endpoint → Bool)) → Quiet (look_at r (o >>= λ g. Some λ x. found_if (g x.client)))
+      name None = tt
+      name (Some g) = found_if_quiet (g r.client)
 
       by : (o : Option (List ℕ × List ℕ)) → Quiet (look_at r (client_parts m e o))
-      by none = name (pattern_with m e)
-      by (some p) = half (user_half p.0) (pattern_with m p.1)
+      by None = name (pattern_with m e)
+      by (Some p) = half (user_half p.0) (pattern_with m p.1)
 
   pub rule_quiet : (x : Rule) → Quiet (rule_found m r x)
   unfolding rule_found_by
@@ -326,10 +326,10 @@ module _ (m : Matcher) (r : Request) (fetched : Fetched r.user) where
       answer_quiet x Yes k = h
       answer_quiet x Ask k = k
 
-      by : (b : Bool) (o : Option Rule) → QuietAnswer (when b then none else (o >>= λ x. rule_answer v f l x (rule_found m r x)))
+      by : (b : Bool) (o : Option Rule) → QuietAnswer (when b then None else (o >>= λ x. rule_answer v f l x (rule_found m r x)))
       by true o = tt
-      by false none = tt
-      by false (some x) = answer_quiet x (rule_found m r x) (rule_quiet x)
+      by false None = tt
+      by false (Some x) = answer_quiet x (rule_found m r x) (rule_quiet x)
 
   first_quiet : (f : Line → Option Answer) → ((l : Line) → QuietAnswer (f l)) → (ls : List Line) → QuietAnswer (first f ls)
   unfolding first
@@ -337,8 +337,8 @@ module _ (m : Matcher) (r : Request) (fetched : Fetched r.user) where
   first_quiet f h (l ∷ ls) = by (f l) (h l) (first_quiet f h ls)
     where
       by : (o : Option Answer) → QuietAnswer o → QuietAnswer (first f ls) → QuietAnswer (o or_else first f ls)
-      by none k ih = ih
-      by (some a) k ih = k
+      by None k ih = ih
+      by (Some a) k ih = k
 
   pub search_quiet : (allow deny : List ℕ) → QuietVerdict (search m allow deny r).verdict
   unfolding search
@@ -348,27 +348,27 @@ module _ (m : Matcher) (r : Request) (fetched : Fetched r.user) where
       (first_quiet (line_answer Ver.Denied Deciding.Deny (rule_found m r)) (line_quiet Ver.Denied tt Deciding.Deny) (lines deny))
     where
       by : (o q : Option Answer) → QuietAnswer o → QuietAnswer q
-          → QuietVerdict (get_or (o or_else q) (answer Ver.Granted Deciding.Neither 0 (part 0 0))).verdict
-      by (some a) q h k = h
-      by none none h k = tt
-      by none (some a) h k = k
+          → QuietVerdict (unwrap_or (o or_else q) (answer Ver.Granted Deciding.Neither 0 (part 0 0))).verdict
+      by (Some a) q h k = h
+      by None None h k = tt
+      by None (Some a) h k = k
 
 module _ (o : Option Refusal) (ts : List Table) (a d : List ℕ) where
-  pub over_quiet : (r : Request) → Fetched r.user → QuietOutcome (o before decide_over ts a d (some r))
+  pub over_quiet : (r : Request) → Fetched r.user → QuietOutcome (o before decide_over ts a d (Some r))
   over_quiet r fetched = by o (well_formed r)
     where
       by : (o : Option Refusal) (b : Bool)
-          → QuietOutcome (o before (when b then answered (search (match_of ts) a d (held r)) else refused (placeless F.BadRequest)))
-      by (some f) b = tt
-      by none false = tt
-      by none true = search_quiet (match_of ts) (held r) fetched a d
+          → QuietOutcome (o before (when b then Ok (search (match_of ts) a d (held r)) else Err (placeless F.BadRequest)))
+      by (Some f) b = tt
+      by None false = tt
+      by None true = search_quiet (match_of ts) (held r) fetched a d
 
-  pub over_none_quiet : QuietOutcome (o before decide_over ts a d none)
+  pub over_none_quiet : QuietOutcome (o before decide_over ts a d None)
   over_none_quiet = by o
     where
-      by : (o : Option Refusal) → QuietOutcome (o before refused (placeless F.BadRequest))
-      by (some f) = tt
-      by none = tt
+      by : (o : Option Refusal) → QuietOutcome (o before Err (placeless F.BadRequest))
+      by (Some f) = tt
+      by None = tt
 
 abbrev plain_faults : List ℕ → List ℕ → Option Refusal
 plain_faults a d = over_limit S.allow a or_else over_limit S.deny d or_else hosts_fault S.allow a or_else hosts_fault S.deny d or_else tables_fault a d []
@@ -377,18 +377,18 @@ abbrev tabled_faults : List ℕ → List ℕ → List ℕ → Option Refusal
 tabled_faults a d t =
     over_limit S.allow a or_else over_limit S.deny d or_else tables_frame t or_else hosts_fault S.allow a or_else hosts_fault S.deny d or_else tables_fault a d t
 
-pub decide_quiet : (r : Request) → Fetched r.user → (allow deny : List ℕ) → QuietOutcome (decide allow deny (some r))
+pub decide_quiet : (r : Request) → Fetched r.user → (allow deny : List ℕ) → QuietOutcome (decide allow deny (Some r))
 unfolding decide
 decide_quiet r fetched a d = over_quiet (plain_faults a d) [] a d r fetched
 
-pub decide_none_quiet : (allow deny : List ℕ) → QuietOutcome (decide allow deny none)
+pub decide_none_quiet : (allow deny : List ℕ) → QuietOutcome (decide allow deny None)
 unfolding decide
 decide_none_quiet a d = over_none_quiet (plain_faults a d) [] a d
 
-pub decide_tables_quiet : (r : Request) → Fetched r.user → (allow deny tables : List ℕ) → QuietOutcome (decide_tables allow deny tables (some r))
+pub decide_tables_quiet : (r : Request) → Fetched r.user → (allow deny tables : List ℕ) → QuietOutcome (decide_tables allow deny tables (Some r))
 unfolding decide_tables
 decide_tables_quiet r fetched a d t = over_quiet (tabled_faults a d t) (tables_of t) a d r fetched
 
-pub decide_tables_none_quiet : (allow deny tables : List ℕ) → QuietOutcome (decide_tables allow deny tables none)
+pub decide_tables_none_quiet : (allow deny tables : List ℕ) → QuietOutcome (decide_tables allow deny tables None)
 unfolding decide_tables
 decide_tables_none_quiet a d t = over_none_quiet (tabled_faults a d t) (tables_of t) a d

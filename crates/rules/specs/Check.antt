@@ -5,8 +5,7 @@
 --   tables_fault allow deny t == the refusal of two texts and the section five t by 15, 16 and 17
 -- Not here: the tests of 5 and 6 (lines, Line.antt), and 7 to 11 (lists, Check.antt).
 -- Assumes nothing: these are definitions.
-use Rattle.std.specs.Prelude.{ℕ, Bool, false, not, ◌&&◌, ◌||◌, List, [], ◌∷◌}
-use Rattle.std.proofs.Math.Option.{Option, none, some}
+use Rattle.std.specs.Prelude.{ℕ, Bool, false, not, ◌&&◌, ◌||◌, List, [], ◌∷◌, None, Option}
 use Rattle.text.specs.Basics.{when◌then◌else◌, ◌or_else◌, given, holds, first}
 use Rattle.section.specs.declared.Fault.{Fault}
 use Rattle.section.specs.declared.Fault.TheVariants as F
@@ -28,7 +27,7 @@ line_fault_by j l =
     ((F.Unended, not l.ended)
     ∷ (F.BadByte, not (is_comment l) && has_bad_byte (join l.raw))
     ∷ (F.LongLine, is_too_long (join l.raw)) ∷ [])
-    or_else (when is_comment l || is_blank l then none else j (parse_rule l.raw))
+    or_else (when is_comment l || is_blank l then None else j (parse_rule l.raw))
 
 abbrev pub line_fault : Line → Option Fault
 line_fault l = line_fault_by rule_fault l

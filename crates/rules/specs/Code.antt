@@ -6,8 +6,7 @@
 --   Noted t r notes            == the notes say of each table whether it matches the hosts of r, what is tried in it, and whether it may be named
 --   finding_of o s, finding_by p == what a search finds
 -- Assumes nothing: these are definitions.
-use Rattle.std.specs.Prelude.{ℕ, Bool, not, ◌||◌, List, ◌≡◌, eqb, ltb, length}
-use Rattle.std.proofs.Math.Option.{Option, none, some}
+use Rattle.std.specs.Prelude.{ℕ, Bool, not, ◌||◌, List, ◌≡◌, eqb, ltb, length, Err, None, Ok, Option, Result, Some}
 use Rattle.text.specs.Basics.{when◌then◌else◌, ◌>>=◌, ◌or_else◌, given}
 use Rattle.section.specs.declared.Fault.TheVariants as F
 use Rattle.section.specs.declared.Refusal.{Refusal}
@@ -26,12 +25,8 @@ use Rattle.rules.specs.declared.Answer.{Answer}
 use Rattle.rules.specs.declared.Reported.{Reported}
 use Rattle.rules.specs.declared.Verdict.TheVariants.{Granted}
 use Rattle.rules.specs.declared.File.TheVariants.{Neither}
-use Rattle.rules.specs.declared.hosts_file.Pass.{Pass}
-use Rattle.rules.specs.declared.hosts_file.Pass.TheVariants as P
 use Rattle.rules.specs.declared.hosts_file.Tally.{Tally}
 use Rattle.rules.specs.declared.search.Searched.{Searched}
-use Rattle.rules.specs.declared.search.Finding.{Finding}
-use Rattle.rules.specs.declared.search.Finding.TheVariants as Finding
 use Rattle.rules.specs.Check.{hosts_fault, missing_fault, depth_fault, tables_fault}
 use Rattle.rules.specs.Search.{answer}
 use Rattle.rules.specs.FileCode.{hosts_fault_at, refused_report}
@@ -55,12 +50,12 @@ depth_both ts allow deny = depth_fault ts S.allow allow or_else depth_fault ts S
 
 -- the refusal of a table by its number, 0 for none
 abbrev pub numbered : ℕ → Option ℕ
-numbered n = when eqb n 0 then none else some n
+numbered n = when eqb n 0 then None else Some n
 
 unfoldable pub bad_table_by : List ℕ → ℕ → Option Refusal
 bad_table_by t unsound =
     (given (ltb 64 (length (tables_in t)) || ltb (S.tables).limit (length t)) 0 or_else numbered unsound)
-    >>= λ n. some (refusal F.BadTable (S.tables).order n)
+    >>= λ n. Some (refusal F.BadTable (S.tables).order n)
 
 unfoldable pub from_depth : List ℕ → List ℕ → List ℕ → ℕ → Option Refusal
 from_depth allow deny t unsound = depth_both (tables_of t) allow deny or_else bad_table_by t unsound
@@ -71,8 +66,8 @@ from_tables allow deny t = table_name_fault (tables_of t) or_else (depth_both (t
 -- the lines are sound, and name no table that is missing
 pub record Named (allow deny t : List ℕ) : Type 0 where
   pub named_whole : tables_in t ≡ tables_of t
-  pub named_lines : lines_fault allow deny ≡ none
-  pub named_missing : missing_both (tables_of t) allow deny ≡ none
+  pub named_lines : lines_fault allow deny ≡ None
+  pub named_missing : missing_both (tables_of t) allow deny ≡ None
 
 -- ## The search
 
@@ -82,7 +77,7 @@ pub record Noted (t : List ℕ) (r : Request) (notes : List ℕ) : Type 0 where
   pub noted_client_tried : (n : List ℕ) → noted_tried 0 t notes n ≡ capped (tried_of (tables_in t) n r.client)
   pub noted_server_tried : (n : List ℕ) → noted_tried 1 t notes n ≡ capped (tried_of (tables_in t) n r.server)
   pub noted_missing : (n : List ℕ) → is_missing_name (naming_of t notes n) ≡ is_missing (tables_in t) n
-  pub noted_deep : table_name_fault (tables_in t) ≡ none → (n : List ℕ) → is_deep_name (naming_of t notes n) ≡ leads_past (tables_in t) depth n
+  pub noted_deep : table_name_fault (tables_in t) ≡ None → (n : List ℕ) → is_deep_name (naming_of t notes n) ≡ leads_past (tables_in t) depth n
 
 -- the same of names alone
 -- the same of what is found of the tables, which tells too whether their texts are known to be sound
@@ -92,7 +87,7 @@ pub record NotedBy (t : List ℕ) (r : Request) (v : Viewing) : Type 0 where
 
 pub record NamingNoted (t notes : List ℕ) : Type 0 where
   pub naming_missing : (n : List ℕ) → is_missing_name (naming_of t notes n) ≡ is_missing (tables_in t) n
-  pub naming_deep : table_name_fault (tables_in t) ≡ none → (n : List ℕ) → is_deep_name (naming_of t notes n) ≡ leads_past (tables_in t) depth n
+  pub naming_deep : table_name_fault (tables_in t) ≡ None → (n : List ℕ) → is_deep_name (naming_of t notes n) ≡ leads_past (tables_in t) depth n
 
 abbrev pub tables_over : List ℕ → Bool
 tables_over t = ltb 64 (length (tables_in t)) || ltb (S.tables).limit (length t)
@@ -105,19 +100,19 @@ tables_doubtful t =
 abbrev pub searched : Answer → ℕ → Searched
 searched a n = record { answer = a; looked = n }
 
-abbrev pub finding_of : Option Refusal → Searched → Finding
-finding_of none x = Finding.Answer x
-finding_of (some f) x = Finding.Doubtful
+abbrev pub finding_of : Option Refusal → Searched → Option Searched
+finding_of None x = Some x
+finding_of (Some f) x = None
 
-abbrev pub pass_finding : Pass → ℕ → Finding
-pass_finding (P.Faulty g) n = Finding.Doubtful
-pass_finding P.Unmatched n = Finding.Answer (searched (answer Granted Neither 0 (part 0 0)) n)
-pass_finding (P.Matched a) n = Finding.Answer (searched a n)
+abbrev pub pass_finding : Result (Option Answer) Refusal → ℕ → Option Searched
+pass_finding (Err g) n = None
+pass_finding (Ok None) n = Some (searched (answer Granted Neither 0 (part 0 0)) n)
+pass_finding (Ok (Some a)) n = Some (searched a n)
 
-abbrev pub finding_by : Tally → Finding
+abbrev pub finding_by : Tally → Option Searched
 finding_by t = pass_finding t.pass t.looked
 
-abbrev pub refused_by : Pass → Reported
-refused_by (P.Faulty g) = refused_report g
-refused_by P.Unmatched = refused_report (placeless F.BadRequest)
-refused_by (P.Matched a) = refused_report (placeless F.BadRequest)
+abbrev pub refused_by : Result (Option Answer) Refusal → Reported
+refused_by (Err g) = refused_report g
+refused_by (Ok None) = refused_report (placeless F.BadRequest)
+refused_by (Ok (Some a)) = refused_report (placeless F.BadRequest)

@@ -14,8 +14,7 @@
 --   ScannedLine s l  == the bytes s are those of a line that was scanned as l
 --   step_of .. t i n s == what the step over the line of t at i, of number n and scanned as s, answers
 -- Assumes nothing: these are definitions.
-use Rattle.std.specs.Prelude.{ℕ, ◌+◌, ◌-◌, ◌*◌, Bool, true, false, not, ◌&&◌, ◌||◌, List, [], ◌∷◌, ◌≡◌, length, take, drop}
-use Rattle.std.proofs.Math.Option.{Option, none, some}
+use Rattle.std.specs.Prelude.{ℕ, ◌+◌, ◌-◌, ◌*◌, Bool, true, false, not, ◌&&◌, ◌||◌, List, [], ◌∷◌, ◌≡◌, length, take, drop, Err, None, Ok, Option, Result, Some}
 use Rattle.text.specs.Basics.{when◌then◌else◌, ◌or_else◌, is_some, first, sum_until}
 use Rattle.text.specs.Text.{bytes}
 use Rattle.section.specs.declared.Fault.{Fault}
@@ -43,14 +42,9 @@ use Rattle.rules.specs.declared.File.{File}
 use Rattle.rules.specs.declared.File.TheVariants.{Neither, Allow, Deny}
 use Rattle.rules.specs.declared.Answer.{Answer}
 use Rattle.rules.specs.declared.Reported.{Reported}
-use Rattle.rules.specs.declared.Ruling.TheVariants as R
-use Rattle.rules.specs.declared.hosts_file.Pass.{Pass}
-use Rattle.rules.specs.declared.hosts_file.Pass.TheVariants as P
 use Rattle.rules.specs.declared.hosts_file.Tally.{Tally}
 use Rattle.rules.specs.declared.hosts_file.LineKind.{LineKind}
 use Rattle.rules.specs.declared.hosts_file.LineKind.TheVariants as Kind
-use Rattle.rules.specs.declared.hosts_file.Examined.{Examined}
-use Rattle.rules.specs.declared.hosts_file.Examined.TheVariants as T
 use Rattle.rules.specs.declared.hosts_file.Step.{Step}
 use Rattle.rules.specs.Check.{line_fault_by}
 use Rattle.rules.specs.Search.{answer, raw_command, line_answer}
@@ -85,40 +79,40 @@ fault_at s v l = at_place s l.number (judged_line v l)
 unfoldable pub hosts_fault_at : ℕ → View → List ℕ → Option Refusal
 hosts_fault_at s v t = first (fault_at s v) (lines t)
 
-abbrev pub pass_of : Option Refusal → Option Answer → Pass
-pass_of none none = P.Unmatched
-pass_of none (some a) = P.Matched a
-pass_of (some f) a = P.Faulty f
+abbrev pub pass_of : Option Refusal → Option Answer → Result (Option Answer) Refusal
+pass_of None None = Ok None
+pass_of None (Some a) = Ok (Some a)
+pass_of (Some f) a = Err f
 
-unfoldable pub pass_line : ℕ → Verdict → File → Bool → Query → Line → Pass
-pass_line s v f search r l = pass_of (fault_at s r.view l) (when search then line_answer v f (query_found r) l else none)
+unfoldable pub pass_line : ℕ → Verdict → File → Bool → Query → Line → Result (Option Answer) Refusal
+pass_line s v f search r l = pass_of (fault_at s r.view l) (when search then line_answer v f (query_found r) l else None)
 
-unfoldable pub pass_text : ℕ → Verdict → File → Bool → Query → List ℕ → Pass
-pass_text s v f search r t = pass_of (hosts_fault_at s r.view t) (when search then first (line_answer v f (query_found r)) (lines t) else none)
+unfoldable pub pass_text : ℕ → Verdict → File → Bool → Query → List ℕ → Result (Option Answer) Refusal
+pass_text s v f search r t = pass_of (hosts_fault_at s r.view t) (when search then first (line_answer v f (query_found r)) (lines t) else None)
 
-abbrev pub is_unmatched : Pass → Bool
-is_unmatched (P.Faulty g) = false
-is_unmatched P.Unmatched = true
-is_unmatched (P.Matched a) = false
+abbrev pub is_unmatched : Result (Option Answer) Refusal → Bool
+is_unmatched (Err g) = false
+is_unmatched (Ok None) = true
+is_unmatched (Ok (Some a)) = false
 
 -- a fault goes before every answer, and the first of each stays
-abbrev pub combined : Pass → Pass → Pass
-combined (P.Faulty f) q = P.Faulty f
-combined P.Unmatched q = q
-combined (P.Matched a) (P.Faulty g) = P.Faulty g
-combined (P.Matched a) P.Unmatched = P.Matched a
-combined (P.Matched a) (P.Matched c) = P.Matched a
+abbrev pub combined : Result (Option Answer) Refusal → Result (Option Answer) Refusal → Result (Option Answer) Refusal
+combined (Err f) q = Err f
+combined (Ok None) q = q
+combined (Ok (Some a)) (Err g) = Err g
+combined (Ok (Some a)) (Ok None) = Ok (Some a)
+combined (Ok (Some a)) (Ok (Some c)) = Ok (Some a)
 
-unfoldable pub pass_both : Query → List ℕ → List ℕ → Pass
+unfoldable pub pass_both : Query → List ℕ → List ℕ → Result (Option Answer) Refusal
 pass_both r allow deny = pass_of
     (hosts_fault_at 1 r.view allow or_else hosts_fault_at 2 r.view deny)
     (first (line_answer Granted Allow (query_found r)) (lines allow) or_else first (line_answer Denied Deny (query_found r)) (lines deny))
 
 -- a fault counts nothing
-abbrev pub tallied : Pass → ℕ → Tally
-tallied (P.Faulty g) n = record { pass = P.Faulty g; looked = 0 }
-tallied P.Unmatched n = record { pass = P.Unmatched; looked = n }
-tallied (P.Matched a) n = record { pass = P.Matched a; looked = n }
+abbrev pub tallied : Result (Option Answer) Refusal → ℕ → Tally
+tallied (Err g) n = record { pass = Err g; looked = 0 }
+tallied (Ok None) n = record { pass = Ok None; looked = n }
+tallied (Ok (Some a)) n = record { pass = Ok (Some a); looked = n }
 
 abbrev pub query_looked : Query → Rule → ℕ
 query_looked q = view_looked q.view q.request
@@ -135,10 +129,10 @@ both_looked r allow deny =
     + (when is_some (first (line_answer Granted Allow (query_found r)) (lines allow)) then 0 else lines_looked Denied Deny true r (lines deny))
 
 abbrev pub refused_report : Refusal → Reported
-refused_report g = record { ruling = R.Refused g; looked = 0 }
+refused_report g = record { ruling = Err g; looked = 0 }
 
 abbrev pub refusing_request : Bool → Answer → ℕ → Reported
-refusing_request true a n = record { ruling = R.Answered a; looked = n }
+refusing_request true a n = record { ruling = Ok a; looked = n }
 refusing_request false a n = refused_report (placeless F.BadRequest)
 
 -- ## A line
@@ -151,16 +145,16 @@ layout_fault l = first_holding
     ∷ (F.LongLine, is_too_long (join l.raw)) ∷ [])
 
 abbrev pub kind_as : Option Fault → Bool → LineKind
-kind_as (some f) passed = Kind.Faulty f
-kind_as none true = Kind.Skipped
-kind_as none false = Kind.HasRule
+kind_as (Some f) passed = Kind.Faulty f
+kind_as None true = Kind.Skipped
+kind_as None false = Kind.HasRule
 
 unfoldable pub line_kind : Line → LineKind
 line_kind l = kind_as (layout_fault l) (is_comment l || is_blank l)
 
-abbrev pub examined_as : Option Fault → Looked → Examined
-examined_as (some f) x = T.Faulty f
-examined_as none x = T.Finds x
+abbrev pub examined_as : Option Fault → Looked → Result Looked Fault
+examined_as (Some f) x = Err f
+examined_as None x = Ok x
 
 -- what the rule in t finds and looks at, if it is searched
 abbrev pub sought_in : Bool → Query → List ℕ → Looked
@@ -168,19 +162,19 @@ sought_in search r t =
     looked_for (when search then line_found r.view r.request t else No) (counted search (capped (line_looked r.view r.request t)))
 
 -- whether what a rule tells is a fault
-abbrev pub is_refused : Examined → Bool
-is_refused (T.Faulty f) = true
-is_refused (T.Finds y) = false
+abbrev pub is_refused : Result Looked Fault → Bool
+is_refused (Err f) = true
+is_refused (Ok y) = false
 
-unfoldable pub rule_examined : Bool → Query → List ℕ → Examined
+unfoldable pub rule_examined : Bool → Query → List ℕ → Result Looked Fault
 rule_examined search r t = examined_as (judged_fault r.view (parse_rule t)) (sought_in search r t)
 
-unfoldable pub line_examined : Bool → Query → Line → Examined
+unfoldable pub line_examined : Bool → Query → Line → Result Looked Fault
 line_examined search r l = examined_as (judged_line r.view l) (when is_comment l || is_blank l then looked_for No 0 else sought_in search r l.raw)
 
 unfoldable pub command_part : ℕ → List ℕ → Option Rule → Part
-command_part at s none = part (at + length s) 0
-command_part at s (some u) = raw_command (line 0 at s true) u
+command_part at s None = part (at + length s) 0
+command_part at s (Some u) = raw_command (line 0 at s true) u
 
 pub record ScannedLine (s : List ℕ) (l : LineSpan) : Type 0 where
   pub lengths : length (join s) + 2 * l.joins ≡ length s

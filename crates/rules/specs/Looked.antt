@@ -4,10 +4,9 @@
 --   reported o n               == the outcome o as the call answers it, with that number
 --   file_elements t             == the elements of all rules of the text t
 -- Assumes nothing: these are definitions.
-use Rattle.std.specs.Prelude.{ℕ, ◌+◌, ◌||◌, List}
-use Rattle.std.proofs.Math.Option.{Option, none, some}
+use Rattle.std.specs.Prelude.{ℕ, ◌+◌, ◌||◌, List, Err, None, Ok, Option, Some}
 use Rattle.text.specs.Basics.{when◌then◌else◌, is_some, first, sum, sum_until}
-use Rattle.section.specs.Refusal.{Outcome, refused, answered, fitting}
+use Rattle.section.specs.Refusal.{Outcome, fitting}
 use Rattle.lines.specs.Line.{Line, lines, is_comment, is_blank}
 use Rattle.lines.specs.Rule.{Rule, parse_rule}
 use Rattle.tables.specs.Table.{Table, match_of}
@@ -20,15 +19,13 @@ use Rattle.rules.specs.declared.Verdict.TheVariants.{Granted, Denied}
 use Rattle.rules.specs.declared.File.{File}
 use Rattle.rules.specs.declared.File.TheVariants.{Allow, Deny}
 use Rattle.rules.specs.declared.Answer.{Answer}
-use Rattle.rules.specs.declared.Ruling.{Ruling}
-use Rattle.rules.specs.declared.Ruling.TheVariants as Ruling
 use Rattle.rules.specs.declared.Reported.{Reported}
 use Rattle.rules.specs.Search.{line_answer}
 
 -- what f counts of the rule in a line; a line that holds none counts nothing
 abbrev pub of_rule : (Rule → ℕ) → Option Rule → ℕ
-of_rule f none = 0
-of_rule f (some u) = f u
+of_rule f None = 0
+of_rule f (Some u) = f u
 
 unfoldable pub line_count : (Rule → ℕ) → Line → ℕ
 line_count f l = when is_comment l || is_blank l then 0 else of_rule f (parse_rule l.raw)
@@ -45,16 +42,16 @@ looked ts allow deny r =
 
 -- "(0 at a refusal)": 13 too
 abbrev pub number_of : Outcome ℕ → ℕ
-number_of (refused f) = 0
-number_of (answered n) = n
+number_of (Err f) = 0
+number_of (Ok n) = n
 
 -- the number for the request in o by sound texts, over the tables ts, for the request as it is held
 unfoldable pub looked_over : List Table → List ℕ → List ℕ → Option Request → ℕ
-looked_over ts allow deny o = number_of (fitting well_formed o (λ r. answered (capped (looked ts allow deny (held r)))))
+looked_over ts allow deny o = number_of (fitting well_formed o (λ r. Ok (capped (looked ts allow deny (held r)))))
 
 abbrev pub reported : Outcome Answer → ℕ → Reported
-reported (refused f) n = record { ruling = Ruling.Refused f; looked = 0 }
-reported (answered a) n = record { ruling = Ruling.Answered a; looked = n }
+reported (Err f) n = record { ruling = Err f; looked = 0 }
+reported (Ok a) n = record { ruling = Ok a; looked = n }
 
 -- "the elements in both files", of one of them
 unfoldable pub file_elements : List ℕ → ℕ

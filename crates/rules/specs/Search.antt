@@ -4,11 +4,10 @@
 --   decide_tables allow deny t o == the call with the tables of t
 --   command_bytes allow deny a == the bytes of the raw command of the answer a
 -- Assumes nothing: these are definitions.
-use Rattle.std.specs.Prelude.{ℕ, ◌+◌, ◌-◌, ◌||◌, List, [], ◌∷◌, length}
-use Rattle.std.proofs.Math.Option.{Option, none, some, get_or}
+use Rattle.std.specs.Prelude.{ℕ, ◌+◌, ◌-◌, ◌||◌, List, [], ◌∷◌, length, None, Ok, Option, Some, unwrap_or}
 use Rattle.text.specs.Basics.{when◌then◌else◌, ◌>>=◌, ◌or_else◌, is_empty, first}
 use Rattle.section.specs.declared.Part.{Part}
-use Rattle.section.specs.Refusal.{Outcome, answered, ◌before◌, fitting}
+use Rattle.section.specs.Refusal.{Outcome, ◌before◌, fitting}
 use Rattle.section.specs.Section as S
 use Rattle.section.specs.Section.{part, bytes_at, over_limit}
 use Rattle.lines.specs.Line.{Line, lines, is_comment, is_blank}
@@ -43,24 +42,24 @@ answer v f n p = record { verdict = v; file = f; line = n; command = p }
 
 -- what the rule u of the line l answers: the verdict v of its file f where it matches
 abbrev pub rule_answer : Verdict → File → Line → Rule → Found → Option Answer
-rule_answer v f l u Found.Yes = some (answer v f l.number (raw_command l u))
-rule_answer v f l u Found.Ask = some (answer Ask f l.number (part 0 0))
-rule_answer v f l u Found.No = none
+rule_answer v f l u Found.Yes = Some (answer v f l.number (raw_command l u))
+rule_answer v f l u Found.Ask = Some (answer Ask f l.number (part 0 0))
+rule_answer v f l u Found.No = None
 
 -- where found says what a rule finds
 unfoldable pub line_answer : Verdict → File → (Rule → Found) → Line → Option Answer
 line_answer v f found l =
-    when is_comment l || is_blank l then none else (parse_rule l.raw >>= λ u. rule_answer v f l u (found u))
+    when is_comment l || is_blank l then None else (parse_rule l.raw >>= λ u. rule_answer v f l u (found u))
 
 -- "First matching rule of allow grants; else first matching rule of deny denies; else granted with no file and line 0."
 unfoldable pub search : Matcher → List ℕ → List ℕ → Request → Answer
-search m allow deny r = get_or
+search m allow deny r = unwrap_or
     (first (line_answer Granted Allow (rule_found m r)) (lines allow) or_else first (line_answer Denied Deny (rule_found m r)) (lines deny))
     (answer Granted Neither 0 (part 0 0))
 
 -- the answer to the request in o by sound texts, over the tables ts; request 7: "Every verdict and expansion makes this change first"
 abbrev pub decide_over : List Table → List ℕ → List ℕ → Option Request → Outcome Answer
-decide_over ts allow deny o = fitting well_formed o (λ r. answered (search (match_of ts) allow deny (held r)))
+decide_over ts allow deny o = fitting well_formed o (λ r. Ok (search (match_of ts) allow deny (held r)))
 
 -- "per section in turn, .. limit (2) ..; then allow, deny ..; then 13"; "A call that takes only some texts makes only
 -- their checks, over the whole of each text, before any verdict." Request 1: "any `/name` is missing in a call without tables"

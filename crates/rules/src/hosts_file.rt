@@ -15,7 +15,6 @@ ghost use Rattle.tables.specs.Tried.{capped};
 ghost use Rattle.rules.specs.FileCode.{query_at, ScannedLine, line_kind, rule_examined, line_examined, command_part, pass_line, step_of, pass_text};
 ghost use Rattle.rules.specs.FileCode.{pass_of, hosts_fault_at};
 ghost use Rattle.rules.specs.FileCode.{judged_line, is_refused, tallied, line_looks, lines_looked};
-ghost use Rattle.std.proofs.Math.Option.{none};
 ghost use Rattle.text.specs.Basics.{is_some};
 
 use super::{Answer, File, Verdict};
@@ -24,22 +23,13 @@ use elements::request::Request;
 use elements::{Found, Looked, User, count};
 use lines::line::LineSpan;
 use lines::{line, rule};
-use lists::Checked;
 use patterns::{Host, Name};
 use section::{Fault, Part, Refusal};
-
-// What a text, or a line, gives: a refusal, else an answer where a rule matches or asks.
-#[derive(Clone, Copy)]
-pub enum Pass {
-    Faulty(Refusal),
-    Unmatched,
-    Matched(Answer),
-}
 
 // A pass, and how many elements were looked at for it: none where there is a fault.
 #[derive(Clone, Copy)]
 pub struct Tally {
-    pub pass: Pass,
+    pub pass: Result<Option<Answer>, Refusal>,
     pub looked: u64,
 }
 
@@ -51,13 +41,6 @@ pub enum LineKind {
     HasRule,
 }
 
-// What a line tells: its lowest fault, else what it finds of the request and looks at.
-#[derive(Clone, Copy)]
-pub enum Examined {
-    Faulty(Fault),
-    Finds(Looked),
-}
-
 // Where the next line starts, its number, and what this one gives.
 #[derive(Clone, Copy)]
 pub struct Step {
@@ -67,20 +50,20 @@ pub struct Step {
 }
 
 // A pass with its number.
-pub fn tallied(pass: Pass, looked: u64) -> Tally
+pub fn tallied(pass: Result<Option<Answer>, Refusal>, looked: u64) -> Tally
     ensures { result ≡ tallied pass looked }
 {
     match pass {
-        Pass::Faulty(f) => Tally {
-            pass: Pass::Faulty(f),
+        Err(f) => Tally {
+            pass: Err(f),
             looked: 0,
         },
-        Pass::Unmatched => Tally {
-            pass: Pass::Unmatched,
+        Ok(None) => Tally {
+            pass: Ok(None),
             looked,
         },
-        Pass::Matched(a) => Tally {
-            pass: Pass::Matched(a),
+        Ok(Some(a)) => Tally {
+            pass: Ok(Some(a)),
             looked,
         },
     }
@@ -120,7 +103,7 @@ fn examine_rule(
     search: bool,
     names: &[u8],
     request: Request,
-) -> Examined
+) -> Result<Looked, Fault>
     requires classes { Classes class.now }
     requires no_newline { NoNewline t.now }
     ensures { result
@@ -132,8 +115,8 @@ fn examine_rule(
     let check = seen.check;
     let found = seen.found;
     match check {
-        Checked::Faulty(f) => Examined::Faulty(f),
-        Checked::Sound => Examined::Finds(Looked {
+        Err(f) => Err(f),
+        Ok(()) => Ok(Looked {
             found,
             looked: seen.looked,
         }),
@@ -149,7 +132,7 @@ fn examine_joined(
     search: bool,
     names: &[u8],
     request: Request,
-) -> Examined
+) -> Result<Looked, Fault>
     requires classes { Classes class.now }
     requires no_newline { (NoNewline (join raw.now)) × (length (join raw.now) ≤ 2047) }
     ensures { result
@@ -172,7 +155,7 @@ fn examine_line(
     search: bool,
     names: &[u8],
     request: Request,
-) -> Examined
+) -> Result<Looked, Fault>
     requires classes { Classes class.now }
     requires scanned_line { ScannedLine raw.now span }
     ensures { result
@@ -181,8 +164,8 @@ fn examine_line(
         (line 0 0 raw.now span.ended) }
 {
     match kind_of_line(raw, span) {
-        LineKind::Faulty(f) => Examined::Faulty(f),
-        LineKind::Skipped => Examined::Finds(Looked {
+        LineKind::Faulty(f) => Err(f),
+        LineKind::Skipped => Ok(Looked {
             found: Found::No,
             looked: 0,
         }),
@@ -242,37 +225,37 @@ fn pass_line(
         (line n at raw.now span.ended))) }
 {
     match examine_line(class, tables, notes, raw, span, search, names, request) {
-        Examined::Faulty(f) => Tally {
-            pass: Pass::Faulty(Refusal {
+        Err(f) => Tally {
+            pass: Err(Refusal {
                 fault: f,
                 section: order,
                 line: n,
             }),
             looked: 0,
         },
-        Examined::Finds(seen) => {
+        Ok(seen) => {
             let found = seen.found;
             match found {
                 Found::No => Tally {
-                    pass: Pass::Unmatched,
+                    pass: Ok(None),
                     looked: seen.looked,
                 },
                 Found::Ask => Tally {
-                    pass: Pass::Matched(Answer {
+                    pass: Ok(Some(Answer {
                         verdict: Verdict::Ask,
                         file,
                         line: n,
                         command: Part { place: 0, len: 0 },
-                    }),
+                    })),
                     looked: seen.looked,
                 },
                 Found::Yes => Tally {
-                    pass: Pass::Matched(Answer {
+                    pass: Ok(Some(Answer {
                         verdict,
                         file,
                         line: n,
                         command: command_of(raw, at),
-                    }),
+                    })),
                     looked: seen.looked,
                 },
             }
@@ -350,7 +333,7 @@ fn pass_lines(
     let mut i = 0;
     let mut n = 1;
     let mut searching = search;
-    let mut found = Pass::Unmatched;
+    let mut found = Ok(None);
     let mut looked = 0;
     while i < text.len() {
         let step = step_over(
@@ -360,15 +343,15 @@ fn pass_lines(
         let so_far = count::add(looked, tally.looked);
         let pass = tally.pass;
         match pass {
-            Pass::Faulty(f) => {
+            Err(f) => {
                 return Tally {
-                    pass: Pass::Faulty(f),
+                    pass: Err(f),
                     looked: 0,
                 };
             }
-            Pass::Unmatched => {}
-            Pass::Matched(a) => {
-                found = Pass::Matched(a);
+            Ok(None) => {}
+            Ok(Some(a)) => {
+                found = Ok(Some(a));
                 searching = false;
             }
         }
@@ -402,7 +385,7 @@ pub fn pass_file(
 {
     if text.len() == 0 {
         return Tally {
-            pass: Pass::Unmatched,
+            pass: Ok(None),
             looked: 0,
         };
     }
@@ -431,12 +414,12 @@ pub fn nobody() -> Request {
 }
 
 // Whether what a rule tells is a fault.
-fn is_refused(x: Examined) -> bool
+fn is_refused(x: Result<Looked, Fault>) -> bool
     ensures { result ≡ is_refused x }
 {
     match x {
-        Examined::Faulty(_) => true,
-        Examined::Finds(_) => false,
+        Err(_) => true,
+        Ok(_) => false,
     }
 }
 
@@ -467,8 +450,8 @@ pub fn is_faulty(
 }
 
 // The refusal of a text at its lowest faulty line, if it has one; the notes say which tables may be named.
-pub fn check_file(tables: &[u8], notes: &[u64], text: &[u8], order: u8) -> Pass
-    ensures { result ≡ pass_of (hosts_fault_at order (view_of tables.now notes.now) text.now) none }
+pub fn check_file(tables: &[u8], notes: &[u64], text: &[u8], order: u8) -> Result<Option<Answer>, Refusal>
+    ensures { result ≡ pass_of (hosts_fault_at order (view_of tables.now notes.now) text.now) None }
 {
     let tally = pass_file(
         tables,

@@ -13,7 +13,6 @@ pub mod hosts_file;
 pub mod naming;
 pub mod search;
 
-ghost use Rattle.std.proofs.Math.Option.{some};
 ghost use Rattle.std.specs.Prelude.{◌≡◌, []};
 ghost use Rattle.elements.specs.Places.{request_at};
 ghost use Rattle.section.specs.Refusal.{◌before◌};
@@ -28,8 +27,9 @@ ghost use Rattle.rules.specs.Code.{contents_fault, refused_by};
 
 use elements::count;
 use elements::request::{Request, held};
-use hosts_file::{Pass, Tally, tallied};
-use search::{Finding, find};
+use hosts_file::Tally;
+use hosts_file::tallied;
+use search::find;
 use section::{Fault, Part, Refusal, part_of};
 use tables::entry::Framing;
 
@@ -58,41 +58,34 @@ pub struct Answer {
     pub command: Part,
 }
 
-// What a decision answers: a refusal, or the verdict.
-#[derive(Clone, Copy)]
-pub enum Ruling {
-    Refused(Refusal),
-    Answered(Answer),
-}
-
 // A ruling, and how many elements were looked at for it: 0 at a refusal.
 #[derive(Clone, Copy)]
 pub struct Reported {
-    pub ruling: Ruling,
+    pub ruling: Result<Answer, Refusal>,
     pub looked: u64,
 }
 
-fn is_unmatched(pass: Pass) -> bool
+fn is_unmatched(pass: Result<Option<Answer>, Refusal>) -> bool
     ensures { result ≡ is_unmatched pass }
 {
     match pass {
-        Pass::Faulty(_) => false,
-        Pass::Unmatched => true,
-        Pass::Matched(_) => false,
+        Err(_) => false,
+        Ok(None) => true,
+        Ok(Some(_)) => false,
     }
 }
 
 // The pass over some lines, then over what follows them.
-pub fn combine(found: Pass, rest: Pass) -> Pass
+pub fn combine(found: Result<Option<Answer>, Refusal>, rest: Result<Option<Answer>, Refusal>) -> Result<Option<Answer>, Refusal>
     ensures { result ≡ combined found rest }
 {
     match found {
-        Pass::Faulty(f) => Pass::Faulty(f),
-        Pass::Unmatched => rest,
-        Pass::Matched(a) => match rest {
-            Pass::Faulty(f) => Pass::Faulty(f),
-            Pass::Unmatched => Pass::Matched(a),
-            Pass::Matched(_) => Pass::Matched(a),
+        Err(f) => Err(f),
+        Ok(None) => rest,
+        Ok(Some(a)) => match rest {
+            Err(f) => Err(f),
+            Ok(None) => Ok(Some(a)),
+            Ok(Some(_)) => Ok(Some(a)),
         },
     }
 }
@@ -146,7 +139,7 @@ pub fn refused(refusal: Refusal) -> Reported
     ensures { result ≡ refused_report refusal }
 {
     Reported {
-        ruling: Ruling::Refused(refusal),
+        ruling: Err(refusal),
         looked: 0,
     }
 }
@@ -157,7 +150,7 @@ pub fn answered(answer: Answer, looked: u64, sound: bool) -> Reported
 {
     if sound {
         Reported {
-            ruling: Ruling::Answered(answer),
+            ruling: Ok(answer),
             looked,
         }
     } else {
@@ -166,13 +159,13 @@ pub fn answered(answer: Answer, looked: u64, sound: bool) -> Reported
 }
 
 // The refusal that a check found.
-fn refuse(check: Pass) -> Reported
+fn refuse(check: Result<Option<Answer>, Refusal>) -> Reported
     ensures { result ≡ refused_by check }
 {
     match check {
-        Pass::Faulty(f) => refused(f),
-        Pass::Unmatched => refused(section::placeless(Fault::BadRequest)),
-        Pass::Matched(_) => refused(section::placeless(Fault::BadRequest)),
+        Err(f) => refused(f),
+        Ok(None) => refused(section::placeless(Fault::BadRequest)),
+        Ok(Some(_)) => refused(section::placeless(Fault::BadRequest)),
     }
 }
 
@@ -182,25 +175,25 @@ fn rule_texts(allow: &[u8], deny: &[u8], tables: &[u8], names: &[u8], request: R
     ensures { result
         ≡ reported
         (contents_fault allow.now deny.now tables.now
-        before decide_over (tables_of tables.now) allow.now deny.now (some (request_at names.now request)))
-        (looked_over (tables_of tables.now) allow.now deny.now (some (request_at names.now request))) }
+        before decide_over (tables_of tables.now) allow.now deny.now (Some (request_at names.now request)))
+        (looked_over (tables_of tables.now) allow.now deny.now (Some (request_at names.now request))) }
 {
     let holding = held(request);
     match find(allow, deny, tables, names, holding) {
-        Finding::Answer(found) => answered(
+        Some(found) => answered(
             found.answer,
             found.looked,
             elements::request::fits(names, holding),
         ),
-        Finding::Doubtful => refuse(naming::check_contents(allow, deny, tables)),
+        None => refuse(naming::check_contents(allow, deny, tables)),
     }
 }
 
 // The verdict on a request by the allow and deny files, or the refusal of a file or of the request. There are no tables.
 pub fn decide(allow: &[u8], deny: &[u8], names: &[u8], request: Request) -> Reported
     ensures { result
-        ≡ reported (decideBy allow.now deny.now (some (request_at names.now request)))
-        (looked_over [] allow.now deny.now (some (request_at names.now request))) }
+        ≡ reported (decideBy allow.now deny.now (Some (request_at names.now request)))
+        (looked_over [] allow.now deny.now (Some (request_at names.now request))) }
 {
     if section::Allow::over(allow.len()) {
         return refused(section::Allow::refusal(Fault::OverLimit, 0));
@@ -216,8 +209,8 @@ fn rule_framed(allow: &[u8], deny: &[u8], tables: &[u8], names: &[u8], request: 
     ensures { result
         ≡ reported
         ((tables_frame tables.now or_else contents_fault allow.now deny.now tables.now)
-        before decide_over (tables_of tables.now) allow.now deny.now (some (request_at names.now request)))
-        (looked_over (tables_of tables.now) allow.now deny.now (some (request_at names.now request))) }
+        before decide_over (tables_of tables.now) allow.now deny.now (Some (request_at names.now request)))
+        (looked_over (tables_of tables.now) allow.now deny.now (Some (request_at names.now request))) }
 {
     match tables::entry::frame(tables) {
         Framing::Cut => refused(section::Tables::refusal(Fault::CutShort, 0)),
@@ -235,8 +228,8 @@ pub fn decide_tables(
     request: Request,
 ) -> Reported
     ensures { result
-        ≡ reported (decide_tables allow.now deny.now tables.now (some (request_at names.now request)))
-        (looked_over (tables_of tables.now) allow.now deny.now (some (request_at names.now request))) }
+        ≡ reported (decide_tables allow.now deny.now tables.now (Some (request_at names.now request)))
+        (looked_over (tables_of tables.now) allow.now deny.now (Some (request_at names.now request))) }
 {
     if section::Allow::over(allow.len()) {
         return refused(section::Allow::refusal(Fault::OverLimit, 0));

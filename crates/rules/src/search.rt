@@ -12,7 +12,8 @@ ghost use Rattle.tables.specs.Tried.{capped};
 ghost use Rattle.rules.specs.Looked.{looked as lookedBy};
 ghost use Rattle.rules.specs.Code.{contents_fault, Noted, NotedBy, NamingNoted, searched, finding_of, finding_by, tables_over, tables_doubtful};
 
-use super::hosts_file::{Pass, Tally, nobody};
+use super::hosts_file::Tally;
+use super::hosts_file::nobody;
 use super::{Answer, File, Verdict, pass_both};
 use elements::request::Request;
 use section::{Part, part_of};
@@ -25,13 +26,6 @@ use views::Viewing;
 pub struct Searched {
     pub answer: Answer,
     pub looked: u64,
-}
-
-// What a search finds: an answer, or a fault, which is not told.
-#[derive(Clone, Copy)]
-pub enum Finding {
-    Answer(Searched),
-    Doubtful,
 }
 
 // Notes on at most 64 tables for a request, and whether all their patterns are known to be sound.
@@ -68,13 +62,13 @@ pub fn naming_notes(tables: &[u8]) -> [u64; 259]
 }
 
 // What a pass finds.
-fn found_by(tally: Tally) -> Finding
+fn found_by(tally: Tally) -> Option<Searched>
     ensures { result ≡ finding_by tally }
 {
     let pass = tally.pass;
     match pass {
-        Pass::Faulty(_) => Finding::Doubtful,
-        Pass::Unmatched => Finding::Answer(Searched {
+        Err(_) => None,
+        Ok(None) => Some(Searched {
             answer: Answer {
                 verdict: Verdict::Granted,
                 file: File::Neither,
@@ -83,7 +77,7 @@ fn found_by(tally: Tally) -> Finding
             },
             looked: tally.looked,
         }),
-        Pass::Matched(a) => Finding::Answer(Searched {
+        Ok(Some(a)) => Some(Searched {
             answer: a,
             looked: tally.looked,
         }),
@@ -110,7 +104,7 @@ fn are_doubtful(tables: &[u8], clean: bool) -> bool
 }
 
 // The answer by two texts and at most 64 tables. What the tables are to the request is found first: that tells most often that they are sound.
-fn find_among(allow: &[u8], deny: &[u8], tables: &[u8], names: &[u8], request: Request) -> Finding
+fn find_among(allow: &[u8], deny: &[u8], tables: &[u8], names: &[u8], request: Request) -> Option<Searched>
     requires tables_value { tables_in tables.now ≡ tables_of tables.now }
     requires tables_len_bound { length (tables_in tables.now) ≤ 64 }
     ensures { result
@@ -121,14 +115,14 @@ fn find_among(allow: &[u8], deny: &[u8], tables: &[u8], names: &[u8], request: R
 {
     let seen = view_on(tables, names, request);
     if are_doubtful(tables, seen.clean) {
-        return Finding::Doubtful;
+        return None;
     }
     let notes = seen.notes;
     found_by(pass_both(tables, &notes, allow, deny, names, request))
 }
 
 // The answer by two texts and the tables of a section five whose frame is sound, or of none.
-pub fn find(allow: &[u8], deny: &[u8], tables: &[u8], names: &[u8], request: Request) -> Finding
+pub fn find(allow: &[u8], deny: &[u8], tables: &[u8], names: &[u8], request: Request) -> Option<Searched>
     requires { tables_in tables.now ≡ tables_of tables.now }
     ensures { result
         ≡ finding_of (contents_fault allow.now deny.now tables.now)
@@ -140,7 +134,7 @@ pub fn find(allow: &[u8], deny: &[u8], tables: &[u8], names: &[u8], request: Req
         return found_by(pass_both(tables, &[0u64; 3], allow, deny, names, request));
     }
     if are_over(tables) {
-        return Finding::Doubtful;
+        return None;
     }
     find_among(allow, deny, tables, names, request)
 }
@@ -151,7 +145,7 @@ pub fn are_sound(allow: &[u8], deny: &[u8], tables: &[u8]) -> bool
     ensures { result ≡ not (is_some (contents_fault allow.now deny.now tables.now)) }
 {
     match find(allow, deny, tables, &tables[..0], nobody()) {
-        Finding::Answer(_) => true,
-        Finding::Doubtful => false,
+        Some(_) => true,
+        None => false,
     }
 }

@@ -3,10 +3,10 @@
 --   made_list_lem   == the list
 --   bad_told    == a line is bad by the notes just where it is by the tables
 -- Assumes nothing.
+use Rattle.std.specs.Prelude.{None, Option, Some}
 use Prim.Native.Nat.{ℕ, suc, ◌+◌, ◌<◌, ◌≤◌}
 use mathlib.Core.Bool.{Bool, true, false, not, ◌&&◌, ◌||◌, true≢false}
 use mathlib.Core.List.{List, [], ◌∷◌, ◌++◌, map, flat_map, append_assoc, append-nil}
-use mathlib.Core.Option.{Option, none, some}
 use mathlib.Core.Path.{◌≡◌, refl, sym, ap, ap₂, fun_ext, ◌∙◌}
 use native.Mathlib.Omega.{arith}
 use borrow.Author.Tests.{lt-ltb, ne_eqb}
@@ -93,19 +93,19 @@ bad_by_lem v l = by
     named false false = refl
 
     by : (lay : Option Fault) (c : Bool) (o : Option Rule)
-        → is_some (lay or_else (when c then none else (rule_fault o or_else rules_naming v o)))
-        ≡ (is_some (lay or_else (when c then none else rule_fault o))
+        → is_some (lay or_else (when c then None else (rule_fault o or_else rules_naming v o)))
+        ≡ (is_some (lay or_else (when c then None else rule_fault o))
         || (when c then false else holds (rule_names (missing_by v)) o) || (when c then false else holds (rule_names (deep_by v)) o))
-    by (some f) c o = refl
-    by none true o = refl
-    by none false none = refl
-    by none false (some u) = fault (rule_fault (some u))
+    by (Some f) c o = refl
+    by None true o = refl
+    by None false None = refl
+    by None false (Some u) = fault (rule_fault (Some u))
       where
-        fault : (o : Option Fault) → is_some (o or_else rules_naming v (some u)) ≡ (is_some o || rule_names (missing_by v) u || rule_names (deep_by v) u)
-        fault (some f) = refl
-        fault none = named (rule_names (missing_by v) u) (rule_names (deep_by v) u)
+        fault : (o : Option Fault) → is_some (o or_else rules_naming v (Some u)) ≡ (is_some o || rule_names (missing_by v) u || rule_names (deep_by v) u)
+        fault (Some f) = refl
+        fault None = named (rule_names (missing_by v) u) (rule_names (deep_by v) u)
 
-pub bad_told : (t notes : List ℕ) → NamingNoted t notes → tables_in t ≡ tables_of t → table_name_fault (tables_of t) ≡ none
+pub bad_told : (t notes : List ℕ) → NamingNoted t notes → tables_in t ≡ tables_of t → table_name_fault (tables_of t) ≡ None
     → bad_by (view_of t notes) ≡ bad_line (tables_of t)
 unfolding bad_line
 bad_told t notes h whole sound = fun_ext (λ l.

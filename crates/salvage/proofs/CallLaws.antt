@@ -1,9 +1,9 @@
 -- Laws of the call: its checks, its answers, and what the two outputs hold afterwards, shaped as the calls and tests of the code hand their facts over.
 -- Assumes nothing.
+use Rattle.std.specs.Prelude.{Err, None, Ok, Option, Result, Some}
 use Prim.Native.Nat.{ℕ, ◌+◌, ◌<◌, ◌≤◌}
 use mathlib.Core.Bool.{Bool, true, false, ◌||◌}
 use mathlib.Core.List.{List, [], ◌∷◌, ◌++◌}
-use mathlib.Core.Option.{Option, none, some}
 use mathlib.Core.Path.{◌≡◌, refl, sym, ap, ap₂, subst, ◌∙◌}
 use native.Mathlib.Omega.{arith}
 use borrow.Author.Tests.{lt-ltb, le-ltb, ltb-false}
@@ -18,29 +18,22 @@ use Rattle.text.proofs.PasteLaws.{put_first}
 use Rattle.address_format.proofs.WriteText.{Wrote, front_room, rest_room, rest_all}
 use Rattle.section.specs.declared.Fault.TheVariants as F
 use Rattle.section.specs.declared.Refusal.{Refusal}
-use Rattle.section.specs.Refusal.{Outcome, refused, answered, refusal, placeless, first_after, second_after, written_two_of}
+use Rattle.section.specs.Refusal.{Outcome, refusal, placeless, first_after, second_after, written_two_of}
 use Rattle.section.specs.Section as S
 use Rattle.section.specs.Section.{bytes_at}
 use Rattle.tables.specs.Table.{Table, tables_of, tables_frame, first_table, table_name_fault, is_unsound, bad_table_fault}
 use Rattle.tables.specs.Code.{tables_in}
 use Rattle.elements.specs.Code.{View, view_of}
-use Rattle.rules.specs.declared.hosts_file.Pass.{Pass}
 use Rattle.rules.specs.FileCode.{pass_of}
 use Rattle.rules.specs.Code.{NamingNoted}
 use Rattle.rules.proofs.NamingLaws.{or_else_nones}
 use Rattle.sheet.specs.declared.Parts.{Parts}
-use Rattle.sheet.specs.declared.frame.Framed.{Framed as FramedRead}
-use Rattle.sheet.specs.declared.frame.Framed.TheVariants as Fr
-use Rattle.sheet.specs.declared.texts.Checked.{Checked}
-use Rattle.sheet.specs.declared.texts.Checked.TheVariants as C
 use Rattle.sheet.specs.Sheet.{Texts, texts, texts_at, counted, frame, sheet_of}
 use Rattle.sheet.specs.Code.{checked_of, checked_by, framed_of}
 use Rattle.sheet.proofs.TextsLaws.{checked_sound, checked_refused, tables_read_lem}
 use Rattle.sheet.proofs.FrameLaws.{frame_answered, length_bytes_at}
 use Rattle.sheet.proofs.UnpackLaws.{framed_refused, framed_parts}
 use Rattle.sheet.proofs.PackLaws.{length_sheet_of, put_counted, put_sheet}
-use Rattle.section.specs.declared.WrittenTwo.{WrittenTwo}
-use Rattle.section.specs.declared.WrittenTwo.TheVariants as Sal
 use Rattle.salvage.specs.declared.piece.Kind.{Kind}
 use Rattle.salvage.specs.declared.piece.Kind.TheVariants as K
 use Rattle.salvage.specs.declared.write.Sizes.{Sizes}
@@ -51,20 +44,20 @@ use Rattle.salvage.proofs.BridgeLaws.{bad_told, made_texts_lem, made_list_lem}
 
 -- ## Section five
 
-pass_checked : (o : Option Refusal) → checked_by (pass_of o none) ≡ checked_of o
-pass_checked none = refl
-pass_checked (some g) = refl
+pass_checked : (o : Option Refusal) → checked_by (pass_of o None) ≡ checked_of o
+pass_checked None = refl
+pass_checked (Some g) = refl
 
-module _ (t : List ℕ) (c : Checked) (is_c : c ≡ checked_of (tables_frame t)) where
-  pub five_frame : (g : Refusal) → c ≡ C.Refused g → C.Refused g ≡ checked_of (five_fault t)
+module _ (t : List ℕ) (c : Result Unit Refusal) (is_c : c ≡ checked_of (tables_frame t)) where
+  pub five_frame : (g : Refusal) → c ≡ Err g → Err g ≡ checked_of (five_fault t)
   unfolding five_fault
   five_frame g e = rw (checked_refused (tables_frame t) g (sym is_c ∙ e))
 
-  module _ (e : c ≡ C.Sound) where
+  module _ (e : c ≡ Ok tt) where
     pub five_read : tables_in t ≡ tables_of t
     five_read = tables_read_lem t (checked_sound (tables_frame t) (sym is_c ∙ e))
 
-    pub five_rest : (p : Pass) → p ≡ pass_of (table_name_fault (tables_of t) or_else bad_table_fault t) none → (r : Checked) → r ≡ checked_by p → r ≡ checked_of
+    pub five_rest : (p : Result (Option Answer) Refusal) → p ≡ pass_of (table_name_fault (tables_of t) or_else bad_table_fault t) None → (r : Result Unit Refusal) → r ≡ checked_by p → r ≡ checked_of
         (five_fault t)
     unfolding five_fault
     five_rest p is-p r is-r =
@@ -73,11 +66,11 @@ module _ (t : List ℕ) (c : Checked) (is_c : c ≡ checked_of (tables_frame t))
 
 -- what a sound section five is
 pub record Sound (t : List ℕ) : Type 0 where
-  pub framed : tables_frame t ≡ none
-  pub named : table_name_fault (tables_of t) ≡ none
-  pub tabled : bad_table_fault t ≡ none
+  pub framed : tables_frame t ≡ None
+  pub named : table_name_fault (tables_of t) ≡ None
+  pub tabled : bad_table_fault t ≡ None
 
-pub five_sound : (t : List ℕ) → five_fault t ≡ none → Sound t
+pub five_sound : (t : List ℕ) → five_fault t ≡ None → Sound t
 unfolding five_fault
 five_sound t e =
     let a = or_else_nones (tables_frame t or_else table_name_fault (tables_of t)) (bad_table_fault t) e in
@@ -85,40 +78,40 @@ five_sound t e =
     record { framed = b.0; named = b.1; tabled = a.1 }
 
 -- its limits
-tables_limits : (t : List ℕ) → bad_table_fault t ≡ none → (length (tables_of t) ≤ 64) × (length t ≤ 12288)
+tables_limits : (t : List ℕ) → bad_table_fault t ≡ None → (length (tables_of t) ≤ 64) × (length t ≤ 12288)
 unfolding bad_table_fault
 tables_limits t e =
     let b = by (ltb 64 (length (tables_of t)) || ltb 12288 (length t)) (first_table (λ before x. is_unsound x) 1 [] (tables_of t)) e in
     let c = or_false (ltb 64 (length (tables_of t))) (ltb 12288 (length t)) b in
     (ltb-false 64 (length (tables_of t)) c.0, ltb-false 12288 (length t) c.1)
   where
-    by : (b : Bool) (o : Option ℕ) → ((given b 0 or_else o) >>= λ n. some (refusal F.BadTable 5 n)) ≡ none → b ≡ false
+    by : (b : Bool) (o : Option ℕ) → ((given b 0 or_else o) >>= λ n. Some (refusal F.BadTable 5 n)) ≡ None → b ≡ false
     by true o q = let z : ◌≡◌ {A = ℕ} 0 1 = cc in absurd (omega arith)
     by false o q = refl
 
 -- ## Limits
 
 module _ (s : Sizes) (x : Bool) (is_x : x ≡ ltb 16384 s.allow) where
-  pub over_allow : x ≡ true → (g : Refusal) → g ≡ refusal F.OverLimit 1 0 → C.Refused g ≡ checked_of (grown_by s)
+  pub over_allow : x ≡ true → (g : Refusal) → g ≡ refusal F.OverLimit 1 0 → Err g ≡ checked_of (grown_by s)
   unfolding grown_by
   over_allow e g is-g = rw (← is_x, e, is-g)
 
   module _ (e : x ≡ false) (y : Bool) (is_y : y ≡ ltb 16384 s.deny) where
-    pub over_deny : y ≡ true → (g : Refusal) → g ≡ refusal F.OverLimit 2 0 → C.Refused g ≡ checked_of (grown_by s)
+    pub over_deny : y ≡ true → (g : Refusal) → g ≡ refusal F.OverLimit 2 0 → Err g ≡ checked_of (grown_by s)
     unfolding grown_by
     over_deny f g is-g = rw (← is_x, e, ← is_y, f, is-g)
 
     module _ (f : y ≡ false) (z : Bool) (is-z : z ≡ ltb 8192 s.byuid) where
-      pub over_byuid : z ≡ true → (g : Refusal) → g ≡ refusal F.OverLimit 3 0 → C.Refused g ≡ checked_of (grown_by s)
+      pub over_byuid : z ≡ true → (g : Refusal) → g ≡ refusal F.OverLimit 3 0 → Err g ≡ checked_of (grown_by s)
       unfolding grown_by
       over_byuid h g is-g = rw (← is_x, e, ← is_y, f, ← is-z, h, is-g)
 
       module _ (h : z ≡ false) (w : Bool) (is-w : w ≡ ltb 4096 s.portacl) where
-        pub over_portacl : w ≡ true → (g : Refusal) → g ≡ refusal F.OverLimit 4 0 → C.Refused g ≡ checked_of (grown_by s)
+        pub over_portacl : w ≡ true → (g : Refusal) → g ≡ refusal F.OverLimit 4 0 → Err g ≡ checked_of (grown_by s)
         unfolding grown_by
         over_portacl k g is-g = rw (← is_x, e, ← is_y, f, ← is-z, h, ← is-w, k, is-g)
 
-        pub within_limits : w ≡ false → C.Sound ≡ checked_of (grown_by s)
+        pub within_limits : w ≡ false → Ok tt ≡ checked_of (grown_by s)
         unfolding grown_by
         within_limits k = rw (← is_x, e, ← is_y, f, ← is-z, h, ← is-w, k)
 
@@ -240,23 +233,23 @@ counted_room o t at count n k e room l is-n = omega arith
 -- ## The two outputs
 
 -- the answer r to the outcome o, and what the outputs d and e hold afterwards
-abbrev pub Did : List ℕ → List ℕ → Outcome (List ℕ × List ℕ) → WrittenTwo → List ℕ → List ℕ → Type 0
+abbrev pub Did : List ℕ → List ℕ → Outcome (List ℕ × List ℕ) → Result (ℕ × ℕ) Refusal → List ℕ → List ℕ → Type 0
 Did d e o r d' e' = (r ≡ written_two_of o) × ((d' ≡ first_after d o) × (e' ≡ second_after e o))
 
-module _ (v : View) (a f b p t d e : List ℕ) (s : Sizes) (is-s : s ≡ sizes_of (made_texts v (texts a f b p t))) (c : Checked) (is_c : c ≡ checked_of
+module _ (v : View) (a f b p t d e : List ℕ) (s : Sizes) (is-s : s ≡ sizes_of (made_texts v (texts a f b p t))) (c : Result Unit Refusal) (is_c : c ≡ checked_of
     (grown_by s)) where
   abbrev both : Outcome (List ℕ × List ℕ)
   both = handed_out (made_texts v (texts a f b p t)) (made_list v (texts a f b p t)) (length d) (length e)
 
-  pub both_grown : (g : Refusal) → c ≡ C.Refused g → Did d e both (Sal.Refused g) d e
+  pub both_grown : (g : Refusal) → c ≡ Err g → Did d e both (Err g) d e
   unfolding handed_out
   both_grown g q =
-      let k : grown (made_texts v (texts a f b p t)) ≡ some g = sym (grown_sizes (made_texts v (texts a f b p t)) s is-s) ∙ checked_refused (grown_by s) g
+      let k : grown (made_texts v (texts a f b p t)) ≡ Some g = sym (grown_sizes (made_texts v (texts a f b p t)) s is-s) ∙ checked_refused (grown_by s) g
       (sym is_c ∙ q) in
       (rw k, (rw k, rw k))
 
-  module _ (q : c ≡ C.Sound) where
-    small : grown (made_texts v (texts a f b p t)) ≡ none
+  module _ (q : c ≡ Ok tt) where
+    small : grown (made_texts v (texts a f b p t)) ≡ None
     small = sym (grown_sizes (made_texts v (texts a f b p t)) s is-s) ∙ checked_sound (grown_by s) (sym is_c ∙ q)
 
     size : length (sheet_of (made_texts v (texts a f b p t))) ≡ 16 + s.allow + s.deny + s.byuid + s.portacl + length t
@@ -267,7 +260,7 @@ module _ (v : View) (a f b p t d e : List ℕ) (s : Sizes) (is-s : s ≡ sizes_o
         ∙ omega (arith, size_allow v a f b p t s is-s, size_deny v a f b p t s is-s, size_byuid v a f b p t s is-s, size_portacl v a f b p t s is-s)
 
     pub no_sheet_room : length d < 16 + s.allow + s.deny + s.byuid + s.portacl + length t → (r : Refusal) → r ≡ placeless F.NoRoom
-        → Did d e both (Sal.Refused r) d e
+        → Did d e both (Err r) d e
     unfolding handed_out
     no_sheet_room h r is-r =
         let y : ltb (length d) (length (sheet_of (made_texts v (texts a f b p t)))) ≡ true = rw size (lt-ltb (length d) _ h) in
@@ -277,7 +270,7 @@ module _ (v : View) (a f b p t d e : List ℕ) (s : Sizes) (is-s : s ≡ sizes_o
       fits : ltb (length d) (length (sheet_of (made_texts v (texts a f b p t)))) ≡ false
       fits = rw size (le-ltb (length d) _ h)
 
-      pub no_list_room : length e < m → (r : Refusal) → r ≡ placeless F.NoRoom → Did d e both (Sal.Refused r) d e
+      pub no_list_room : length e < m → (r : Refusal) → r ≡ placeless F.NoRoom → Did d e both (Err r) d e
       unfolding handed_out
       no_list_room k r is-r =
           let y : ltb (length e) (length (made_list v (texts a f b p t))) ≡ true = rw (← is_m) (lt-ltb (length e) m k) in
@@ -285,7 +278,7 @@ module _ (v : View) (a f b p t d e : List ℕ) (s : Sizes) (is-s : s ≡ sizes_o
 
       pub both_written : m ≤ length e → (i j : ℕ) (d' e' : List ℕ) → (i ≡ length (sheet_of (made_texts v (texts a f b p t)))) × (d' ≡ after (sheet_of
           (made_texts v (texts a f b p t))) d)
-          → (j ≡ length (made_list v (texts a f b p t))) × (e' ≡ after (made_list v (texts a f b p t)) e) → Did d e both (Sal.Counts i j) d' e'
+          → (j ≡ length (made_list v (texts a f b p t))) × (e' ≡ after (made_list v (texts a f b p t)) e) → Did d e both (Ok (i, j)) d' e'
       unfolding handed_out after
       both_written k i j d' e' w x =
           let y : ltb (length e) (length (made_list v (texts a f b p t))) ≡ false = rw (← is_m) (le-ltb (length e) m k) in
@@ -293,7 +286,7 @@ module _ (v : View) (a f b p t d e : List ℕ) (s : Sizes) (is-s : s ≡ sizes_o
 
 -- ## Texts within their limits
 
-module _ (t : List ℕ) (c : Checked) (is_c : c ≡ checked_of (five_fault t)) (q : c ≡ C.Sound) where
+module _ (t : List ℕ) (c : Result Unit Refusal) (is_c : c ≡ checked_of (five_fault t)) (q : c ≡ Ok tt) where
   sound : Sound t
   sound = five_sound t (checked_sound (five_fault t) (sym is_c ∙ q))
 
@@ -306,18 +299,18 @@ module _ (t : List ℕ) (c : Checked) (is_c : c ≡ checked_of (five_fault t)) (
   pub five_short : length t ≤ 12288
   five_short = (tables_limits t sound.tabled).1
 
-module _ (a f b p t d e : List ℕ) (c : Checked) (is_c : c ≡ checked_of (five_fault t)) where
+module _ (a f b p t d e : List ℕ) (c : Result Unit Refusal) (is_c : c ≡ checked_of (five_fault t)) where
   abbrev outcome : Outcome (List ℕ × List ℕ)
   outcome = salvage_texts (texts a f b p t) (length d) (length e)
 
-  pub parts_refused : (g : Refusal) → c ≡ C.Refused g → Did d e outcome (Sal.Refused g) d e
+  pub parts_refused : (g : Refusal) → c ≡ Err g → Did d e outcome (Err g) d e
   unfolding salvage_texts
   parts_refused g q =
-      let k : five_fault t ≡ some g = checked_refused (five_fault t) g (sym is_c ∙ q) in
+      let k : five_fault t ≡ Some g = checked_refused (five_fault t) g (sym is_c ∙ q) in
       (rw k, (rw k, rw k))
 
-  module _ (q : c ≡ C.Sound) where
-    pub parts_done : (notes : List ℕ) → NamingNoted t notes → (r : WrittenTwo) (d' e' : List ℕ)
+  module _ (q : c ≡ Ok tt) where
+    pub parts_done : (notes : List ℕ) → NamingNoted t notes → (r : Result (ℕ × ℕ) Refusal) (d' e' : List ℕ)
         → Did d e (handed_out (made_texts (view_of t notes) (texts a f b p t)) (made_list (view_of t notes) (texts a f b p t)) (length d) (length e)) r d' e'
         → Did d e outcome r d' e'
     unfolding salvage_texts
@@ -333,8 +326,8 @@ module _ (a f b p t d e : List ℕ) (c : Checked) (is_c : c ≡ checked_of (five
 
 -- ## Any sheet
 
-module _ (sheet : List ℕ) (f : FramedRead) (is_f : f ≡ framed_of (frame sheet)) (p : Parts) (q : f ≡ Fr.Parts p) where
-  framed : frame sheet ≡ answered p
+module _ (sheet : List ℕ) (f : Result Parts Refusal) (is_f : f ≡ framed_of (frame sheet)) (p : Parts) (q : f ≡ Ok p) where
+  framed : frame sheet ≡ Ok p
   framed = framed_parts (frame sheet) p (sym is_f ∙ q)
 
   pub call_small : Small (texts_at sheet p)
@@ -347,13 +340,13 @@ module _ (sheet : List ℕ) (f : FramedRead) (is_f : f ≡ framed_of (frame shee
         portacl = omega (arith, length_bytes_at k.portacl, k.portacl.limit);
       }
 
-module _ (sheet d e : List ℕ) (f : FramedRead) (is_f : f ≡ framed_of (frame sheet)) where
-  pub call_refused : (g : Refusal) → f ≡ Fr.Refused g → Did d e (salvage sheet (length d) (length e)) (Sal.Refused g) d e
+module _ (sheet d e : List ℕ) (f : Result Parts Refusal) (is_f : f ≡ framed_of (frame sheet)) where
+  pub call_refused : (g : Refusal) → f ≡ Err g → Did d e (salvage sheet (length d) (length e)) (Err g) d e
   unfolding salvage
   call_refused g q = let k = framed_refused (frame sheet) g (sym is_f ∙ q) in (rw k, (rw k, rw k))
 
-  pub call_done : (p : Parts) (r : WrittenTwo) (d' e' : List ℕ) → Did d e (salvage_texts (texts_at sheet p) (length d) (length e)) r d' e'
-      → f ≡ Fr.Parts p → Did d e (salvage sheet (length d) (length e)) r d' e'
+  pub call_done : (p : Parts) (r : Result (ℕ × ℕ) Refusal) (d' e' : List ℕ) → Did d e (salvage_texts (texts_at sheet p) (length d) (length e)) r d' e'
+      → f ≡ Ok p → Did d e (salvage sheet (length d) (length e)) r d' e'
   unfolding salvage
   call_done p r d' e' w q = rw (framed sheet f is_f p q) w
 
@@ -366,6 +359,6 @@ module _ (sheet : List ℕ) (p : Parts) (a d b q t : List ℕ) (is-a : a ≡ byt
   pub texts_small : Small (texts_at sheet p) → Small (texts a d b q t)
   texts_small h = subst (λ (ts : Texts). Small ts) (sym same_texts) h
 
-  pub texts_done : (o l : List ℕ) (r : WrittenTwo) (o' l' : List ℕ) → Did o l (salvage_texts (texts a d b q t) (length o) (length l)) r o' l'
+  pub texts_done : (o l : List ℕ) (r : Result (ℕ × ℕ) Refusal) (o' l' : List ℕ) → Did o l (salvage_texts (texts a d b q t) (length o) (length l)) r o' l'
       → Did o l (salvage_texts (texts_at sheet p) (length o) (length l)) r o' l'
   texts_done o l r o' l' w = subst (λ (ts : Texts). Did o l (salvage_texts ts (length o) (length l)) r o' l') same_texts w

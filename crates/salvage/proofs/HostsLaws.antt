@@ -4,10 +4,10 @@
 --   salvage_hosts_lines == the lines of a salvaged text are those of the text, in their order, each bad one replaced
 --   none_first, first_none == no line is bad just where no fault is found along the lines
 -- Assumes nothing.
+use Rattle.std.specs.Prelude.{None, Option}
 use Prim.Native.Nat.{ℕ, suc, ◌+◌, ◌<◌}
 use mathlib.Core.Bool.{Bool, true, false, true≢false}
 use mathlib.Core.List.{List, [], ◌∷◌, ◌++◌, map, flat_map, append_assoc}
-use mathlib.Core.Option.{Option, none, some}
 use mathlib.Core.Path.{◌≡◌, refl, sym, ap, ap₂, ◌∙◌}
 use native.Mathlib.Numerals.{add-one}
 use native.Mathlib.Omega.{arith}
@@ -41,13 +41,13 @@ module _ (bad : Line → Bool) where
   unfolding keep
   keep_good l ls e k = rw (e, k)
 
-  pub none_first : {B : Type 0} (f : Line → Option B) → ((l : Line) → bad l ≡ false → f l ≡ none) → (ls : List Line) → keep bad ls ≡ [] → first f ls ≡ none
+  pub none_first : {B : Type 0} (f : Line → Option B) → ((l : Line) → bad l ≡ false → f l ≡ None) → (ls : List Line) → keep bad ls ≡ [] → first f ls ≡ None
   unfolding first
   none_first f h [] e = refl
   none_first f h (l ∷ ls) e = let k = keep_none l ls e in rw (h l k.0) (none_first f h ls k.1)
 
-  pub first_none : {B : Type 0} (f g h : Line → Option B) → ((l : Line) → f l ≡ none → g l ≡ none → h l ≡ none → bad l ≡ false)
-      → (ls : List Line) → first f ls ≡ none → first g ls ≡ none → first h ls ≡ none → keep bad ls ≡ []
+  pub first_none : {B : Type 0} (f g h : Line → Option B) → ((l : Line) → f l ≡ None → g l ≡ None → h l ≡ None → bad l ≡ false)
+      → (ls : List Line) → first f ls ≡ None → first g ls ≡ None → first h ls ≡ None → keep bad ls ≡ []
   unfolding first keep
   first_none f g h j [] a b c = refl
   first_none f g h j (l ∷ ls) a b c =

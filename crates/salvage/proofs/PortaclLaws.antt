@@ -1,9 +1,9 @@
 -- Salvaged portacl texts: they are sound, and a sound text stays as it is.
 -- Assumes nothing.
+use Rattle.std.specs.Prelude.{None, Option, Some}
 use Prim.Native.Nat.{ℕ, ◌+◌, ◌<◌}
 use mathlib.Core.Bool.{Bool, true, false, not, ◌&&◌, true≢false}
 use mathlib.Core.List.{List, [], ◌∷◌, map}
-use mathlib.Core.Option.{Option, none, some}
 use mathlib.Core.Path.{◌≡◌, refl, sym, ap, ◌∙◌}
 use native.Mathlib.Omega.{arith}
 use lib.ListN.{length}
@@ -54,28 +54,28 @@ unfolding read_entry split_once
 good_some [] h = absurd (true≢false (sym h))
 good_some (x ∷ e) h = omega arith
 
-all_good : (n : ℕ) (ws : List (List ℕ)) → all good_entry ws ≡ true → entry_fault n (map read_entry ws) ≡ none
+all_good : (n : ℕ) (ws : List (List ℕ)) → all good_entry ws ≡ true → entry_fault n (map read_entry ws) ≡ None
 unfolding entry_fault all
 all_good n [] e = refl
 all_good n (w ∷ ws) e = by (read_entry w) (and_true (good_entry w) (all good_entry ws) e).0 (λ m. all_good m ws (and_true (good_entry w) (all good_entry ws) e).1)
   where
-    by : (o : Option (Bind → Bool)) → is_some o ≡ true → ((m : ℕ) → entry_fault m (map read_entry ws) ≡ none) → entry_fault n (o ∷ map read_entry ws) ≡ none
-    by none h ih = absurd (true≢false (sym h))
-    by (some g) h ih = ih (n + 1)
+    by : (o : Option (Bind → Bool)) → is_some o ≡ true → ((m : ℕ) → entry_fault m (map read_entry ws) ≡ None) → entry_fault n (o ∷ map read_entry ws) ≡ None
+    by None h ih = absurd (true≢false (sym h))
+    by (Some g) h ih = ih (n + 1)
 
-good_all : (n : ℕ) (ws : List (List ℕ)) → entry_fault n (map read_entry ws) ≡ none → all good_entry ws ≡ true
+good_all : (n : ℕ) (ws : List (List ℕ)) → entry_fault n (map read_entry ws) ≡ None → all good_entry ws ≡ true
 unfolding entry_fault all
 good_all n [] e = refl
 good_all n (w ∷ ws) e = by (read_entry w) refl e (λ h. good_all (n + 1) ws h)
   where
-    by : (o : Option (Bind → Bool)) → read_entry w ≡ o → entry_fault n (o ∷ map read_entry ws) ≡ none
-        → (entry_fault (n + 1) (map read_entry ws) ≡ none → all good_entry ws ≡ true) → (is_some (read_entry w) && all good_entry ws) ≡ true
-    by none q h ih = let z : ◌≡◌ {A = ℕ} 0 1 = cc in absurd (omega arith)
-    by (some g) q h ih = rw q (ih h)
+    by : (o : Option (Bind → Bool)) → read_entry w ≡ o → entry_fault n (o ∷ map read_entry ws) ≡ None
+        → (entry_fault (n + 1) (map read_entry ws) ≡ None → all good_entry ws ≡ true) → (is_some (read_entry w) && all good_entry ws) ≡ true
+    by None q h ih = let z : ◌≡◌ {A = ℕ} 0 1 = cc in absurd (omega arith)
+    by (Some g) q h ih = rw q (ih h)
 
 -- ## The text
 
-nothing : portacl_fault (intercalate (bytes ",") []) ≡ none
+nothing : portacl_fault (intercalate (bytes ",") []) ≡ None
 unfolding portacl_fault entries entry_fault intercalate
 nothing = refl
 
@@ -90,17 +90,17 @@ joined_full w ws g f =
     is_empty_intercalate 44 (bytes ",") w ws
     (is_field_free 44 w (good_some w (and_true (good_entry w) (all good_entry ws) g).0) (and_true (free 44 w) (all (free 44) ws) f).0)
 
-joined_sound : (ws : List (List ℕ)) → all good_entry ws ≡ true → all (free 44) ws ≡ true → portacl_fault (intercalate (bytes ",") ws) ≡ none
+joined_sound : (ws : List (List ℕ)) → all good_entry ws ≡ true → all (free 44) ws ≡ true → portacl_fault (intercalate (bytes ",") ws) ≡ None
 unfolding portacl_fault entries entry_fault
 joined_sound [] g f = nothing
 joined_sound (w ∷ ws) g f = rw (joined_full w ws g f, split_intercalate "," (w ∷ ws) (omega arith) f) (all_good 1 (w ∷ ws) g)
 
-pub salvage_portacl_sound : (t : List ℕ) → portacl_fault (salvage_portacl t) ≡ none
+pub salvage_portacl_sound : (t : List ℕ) → portacl_fault (salvage_portacl t) ≡ None
 unfolding salvage_portacl
 salvage_portacl_sound t = joined_sound (keep good_entry (split "," t)) (keep_passes good_entry (split "," t)) (keep_all good_entry (free 44) (split "," t)
     (split_all_free "," t))
 
-pub salvage_portacl_same : (t : List ℕ) → portacl_fault t ≡ none → (salvage_portacl t ≡ t) × (bad_entries t ≡ [])
+pub salvage_portacl_same : (t : List ℕ) → portacl_fault t ≡ None → (salvage_portacl t ≡ t) × (bad_entries t ≡ [])
 unfolding salvage_portacl portacl_fault entries
 salvage_portacl_same [] e = (empty_same, refl)
 salvage_portacl_same (x ∷ t) e =

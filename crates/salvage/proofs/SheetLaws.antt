@@ -5,10 +5,10 @@
 --   salvage_sound    == an accepted sheet comes back as it is, with an empty list
 --   allow_lines, deny_lines == the lines of allow and deny stay in their order, each bad one replaced
 -- Assumes nothing.
+use Rattle.std.specs.Prelude.{None, Ok, Option, Some}
 use Prim.Native.Nat.{ℕ, ◌+◌, ◌≤◌}
 use mathlib.Core.Bool.{Bool, true, false, ◌||◌, true≢false}
 use mathlib.Core.List.{List, [], ◌∷◌, ◌++◌, map, flat_map}
-use mathlib.Core.Option.{Option, none, some}
 use mathlib.Core.Path.{◌≡◌, refl, sym, ap, ap₂, subst, ◌∙◌}
 use native.Mathlib.Omega.{arith}
 use borrow.Author.Tests.{ltb-false, le-ltb}
@@ -23,7 +23,7 @@ use Rattle.section.specs.declared.Fault.{Fault}
 use Rattle.section.specs.declared.Fault.TheVariants as F
 use Rattle.section.specs.declared.Refusal.{Refusal}
 use Rattle.section.specs.Refusal as Refusals
-use Rattle.section.specs.Refusal.{Outcome, refused, answered, ◌>>=◌, refusal, at_place, placeless, refusing, ◌before◌, within_room}
+use Rattle.section.specs.Refusal.{Outcome, ◌>>=◌, refusal, at_place, placeless, refusing, ◌before◌, within_room}
 use Rattle.section.specs.Section as S
 use Rattle.section.specs.Section.{Section}
 use Rattle.lines.specs.Line as Line
@@ -84,45 +84,45 @@ module _ (ts : List Table.Table) where
 
   -- ## A text without a bad line
 
-  is_some_none : {A : Type 0} (o : Option A) → is_some o ≡ false → o ≡ none
-  is_some_none none e = refl
-  is_some_none (some a) e = absurd (true≢false e)
+  is_some_none : {A : Type 0} (o : Option A) → is_some o ≡ false → o ≡ None
+  is_some_none None e = refl
+  is_some_none (Some a) e = absurd (true≢false e)
 
   -- a line that is not bad is not refused
   good_line : (l : Line.Line) → bad_line ts l ≡ false
-      → (line_fault l ≡ none) × ((line_names (is_missing ts) l ≡ false) × (line_names (leads_past ts depth) l ≡ false))
+      → (line_fault l ≡ None) × ((line_names (is_missing ts) l ≡ false) × (line_names (leads_past ts depth) l ≡ false))
   unfolding bad_line
   good_line l e =
       let a = or_false (is_some (line_fault l) || line_names (is_missing ts) l) (line_names (leads_past ts depth) l) e in
       let b = or_false (is_some (line_fault l)) (line_names (is_missing ts) l) a.0 in
       (is_some_none (line_fault l) b.0, (b.1, a.1))
 
-  line_good : (l : Line.Line) → line_fault l ≡ none → line_names (is_missing ts) l ≡ false → line_names (leads_past ts depth) l ≡ false → bad_line ts l ≡ false
+  line_good : (l : Line.Line) → line_fault l ≡ None → line_names (is_missing ts) l ≡ false → line_names (leads_past ts depth) l ≡ false → bad_line ts l ≡ false
   unfolding bad_line
   line_good l x y z = rw (x, y, z)
 
   module _ (s : Section) (t : List ℕ) where
     -- no line is bad just where the text is not refused
     module _ (e : keep (bad_line ts) (lines t) ≡ []) where
-      pub unrefused : hosts_fault s t ≡ none
+      pub unrefused : hosts_fault s t ≡ None
       unfolding hosts_fault
       unrefused = none_first (bad_line ts) (λ l. at_place s.order l.number (line_fault l)) (λ l g. rw (good_line l g).0) (lines t) e
 
-      pub unmissing : missing_fault ts s t ≡ none
+      pub unmissing : missing_fault ts s t ≡ None
       unfolding naming_fault
       unmissing = none_first (bad_line ts) (λ l. at_place s.order l.number (given (line_names (is_missing ts) l) F.TableName))
           (λ l g. rw (good_line l g).1.0) (lines t) e
 
-      pub undeep : depth_fault ts s t ≡ none
+      pub undeep : depth_fault ts s t ≡ None
       unfolding naming_fault
       undeep = none_first (bad_line ts) (λ l. at_place s.order l.number (given (line_names (leads_past ts depth) l) F.TooDeep))
           (λ l g. rw (good_line l g).1.1) (lines t) e
 
-    at_none : (o : Option Fault) (n : ℕ) → at_place s.order n o ≡ none → o ≡ none
-    at_none none n e = refl
-    at_none (some f) n e = let z : ◌≡◌ {A = ℕ} 0 1 = cc in absurd (omega arith)
+    at_none : (o : Option Fault) (n : ℕ) → at_place s.order n o ≡ None → o ≡ None
+    at_none None n e = refl
+    at_none (Some f) n e = let z : ◌≡◌ {A = ℕ} 0 1 = cc in absurd (omega arith)
 
-    none_bad : hosts_fault s t ≡ none → missing_fault ts s t ≡ none → depth_fault ts s t ≡ none → keep (bad_line ts) (lines t) ≡ []
+    none_bad : hosts_fault s t ≡ None → missing_fault ts s t ≡ None → depth_fault ts s t ≡ None → keep (bad_line ts) (lines t) ≡ []
     unfolding hosts_fault naming_fault
     none_bad a b c =
         first_none (bad_line ts) (λ l. at_place s.order l.number (line_fault l))
@@ -155,7 +155,7 @@ module _ (ts : Texts) where
   unfolding salvaged_by
   deny_lines = salvage_hosts_lines (bad_line tables) (judge_tables tables) (bytes "ALL: ALL") (all_all tables) ts.deny
 
-  pub salvaged_sound : five_fault ts.tables ≡ none → grown (salvaged ts) ≡ none → texts_fault (salvaged ts) ≡ none
+  pub salvaged_sound : five_fault ts.tables ≡ None → grown (salvaged ts) ≡ None → texts_fault (salvaged ts) ≡ None
   unfolding texts_fault salvaged_by tables_fault grown
   salvaged_sound five g =
       let f : Sound ts.tables = five_sound ts.tables five in
@@ -176,28 +176,28 @@ module _ (ts : Texts) where
       )
       (byuid_fault_convert_text ts.byuid)
 
-none_listed : (n : ℕ) (ls : List (List ℕ)) → retired_fault n ls ≡ none → places is_retired n ls ≡ []
+none_listed : (n : ℕ) (ls : List (List ℕ)) → retired_fault n ls ≡ None → places is_retired n ls ≡ []
 unfolding retired_fault places
 none_listed n [] e = refl
 none_listed n (l ∷ ls) e = by (is_retired l) e (λ h. none_listed (n + 1) ls h)
   where
-    by : (b : Bool) → (when b then some (refusal F.RetiredForm (S.byuid).order n) else retired_fault (n + 1) ls) ≡ none
-        → (retired_fault (n + 1) ls ≡ none → places is_retired (n + 1) ls ≡ [])
+    by : (b : Bool) → (when b then Some (refusal F.RetiredForm (S.byuid).order n) else retired_fault (n + 1) ls) ≡ None
+        → (retired_fault (n + 1) ls ≡ None → places is_retired (n + 1) ls ≡ [])
         → (when b then n ∷ places is_retired (n + 1) ls else places is_retired (n + 1) ls) ≡ []
     by true h ih = let z : ◌≡◌ {A = ℕ} 0 1 = cc in absurd (omega arith)
     by false h ih = ih h
 
 -- the parts of texts without a fault
 record Clean (ts : Texts) : Type 0 where
-  pub small : grown ts ≡ none
-  pub framed : tables_frame ts.tables ≡ none
-  pub allow : hosts_fault S.allow ts.allow ≡ none
-  pub deny : hosts_fault S.deny ts.deny ≡ none
-  pub portacl : portacl_fault ts.portacl ≡ none
-  pub named : tables_fault ts.allow ts.deny ts.tables ≡ none
-  pub byuid : byuid_fault ts.byuid ≡ none
+  pub small : grown ts ≡ None
+  pub framed : tables_frame ts.tables ≡ None
+  pub allow : hosts_fault S.allow ts.allow ≡ None
+  pub deny : hosts_fault S.deny ts.deny ≡ None
+  pub portacl : portacl_fault ts.portacl ≡ None
+  pub named : tables_fault ts.allow ts.deny ts.tables ≡ None
+  pub byuid : byuid_fault ts.byuid ≡ None
 
-clean : (ts : Texts) → texts_fault ts ≡ none → Clean ts
+clean : (ts : Texts) → texts_fault ts ≡ None → Clean ts
 unfolding texts_fault grown
 clean ts e =
     let b = or_else_nones _ _ e in
@@ -209,14 +209,14 @@ clean ts e =
     record { small = f.0; framed = f.1; allow = a.1; deny = d.1; portacl = p.1; named = n.1; byuid = b.1 }
 
 record CleanTables (a d t : List ℕ) : Type 0 where
-  pub missing_allow : missing_fault (tables_of t) S.allow a ≡ none
-  pub missing_deny : missing_fault (tables_of t) S.deny d ≡ none
-  pub names : table_name_fault (tables_of t) ≡ none
-  pub deep_allow : depth_fault (tables_of t) S.allow a ≡ none
-  pub deep_deny : depth_fault (tables_of t) S.deny d ≡ none
-  pub bad : bad_table_fault t ≡ none
+  pub missing_allow : missing_fault (tables_of t) S.allow a ≡ None
+  pub missing_deny : missing_fault (tables_of t) S.deny d ≡ None
+  pub names : table_name_fault (tables_of t) ≡ None
+  pub deep_allow : depth_fault (tables_of t) S.allow a ≡ None
+  pub deep_deny : depth_fault (tables_of t) S.deny d ≡ None
+  pub bad : bad_table_fault t ≡ None
 
-clean_tables : (a d t : List ℕ) → tables_fault a d t ≡ none → CleanTables a d t
+clean_tables : (a d t : List ℕ) → tables_fault a d t ≡ None → CleanTables a d t
 unfolding tables_fault
 clean_tables a d t e =
     let u = or_else_nones _ _ e in
@@ -230,10 +230,10 @@ clean_tables a d t e =
 pub record Kept (ts : Texts) : Type 0 where
   pub same : salvaged ts ≡ ts
   pub listed : changes ts ≡ []
-  pub small : grown ts ≡ none
-  pub five : five_fault ts.tables ≡ none
+  pub small : grown ts ≡ None
+  pub five : five_fault ts.tables ≡ None
 
-pub sound_kept : (ts : Texts) → texts_fault ts ≡ none → Kept ts
+pub sound_kept : (ts : Texts) → texts_fault ts ≡ None → Kept ts
 unfolding salvaged_by changes_by five_fault byuid_fault
 sound_kept ts e =
     let c : Clean ts = clean ts e in
@@ -257,17 +257,17 @@ sound_kept ts e =
 -- ## The sheet
 
 -- the sheet of sound texts is accepted, and salvage leaves it as it is
-module _ (ts : Texts) (e : texts_fault ts ≡ none) where
+module _ (ts : Texts) (e : texts_fault ts ≡ None) where
   framed : Framed (sheet_of ts) (parts_of ts)
   framed = framed_parts_of ts (sheet_of ts) (sheet_of_in_turn ts) (texts_fault_none ts e)
 
-  pub sheet_framed : frame (sheet_of ts) ≡ answered (parts_of ts)
+  pub sheet_framed : frame (sheet_of ts) ≡ Ok (parts_of ts)
   sheet_framed = answered_frame framed
 
   pub at_parts : texts_at (sheet_of ts) (parts_of ts) ≡ ts
   at_parts = texts_at_parts_of ts (sheet_of ts) (sheet_of_in_turn ts)
 
-  pub sheet_accepted : unpack (sheet_of ts) ≡ answered (parts_of ts)
+  pub sheet_accepted : unpack (sheet_of ts) ≡ Ok (parts_of ts)
   sheet_accepted = answered_unpack framed (ap texts_fault at_parts ∙ e)
 
   kept_call : (room other : ℕ) → salvage_texts ts room other ≡ handed_out ts [] room other
@@ -277,31 +277,31 @@ module _ (ts : Texts) (e : texts_fault ts ≡ none) where
       ap (λ (o : Option Refusal). o before handed_out (salvaged ts) (list_bytes (changes ts)) room other) k.five
       ∙ ap₂ (λ (n : Texts) (l : List (ℕ × ℕ)). handed_out n (list_bytes l) room other) k.same k.listed
 
-  kept_room : (room other : ℕ) → length (sheet_of ts) ≤ room → handed_out ts [] room other ≡ answered (sheet_of ts, [])
+  kept_room : (room other : ℕ) → length (sheet_of ts) ≤ room → handed_out ts [] room other ≡ Ok (sheet_of ts, [])
   unfolding handed_out
   kept_room room other h =
       let k : Kept ts = sound_kept ts e in
       rw (k.small, le-ltb room (length (sheet_of ts)) h, le-ltb other 0 (omega arith))
 
-  texts_again : (room other : ℕ) → length (sheet_of ts) ≤ room → salvage_texts ts room other ≡ answered (sheet_of ts, [])
+  texts_again : (room other : ℕ) → length (sheet_of ts) ≤ room → salvage_texts ts room other ≡ Ok (sheet_of ts, [])
   texts_again room other h = kept_call room other ∙ kept_room room other h
 
-  pub sheet_again : (room other : ℕ) → length (sheet_of ts) ≤ room → salvage (sheet_of ts) room other ≡ answered (sheet_of ts, [])
+  pub sheet_again : (room other : ℕ) → length (sheet_of ts) ≤ room → salvage (sheet_of ts) room other ≡ Ok (sheet_of ts, [])
   unfolding salvage
   sheet_again room other h = rw (answered_frame framed, at_parts) (texts_again room other h)
 
 -- what an answer to five texts says
 pub record Answered (ts : Texts) (room : ℕ) (new list : List ℕ) : Type 0 where
-  pub sound : texts_fault (salvaged ts) ≡ none
+  pub sound : texts_fault (salvaged ts) ≡ None
   pub sheet : sheet_of (salvaged ts) ≡ new
   pub listed : list_bytes (changes ts) ≡ list
   pub fits : length new ≤ room
 
-before_answered : {A : Type 0} (o : Option Refusal) (c : Outcome A) (a : A) → (o before c) ≡ answered a → (o ≡ none) × (c ≡ answered a)
-before_answered none c a e = (refl, e)
-before_answered (some r) c a e = let z : ◌≡◌ {A = ℕ} 0 1 = cc in absurd (omega arith)
+before_answered : {A : Type 0} (o : Option Refusal) (c : Outcome A) (a : A) → (o before c) ≡ Ok a → (o ≡ None) × (c ≡ Ok a)
+before_answered None c a e = (refl, e)
+before_answered (Some r) c a e = let z : ◌≡◌ {A = ℕ} 0 1 = cc in absurd (omega arith)
 
-pub texts_answered : (ts : Texts) (room other : ℕ) (new list : List ℕ) → salvage_texts ts room other ≡ answered (new, list) → Answered ts room new list
+pub texts_answered : (ts : Texts) (room other : ℕ) (new list : List ℕ) → salvage_texts ts room other ≡ Ok (new, list) → Answered ts room new list
 unfolding salvage_texts handed_out
 texts_answered ts room other new list e =
     let a = before_answered (five_fault ts.tables) (handed_out (salvaged ts) (list_bytes (changes ts)) room other) (new, list) e in
@@ -321,28 +321,28 @@ texts_answered ts room other new list e =
           (placeless F.NoRoom) f.0));
     }
 
-module _ (sheet new list : List ℕ) (room other : ℕ) (e : salvage sheet room other ≡ answered (new, list)) where
-  pub salvage_answered : (p : Parts) × (frame sheet ≡ answered p) × Answered (texts_at sheet p) room new list
+module _ (sheet new list : List ℕ) (room other : ℕ) (e : salvage sheet room other ≡ Ok (new, list)) where
+  pub salvage_answered : (p : Parts) × (frame sheet ≡ Ok p) × Answered (texts_at sheet p) room new list
   unfolding salvage
   salvage_answered =
       let a = bind_answered (frame sheet) _ (new, list) e in
       (a.0, a.1, texts_answered (texts_at sheet a.0) room other new list a.2)
 
-  pub salvage_accepted : (p : Parts) × (unpack new ≡ answered p)
+  pub salvage_accepted : (p : Parts) × (unpack new ≡ Ok p)
   salvage_accepted =
       let a = salvage_answered in
       let new-texts : Texts = salvaged (texts_at sheet a.0) in
       (parts_of new-texts, ap unpack (sym a.2.sheet) ∙ sheet_accepted new-texts a.2.sound)
 
-  pub salvage_again : (room' other' : ℕ) → length new ≤ room' → salvage new room' other' ≡ answered (new, [])
+  pub salvage_again : (room' other' : ℕ) → length new ≤ room' → salvage new room' other' ≡ Ok (new, [])
   salvage_again room' other' h =
       let a = salvage_answered in
-      subst (λ (s : List ℕ). length s ≤ room' → salvage s room' other' ≡ answered (s, [])) a.2.sheet
+      subst (λ (s : List ℕ). length s ≤ room' → salvage s room' other' ≡ Ok (s, [])) a.2.sheet
       (sheet_again (salvaged (texts_at sheet a.0)) a.2.sound room' other') h
 
-pub salvage_sound : (sheet : List ℕ) (p : Parts) (room other : ℕ) → Basics.all (λ b. ltb b 256) sheet ≡ true → unpack sheet ≡ answered p → length sheet ≤ room
-    → salvage sheet room other ≡ answered (sheet, [])
+pub salvage_sound : (sheet : List ℕ) (p : Parts) (room other : ℕ) → Basics.all (λ b. ltb b 256) sheet ≡ true → unpack sheet ≡ Ok p → length sheet ≤ room
+    → salvage sheet room other ≡ Ok (sheet, [])
 salvage_sound sheet p room other b e h =
     let u = unpack_answered sheet p e in
     let s : sheet_of (texts_at sheet p) ≡ sheet = sheet_of_texts_at b u.0 in
-    subst (λ (t : List ℕ). length t ≤ room → salvage t room other ≡ answered (t, [])) s (sheet_again (texts_at sheet p) u.1 room other) h
+    subst (λ (t : List ℕ). length t ≤ room → salvage t room other ≡ Ok (t, [])) s (sheet_again (texts_at sheet p) u.1 room other) h

@@ -2,10 +2,10 @@
 --   good_grants == where the search by the salvaged texts grants, the search by the good lines alone grants
 --   good_checks == two texts of good lines are decided, not refused
 -- Assumes nothing.
+use Rattle.std.specs.Prelude.{None, Option, Some, unwrap_or}
 use Prim.Native.Nat.{ℕ, ◌≤◌}
 use mathlib.Core.Bool.{Bool, true, false, ◌||◌, true≢false}
 use mathlib.Core.List.{List, [], ◌∷◌, ◌++◌, map, flat_map}
-use mathlib.Core.Option.{Option, none, some, get_or}
 use mathlib.Core.Path.{◌≡◌, refl, sym, ap, ap₂, ◌∙◌}
 use native.Mathlib.Omega.{arith}
 use borrow.Author.Tests.{ltb-false, le-ltb}
@@ -73,11 +73,11 @@ module _ (m : Matcher) (r : Request) where
       k = line 0 0 l.raw true
 
       by : (b : Bool) (o : Option Rule.Rule)
-          → is_some (when b then none else (o >>= λ u. rule_answer Denied Deny l u (rule_found m r u)))
-          ≡ is_some (when b then none else (o >>= λ u. rule_answer Denied Deny k u (rule_found m r u)))
+          → is_some (when b then None else (o >>= λ u. rule_answer Denied Deny l u (rule_found m r u)))
+          ≡ is_some (when b then None else (o >>= λ u. rule_answer Denied Deny k u (rule_found m r u)))
       by true o = refl
-      by false none = refl
-      by false (some u) = rule_decides l k u (rule_found m r u)
+      by false None = refl
+      by false (Some u) = rule_decides l k u (rule_found m r u)
 
   -- `ALL: ALL` decides on every request
   all_decides : decides (bytes "ALL: ALL") ≡ true
@@ -96,8 +96,8 @@ module _ (m : Matcher) (r : Request) where
   file_decides (l ∷ ls) = either (denying l) (first denying ls) ∙ ap₂ ◌||◌ (line_decides l) (file_decides ls)
     where
       either : (o q : Option Answer) → is_some (o or_else q) ≡ is_some o || is_some q
-      either none q = refl
-      either (some a) q = refl
+      either None q = refl
+      either (Some a) q = refl
 
   -- where lines with `ALL: ALL` for each bad one do not decide, the good ones do not
   good_silent : (bad : Line.Line → Bool) (ls : List Line.Line)
@@ -127,12 +127,12 @@ answer_grants o = holds (λ (a : Answer). grants a.verdict) o
 
 -- by what the allow file answers, and by what the deny file answers: where the second deny file is silent if the first one is
 by_answers : (o q s : Option Answer) → answer_grants q ≡ false → (is_some q ≡ false → is_some s ≡ false)
-    → grants (get_or (o or_else q) (answer Granted Neither 0 (part 0 0))).verdict ≡ true
-    → grants (get_or (o or_else s) (answer Granted Neither 0 (part 0 0))).verdict ≡ true
-by_answers (some a) q s h k e = e
-by_answers none (some a) s h k e = absurd (true≢false (sym e ∙ h))
-by_answers none none none h k e = refl
-by_answers none none (some a) h k e = absurd (true≢false (k refl))
+    → grants (unwrap_or (o or_else q) (answer Granted Neither 0 (part 0 0))).verdict ≡ true
+    → grants (unwrap_or (o or_else s) (answer Granted Neither 0 (part 0 0))).verdict ≡ true
+by_answers (Some a) q s h k e = e
+by_answers None (Some a) s h k e = absurd (true≢false (sym e ∙ h))
+by_answers None None None h k e = refl
+by_answers None None (Some a) h k e = absurd (true≢false (k refl))
 
 module _ (m : Matcher) (r : Request) where
   -- no rule of deny grants
@@ -145,10 +145,10 @@ module _ (m : Matcher) (r : Request) where
       rule u Found.Ask = refl
       rule u Found.No = refl
 
-      by : (b : Bool) (o : Option Rule.Rule) → answer_grants (when b then none else (o >>= λ u. rule_answer Denied Deny l u (rule_found m r u))) ≡ false
+      by : (b : Bool) (o : Option Rule.Rule) → answer_grants (when b then None else (o >>= λ u. rule_answer Denied Deny l u (rule_found m r u))) ≡ false
       by true o = refl
-      by false none = refl
-      by false (some u) = rule u (rule_found m r u)
+      by false None = refl
+      by false (Some u) = rule u (rule_found m r u)
 
   file_ungranting : (ls : List Line.Line) → answer_grants (first (denying m r) ls) ≡ false
   unfolding first
@@ -157,10 +157,10 @@ module _ (m : Matcher) (r : Request) where
     where
       by : (o : Option Answer) → answer_grants o ≡ false → answer_grants (first (denying m r) ls) ≡ false
           → answer_grants (o or_else first (denying m r) ls) ≡ false
-      by none h ih = ih
-      by (some a) h ih = h
+      by None h ih = ih
+      by (Some a) h ih = h
 
-first_two : (a b c d : Option Refusal) → (a or_else b or_else c or_else d) ≡ none → (a ≡ none) × (b ≡ none)
+first_two : (a b c d : Option Refusal) → (a or_else b or_else c or_else d) ≡ None → (a ≡ None) × (b ≡ None)
 first_two a b c d e =
     let x = or_else_nones (a or_else b or_else c) d e in
     let y = or_else_nones (a or_else b) c x.0 in
@@ -221,19 +221,19 @@ module _ (ts : Texts) where
   unfolding salvage_hosts
   deny_shorter = shorter (lines ts.deny)
 
-  allow_small : grown (salvaged ts) ≡ none → over_limit S.allow good_allow ≡ none
+  allow_small : grown (salvaged ts) ≡ None → over_limit S.allow good_allow ≡ None
   unfolding grown salvaged_by
   allow_small g = (first_two (over_limit S.allow good_allow) (over_limit S.deny new_deny) _ _ g).0
 
-  deny_small : grown (salvaged ts) ≡ none → over_limit S.deny good_deny ≡ none
+  deny_small : grown (salvaged ts) ≡ None → over_limit S.deny good_deny ≡ None
   unfolding grown salvaged_by
   deny_small g =
-      let k : over_limit S.deny new_deny ≡ none = (first_two (over_limit S.allow good_allow) (over_limit S.deny new_deny) _ _ g).1 in
+      let k : over_limit S.deny new_deny ≡ None = (first_two (over_limit S.allow good_allow) (over_limit S.deny new_deny) _ _ g).1 in
       let n : length new_deny ≤ 16384 = ltb-false 16384 (length new_deny) (given_none (ltb 16384 (length new_deny)) (refusal F.OverLimit 2 0) k) in
       rw (le-ltb 16384 (length good_deny) (omega (arith, deny_shorter, n)))
 
   -- texts of good lines are decided
-  pub good_checks : (o : Option Request) → texts_fault (salvaged ts) ≡ none
+  pub good_checks : (o : Option Request) → texts_fault (salvaged ts) ≡ None
       → decide_tables good_allow good_deny ts.tables o ≡ decide_over tables good_allow good_deny o
   unfolding decide_tables tables_fault salvaged_by
   good_checks o e =

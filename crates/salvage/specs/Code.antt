@@ -8,9 +8,8 @@
 --   made_texts v ts, made_list v ts == the new texts, and the list
 --   sizes_of ts, grown_by s   == how long texts are, and the refusal of texts of these sizes
 -- Assumes nothing: these are definitions.
-use Rattle.std.specs.Prelude.{ℕ, ◌+◌, ◌-◌, ◌≤◌, Bool, true, false, not, ◌&&◌, List, [], ◌∷◌, ◌++◌, ◌≡◌, length, take, drop, ltb, eqb}
+use Rattle.std.specs.Prelude.{ℕ, ◌+◌, ◌-◌, ◌≤◌, Bool, true, false, not, ◌&&◌, List, [], ◌∷◌, ◌++◌, ◌≡◌, length, take, drop, ltb, eqb, Option}
 use Prim.Native.String.{String}
-use Rattle.std.proofs.Math.Option.{Option}
 use Rattle.text.specs.Basics.{when◌then◌else◌, ◌or_else◌, given, is_some}
 use Rattle.text.specs.Text.{bytes, split}
 use Rattle.section.specs.declared.Fault.TheVariants as F

@@ -4,14 +4,13 @@
 --   changes ts                   == the section and line of each change
 --   salvage sheet room other     == the call: the new sheet into room bytes, the list of changes into other
 -- Assumes nothing: these are definitions.
-use Rattle.std.specs.Prelude.{ℕ, ◌+◌, Bool, not, ◌||◌, length}
+use Rattle.std.specs.Prelude.{ℕ, ◌+◌, Bool, not, ◌||◌, length, Ok, Option}
 use mathlib.Core.List.{List, [], ◌∷◌, ◌++◌, map, flat_map}
-use Rattle.std.proofs.Math.Option.{Option}
 use Rattle.text.specs.Basics.{when◌then◌else◌, ◌or_else◌, is_some, is_empty}
 use Rattle.text.specs.Text.{bytes, split, intercalate}
 use Rattle.text.specs.Number.{to_digits}
 use Rattle.section.specs.declared.Refusal.{Refusal}
-use Rattle.section.specs.Refusal.{Outcome, refused, answered, ◌>>=◌, refusing, ◌before◌, within_room}
+use Rattle.section.specs.Refusal.{Outcome, ◌>>=◌, refusing, ◌before◌, within_room}
 use Rattle.section.specs.Section as S
 use Rattle.section.specs.Section.{Section, over_limit}
 use Rattle.lines.specs.Line.{Line, lines}
@@ -114,7 +113,7 @@ handed_out new list room other = do
   s ← refusing (grown new) (sheet_of new)
   t ← within_room room s
   l ← within_room other list
-  answered (t, l)
+  Ok (t, l)
 
 unfoldable pub salvage_texts : Texts → ℕ → ℕ → Outcome (List ℕ × List ℕ)
 salvage_texts ts room other = five_fault ts.tables before handed_out (salvaged ts) (list_bytes (changes ts)) room other

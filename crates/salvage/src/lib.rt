@@ -5,7 +5,6 @@
 #![tactic(auto)]
 
 ghost use Rattle.std.specs.Prelude.{◌≡◌, true, false, ◌≤◌, length};
-ghost use Rattle.std.proofs.Math.Option.{none};
 ghost use Rattle.elements.specs.Code.{view_of};
 ghost use Rattle.sheet.specs.Sheet.{texts, texts_at};
 ghost use Rattle.sheet.specs.Code.{checked_of};
@@ -15,9 +14,14 @@ ghost use Rattle.salvage.specs.Code.{made_texts, made_list, sizes_of, grown_by, 
 
 use rules::naming::check_section_five;
 use rules::search::naming_notes;
-use section::{Allow, Byuid, Deny, Fault, Portacl, WrittenTwo, part_of};
-use sheet::frame::Framed;
-use sheet::texts::{Checked, check_frame, checked_by};
+use section::Allow;
+use section::Byuid;
+use section::Deny;
+use section::Fault;
+use section::Portacl;
+use section::part_of;
+use sheet::texts::check_frame;
+use sheet::texts::checked_by;
 use sheet::{Parts, frame};
 use write::{Sizes, measure_list, measure_texts, put_list, put_sheet};
 
@@ -25,32 +29,32 @@ mod piece;
 mod write;
 
 // The refusal of section five by itself: its frame, then 15 and 17.
-fn check_five(tables: &[u8]) -> Checked
+fn check_five(tables: &[u8]) -> Result<(), Refusal>
     ensures { result ≡ checked_of (five_fault tables.now) }
 {
     match check_frame(tables) {
-        Checked::Refused(refusal) => Checked::Refused(refusal),
-        Checked::Sound => checked_by(check_section_five(tables)),
+        Err(refusal) => Err(refusal),
+        Ok(()) => checked_by(check_section_five(tables)),
     }
 }
 
 // Whether each new text is within its section's limit.
-fn check_sizes(sizes: Sizes) -> Checked
+fn check_sizes(sizes: Sizes) -> Result<(), Refusal>
     ensures { result ≡ checked_of (grown_by sizes) }
 {
     if Allow::over(sizes.allow) {
-        return Checked::Refused(Allow::refusal(Fault::OverLimit, 0));
+        return Err(Allow::refusal(Fault::OverLimit, 0));
     }
     if Deny::over(sizes.deny) {
-        return Checked::Refused(Deny::refusal(Fault::OverLimit, 0));
+        return Err(Deny::refusal(Fault::OverLimit, 0));
     }
     if Byuid::over(sizes.byuid) {
-        return Checked::Refused(Byuid::refusal(Fault::OverLimit, 0));
+        return Err(Byuid::refusal(Fault::OverLimit, 0));
     }
     if Portacl::over(sizes.portacl) {
-        return Checked::Refused(Portacl::refusal(Fault::OverLimit, 0));
+        return Err(Portacl::refusal(Fault::OverLimit, 0));
     }
-    Checked::Sound
+    Ok(())
 }
 
 // The new sheet and the list of texts whose section five is sound, written where both have room.
@@ -63,7 +67,7 @@ fn write_both(
     portacl: &[u8],
     tables: &[u8],
     notes: &[u64],
-) -> WrittenTwo
+) -> Result<(usize, usize), Refusal>
     requires small { Small (texts allow.now deny.now byuid.now portacl.now tables.now) }
     requires tables_len_bound { length tables.now ≤ 12288 }
     ensures answer { result
@@ -81,19 +85,19 @@ fn write_both(
 {
     let sizes = measure_texts(allow, deny, byuid, portacl, tables, notes);
     match check_sizes(sizes) {
-        Checked::Refused(refusal) => WrittenTwo::Refused(refusal),
-        Checked::Sound => {
+        Err(refusal) => Err(refusal),
+        Ok(()) => {
             if out.len()
                 < 16 + sizes.allow + sizes.deny + sizes.byuid + sizes.portacl + tables.len()
             {
-                return WrittenTwo::Refused(section::placeless(Fault::NoRoom));
+                return Err(section::placeless(Fault::NoRoom));
             }
             if list.len() < measure_list(allow, deny, byuid, portacl, tables, notes) {
-                return WrittenTwo::Refused(section::placeless(Fault::NoRoom));
+                return Err(section::placeless(Fault::NoRoom));
             }
             let bytes = put_sheet(out, allow, deny, byuid, portacl, tables, notes, sizes);
             let listed = put_list(list, allow, deny, byuid, portacl, tables, notes);
-            WrittenTwo::Counts(bytes, listed)
+            Ok((bytes, listed))
         }
     }
 }
@@ -107,7 +111,7 @@ fn salvage_texts(
     byuid: &[u8],
     portacl: &[u8],
     tables: &[u8],
-) -> WrittenTwo
+) -> Result<(usize, usize), Refusal>
     requires { Small (texts allow.now deny.now byuid.now portacl.now tables.now) }
     ensures answer { result
         ≡ written_two_of
@@ -120,8 +124,8 @@ fn salvage_texts(
         (salvage_texts (texts allow.now deny.now byuid.now portacl.now tables.now) (length out.old) (length list.old)) }
 {
     match check_five(tables) {
-        Checked::Refused(refusal) => WrittenTwo::Refused(refusal),
-        Checked::Sound => {
+        Err(refusal) => Err(refusal),
+        Ok(()) => {
             let notes = naming_notes(tables);
             write_both(out, list, allow, deny, byuid, portacl, tables, &notes)
         }
@@ -129,7 +133,7 @@ fn salvage_texts(
 }
 
 // The same of the texts that stand in a sheet.
-fn salvage_parts(out: &mut [u8], list: &mut [u8], sheet: &[u8], parts: Parts) -> WrittenTwo
+fn salvage_parts(out: &mut [u8], list: &mut [u8], sheet: &[u8], parts: Parts) -> Result<(usize, usize), Refusal>
     requires { Small (texts_at sheet.now parts) }
     ensures answer { result
         ≡ written_two_of
@@ -154,7 +158,7 @@ fn salvage_parts(out: &mut [u8], list: &mut [u8], sheet: &[u8], parts: Parts) ->
 
 // Makes an accepted sheet of one with bad lines, at the front of out, and the list of changes at the front of list: section and line of each, as numbers
 // of four bytes. A refusal leaves both as they were.
-pub fn salvage(out: &mut [u8], list: &mut [u8], sheet: &[u8]) -> WrittenTwo
+pub fn salvage(out: &mut [u8], list: &mut [u8], sheet: &[u8]) -> Result<(usize, usize), Refusal>
     ensures answer { result ≡ written_two_of (salvageOf sheet.now (length out.old) (length list.old)) }
     ensures sheet { out.new
         ≡ first_after out.old (salvageOf sheet.now (length out.old) (length list.old)) }
@@ -162,7 +166,7 @@ pub fn salvage(out: &mut [u8], list: &mut [u8], sheet: &[u8]) -> WrittenTwo
         ≡ second_after list.old (salvageOf sheet.now (length out.old) (length list.old)) }
 {
     match frame::frame(sheet) {
-        Framed::Refused(refusal) => WrittenTwo::Refused(refusal),
-        Framed::Parts(parts) => salvage_parts(out, list, sheet, parts),
+        Err(refusal) => Err(refusal),
+        Ok(parts) => salvage_parts(out, list, sheet, parts),
     }
 }

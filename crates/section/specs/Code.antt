@@ -3,8 +3,7 @@
 --   cursor_at s at   == where the count of the section s stands, with that section's limit and order
 --   first_holding cs == the first fault of cs whose test holds: the lowest, where the numbers rise (RefusalLaws)
 -- Assumes nothing: these are definitions.
-use Rattle.std.specs.Prelude.{ℕ, Bool, List, [], ◌∷◌}
-use Rattle.std.proofs.Math.Option.{Option, none, some}
+use Rattle.std.specs.Prelude.{ℕ, Bool, List, [], ◌∷◌, None, Option, Some}
 use Rattle.text.specs.Basics.{when◌then◌else◌}
 use Rattle.section.specs.declared.Cursor.{Cursor}
 use Rattle.section.specs.declared.Fault.{Fault}
@@ -14,5 +13,5 @@ abbrev pub cursor_at : Section → ℕ → Cursor
 cursor_at s at = record { at = at; limit = s.limit; order = s.order }
 
 unfoldable pub first_holding : List (Fault × Bool) → Option Fault
-first_holding [] = none
-first_holding (c ∷ cs) = when c.1 then some c.0 else first_holding cs
+first_holding [] = None
+first_holding (c ∷ cs) = when c.1 then Some c.0 else first_holding cs

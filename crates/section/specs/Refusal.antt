@@ -9,16 +9,11 @@
 --   lent_after out o  == what the lent output out holds after the outcome o
 --   within_rooms n m p, first_after, second_after == the same of two outputs
 -- Assumes nothing: these are definitions.
-use Rattle.std.specs.Prelude.{ℕ, Bool, ◌||◌, List, [], ◌∷◌, ◌++◌, length, drop, ltb}
-use Rattle.std.proofs.Math.Option.{Option, none, some}
+use Rattle.std.specs.Prelude.{ℕ, Bool, ◌||◌, List, [], ◌∷◌, ◌++◌, length, drop, ltb, Err, None, Ok, Option, Result, Some}
 use Rattle.text.specs.Basics.{when◌then◌else◌, given}
 use Rattle.section.specs.declared.Fault.{Fault}
 use Rattle.section.specs.declared.Fault.TheVariants as F
 use Rattle.section.specs.declared.Refusal.{Refusal}
-use Rattle.section.specs.declared.Written.{Written}
-use Rattle.section.specs.declared.Written.TheVariants as W
-use Rattle.section.specs.declared.WrittenTwo.{WrittenTwo}
-use Rattle.section.specs.declared.WrittenTwo.TheVariants as Two
 
 -- 0 stands for "answered"; the words of each number are quoted where its test is defined
 abbrev pub fault_number : Fault → ℕ
@@ -47,13 +42,13 @@ fault_number F.RetiredForm = 22
 
 -- f, unless the other has a lower number
 abbrev pub lower_fault : Fault → Option Fault → Fault
-lower_fault f none = f
-lower_fault f (some g) = when ltb (fault_number g) (fault_number f) then g else f
+lower_fault f None = f
+lower_fault f (Some g) = when ltb (fault_number g) (fault_number f) then g else f
 
 -- "within a line the lowest number"
 unfoldable pub lowest : List (Fault × Bool) → Option Fault
-lowest [] = none
-lowest (c ∷ cs) = when c.1 then some (lower_fault c.0 (lowest cs)) else lowest cs
+lowest [] = None
+lowest (c ∷ cs) = when c.1 then Some (lower_fault c.0 (lowest cs)) else lowest cs
 
 -- "A refusal carries number, section (1 to 4, or 0) and line (0 where none; the entry number for 12)"; of the tables
 -- "section 5 and the table's number from 1 (0 for the limits of 64 tables and of the whole section)"
@@ -62,37 +57,36 @@ refusal f s l = record { fault = f; section = s; line = l }
 
 -- the refusal by a fault, if there is one, at a section and a line
 abbrev pub at_place : ℕ → ℕ → Option Fault → Option Refusal
-at_place s l none = none
-at_place s l (some f) = some (refusal f s l)
+at_place s l None = None
+at_place s l (Some f) = Some (refusal f s l)
 
 -- "Section is 0 for 3, 13, 14"
 abbrev pub placeless : Fault → Refusal
 placeless f = refusal f 0 0
 
 -- "A refusal .. writes nothing, and gives no verdict."
-pub data Outcome (A : Type 0) : Type 0 where
-  refused : Refusal → Outcome A
-  answered : A → Outcome A
+abbrev pub Outcome : Type 0 → Type 0
+Outcome A = Result A Refusal
 
 infixl 20 ◌>>=◌
 abbrev pub ◌>>=◌ : {A B : Type 0} → Outcome A → (A → Outcome B) → Outcome B
-refused r >>= f = refused r
-answered a >>= f = f a
+Err r >>= f = Err r
+Ok a >>= f = f a
 
 abbrev pub refusing : {A : Type 0} → Option Refusal → A → Outcome A
-refusing none a = answered a
-refusing (some r) a = refused r
+refusing None a = Ok a
+refusing (Some r) a = Err r
 
 infixr 15 ◌before◌
 abbrev pub ◌before◌ : {A : Type 0} → Option Refusal → Outcome A → Outcome A
-none before c = c
-some r before c = refused r
+None before c = c
+Some r before c = Err r
 
 -- 13: "a request field outside its size or its kinds": p says whether every field of a request is within its size, and none
 -- stands for a request with a number outside its kinds
 abbrev pub fitting : {A B : Type 0} → (A → Bool) → Option A → (A → Outcome B) → Outcome B
-fitting p none f = refused (placeless F.BadRequest)
-fitting p (some a) f = when p a then f a else refused (placeless F.BadRequest)
+fitting p None f = Err (placeless F.BadRequest)
+fitting p (Some a) f = when p a then f a else Err (placeless F.BadRequest)
 
 -- 14: "the whole output is longer than the lent output"
 abbrev pub within_room : ℕ → List ℕ → Outcome (List ℕ)
@@ -100,24 +94,24 @@ within_room room t = refusing (given (ltb room (length t)) (placeless F.NoRoom))
 
 -- "Bytes past the output are untouched."
 abbrev pub lent_after : List ℕ → Outcome (List ℕ) → List ℕ
-lent_after out (refused r) = out
-lent_after out (answered t) = t ++ drop (length t) out
+lent_after out (Err r) = out
+lent_after out (Ok t) = t ++ drop (length t) out
 
 -- what such a call answers: the refusal, else the count of bytes written
-abbrev pub written_of : Outcome (List ℕ) → Written
-written_of (refused r) = W.Refused r
-written_of (answered t) = W.Count (length t)
+abbrev pub written_of : Outcome (List ℕ) → Result ℕ Refusal
+written_of (Err r) = Err r
+written_of (Ok t) = Ok (length t)
 
 -- "14 if either text doesn't fit, with neither written": a refusal leaves both outputs as they were
 abbrev pub within_rooms : ℕ → ℕ → List ℕ × List ℕ → Outcome (List ℕ × List ℕ)
 within_rooms room other p = refusing (given (ltb room (length p.0) || ltb other (length p.1)) (placeless F.NoRoom)) p
 
 abbrev pub first_after : List ℕ → Outcome (List ℕ × List ℕ) → List ℕ
-first_after out o = lent_after out (o >>= λ p. answered p.0)
+first_after out o = lent_after out (o >>= λ p. Ok p.0)
 
 abbrev pub second_after : List ℕ → Outcome (List ℕ × List ℕ) → List ℕ
-second_after out o = lent_after out (o >>= λ p. answered p.1)
+second_after out o = lent_after out (o >>= λ p. Ok p.1)
 
-abbrev pub written_two_of : Outcome (List ℕ × List ℕ) → WrittenTwo
-written_two_of (refused r) = Two.Refused r
-written_two_of (answered p) = Two.Counts (length p.0) (length p.1)
+abbrev pub written_two_of : Outcome (List ℕ × List ℕ) → Result (ℕ × ℕ) Refusal
+written_two_of (Err r) = Err r
+written_two_of (Ok p) = Ok ((length p.0), (length p.1))

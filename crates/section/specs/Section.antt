@@ -2,8 +2,7 @@
 --   bytes_at t p   == the bytes of the part p of t
 --   over_limit s t == the refusal of a text t over the limit of its section s
 -- Assumes nothing: these are definitions.
-use Rattle.std.specs.Prelude.{ℕ, List, length, take, drop, ltb}
-use Rattle.std.proofs.Math.Option.{Option}
+use Rattle.std.specs.Prelude.{ℕ, List, length, take, drop, ltb, Option}
 use Rattle.text.specs.Basics.{given}
 use Rattle.section.specs.declared.Fault.TheVariants as F
 use Rattle.section.specs.declared.Part.{Part}

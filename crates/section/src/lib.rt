@@ -71,20 +71,6 @@ pub fn part_of(s: &[u8], part: Part) -> &[u8]
     &rest[..n]
 }
 
-// What a call that writes into a lent output answers: a refusal, or how many bytes it wrote.
-#[derive(Clone, Copy)]
-pub enum Written {
-    Refused(Refusal),
-    Count(usize),
-}
-
-// What a call answers that writes into two outputs: a refusal, or how many bytes it wrote into each.
-#[derive(Clone, Copy)]
-pub enum WrittenTwo {
-    Refused(Refusal),
-    Counts(usize, usize),
-}
-
 // A place in a sheet where a section's count stands, with that section's limit and order.
 #[derive(Clone, Copy)]
 pub struct Cursor {

@@ -5,11 +5,11 @@
 --   framed_parts_of, texts_at_parts_of == the frame of the sheet of five texts, and the texts found by it
 --   sheet_of_texts_at == the sheet of an accepted sheet's texts
 -- Assumes nothing.
+use Rattle.std.specs.Prelude.{Err, None, Ok, Option, Some}
 use Prim.Native.Nat.{ℕ, zero, suc, ◌+◌, ◌-◌, ◌≤◌, ◌<◌, ◌^◌}
 use native.Mathlib.Omega.{arith}
 use mathlib.Core.Bool.{Bool, true, false}
 use mathlib.Core.List.{List, [], ◌∷◌, ◌++◌, append_assoc}
-use mathlib.Core.Option.{Option, none, some}
 use mathlib.Core.Path.{◌≡◌, refl, sym, ap, subst, ◌∙◌}
 use lib.ListN.{length, take, drop, length-drop, length-append, take-append-drop}
 use lib.Seq.{take-nil, take-take, take-length, length-take-le, take_at, drop_at, drop-drop, take-append_seam, drop-append_seam}
@@ -23,7 +23,7 @@ use Rattle.text.proofs.Digits.{from_digits_to_digits, to_digits_from_digits, len
 use Rattle.section.specs.declared.Fault.TheVariants as F
 use Rattle.section.specs.declared.Part.{Part}
 use Rattle.section.specs.declared.Refusal.{Refusal}
-use Rattle.section.specs.Refusal.{Outcome, refused, answered, ◌>>=◌, refusal, placeless, refusing}
+use Rattle.section.specs.Refusal.{Outcome, ◌>>=◌, refusal, placeless, refusing}
 use Rattle.section.specs.Section as S
 use Rattle.section.specs.Section.{bytes_at, Section, part, over_limit}
 use Rattle.tables.specs.Table.{tables_frame}
@@ -35,23 +35,23 @@ use Rattle.sheet.proofs.TextsLaws.{or_else_none, texts_fault_parts, tables_named
 -- ## Outcomes
 
 module _ {A : Type 0} where
-  pub if_answered : (b : Bool) (r : Refusal) (o : Outcome A) (a : A) → (when b then refused r else o) ≡ answered a → (b ≡ false) × (o ≡ answered a)
+  pub if_answered : (b : Bool) (r : Refusal) (o : Outcome A) (a : A) → (when b then Err r else o) ≡ Ok a → (b ≡ false) × (o ≡ Ok a)
   if_answered true r o a e = (cc, cc)
   if_answered false r o a e = (refl, e)
 
-  pub refusing_answered : (o : Option Refusal) (a b : A) → refusing o a ≡ answered b → (o ≡ none) × (a ≡ b)
-  refusing_answered none a b e = (refl, cc)
-  refusing_answered (some r) a b e = (cc, cc)
+  pub refusing_answered : (o : Option Refusal) (a b : A) → refusing o a ≡ Ok b → (o ≡ None) × (a ≡ b)
+  refusing_answered None a b e = (refl, cc)
+  refusing_answered (Some r) a b e = (cc, cc)
 
-  pub bind_answered : {B : Type 0} (o : Outcome A) (f : A → Outcome B) (b : B) → (o >>= f) ≡ answered b → (a : A) × (o ≡ answered a) × (f a ≡ answered b)
-  bind_answered (refused r) f b e = let z : ◌≡◌ {A = ℕ} 0 1 = cc in absurd (omega arith)
-  bind_answered (answered a) f b e = (a, refl, e)
+  pub bind_answered : {B : Type 0} (o : Outcome A) (f : A → Outcome B) (b : B) → (o >>= f) ≡ Ok b → (a : A) × (o ≡ Ok a) × (f a ≡ Ok b)
+  bind_answered (Err r) f b e = let z : ◌≡◌ {A = ℕ} 0 1 = cc in absurd (omega arith)
+  bind_answered (Ok a) f b e = (a, refl, e)
 
-  pub given_none : (b : Bool) (a : A) → given b a ≡ none → b ≡ false
+  pub given_none : (b : Bool) (a : A) → given b a ≡ None → b ≡ false
   given_none true a e = cc
   given_none false a e = refl
 
-  pub answered_same : (a b : A) → answered a ≡ answered b → a ≡ b
+  pub answered_same : (a b : A) → Ok a ≡ Ok b → a ≡ b
   answered_same a b e = cc
 
   pub append_five : (a b c d e : List A) → a ++ b ++ c ++ d ++ e ≡ a ++ (b ++ (c ++ (d ++ e)))
@@ -72,14 +72,14 @@ pub record SectionAt (s : Section) (at : ℕ) (sheet : List ℕ) (p : Part) : Ty
   pub limit : p.len ≤ s.limit
   pub within : at + 4 + p.len ≤ length sheet
 
-pub section_at_answered : (s : Section) (at : ℕ) (sheet : List ℕ) (p : Part) → section_at s at sheet ≡ answered p → SectionAt s at sheet p
+pub section_at_answered : (s : Section) (at : ℕ) (sheet : List ℕ) (p : Part) → section_at s at sheet ≡ Ok p → SectionAt s at sheet p
 unfolding section_at
 section_at_answered s at sheet p e =
     let rest : List ℕ = drop at sheet in
     let n : ℕ = from_digits 256 0 (take 4 rest) in
     let a = if_answered (ltb (length rest) 4) _ _ p e in
     let b = if_answered (ltb s.limit n) _ _ p a.1 in
-    let c = if_answered (ltb (length rest) (4 + n)) _ (answered (part (at + 4) n)) p b.1 in
+    let c = if_answered (ltb (length rest) (4 + n)) _ (Ok (part (at + 4) n)) p b.1 in
     let same : part (at + 4) n ≡ p = cc c.1 in
     record {
       place = sym (ap (λ q. q.place) same);
@@ -89,7 +89,7 @@ section_at_answered s at sheet p e =
     }
 
 module _ {s : Section} {at : ℕ} {sheet : List ℕ} {p : Part} (f : SectionAt s at sheet p) where
-  pub answered_section_at : section_at s at sheet ≡ answered p
+  pub answered_section_at : section_at s at sheet ≡ Ok p
   unfolding section_at
   answered_section_at =
       let h : 4 + p.len ≤ length (drop at sheet) = simp length-drop (omega arith) in
@@ -111,11 +111,11 @@ module _ {s : Section} {at : ℕ} {sheet : List ℕ} {p : Part} (f : SectionAt s
       within = rw (length-take-le k sheet short) (omega (arith, f.place));
     }
 
-    pub section_at_cut : k < part_end p → section_at s at (take k sheet) ≡ refused (refusal F.CutShort s.order 0)
+    pub section_at_cut : k < part_end p → section_at s at (take k sheet) ≡ Err (refusal F.CutShort s.order 0)
     unfolding section_at
     section_at_cut h = by (ltb (length (drop at (take k sheet))) 4) refl
       where
-        by : (b : Bool) → ltb (length (drop at (take k sheet))) 4 ≡ b → section_at s at (take k sheet) ≡ refused (refusal F.CutShort s.order 0)
+        by : (b : Bool) → ltb (length (drop at (take k sheet))) 4 ≡ b → section_at s at (take k sheet) ≡ Err (refusal F.CutShort s.order 0)
         by true e = rw e
         by false e =
             let cut : List ℕ = drop at (take k sheet) in
@@ -133,7 +133,7 @@ pub record Framed (sheet : List ℕ) (p : Parts) : Type 0 where
   pub portacl : SectionAt S.portacl (part_end p.byuid) sheet p.portacl
   pub tables : p.tables ≡ rest_after sheet p.portacl
 
-pub frame_answered : (sheet : List ℕ) (p : Parts) → frame sheet ≡ answered p → Framed sheet p
+pub frame_answered : (sheet : List ℕ) (p : Parts) → frame sheet ≡ Ok p → Framed sheet p
 unfolding frame
 frame_answered sheet q e =
     let a = bind_answered (section_at S.allow 0 sheet) _ q e in
@@ -153,11 +153,11 @@ frame_answered sheet q e =
 abbrev pub with_tables : Parts → Part → Parts
 with_tables p t = record { allow = p.allow; deny = p.deny; byuid = p.byuid; portacl = p.portacl; tables = t }
 
-pub answered_frame : {sheet : List ℕ} {p : Parts} → Framed sheet p → frame sheet ≡ answered p
+pub answered_frame : {sheet : List ℕ} {p : Parts} → Framed sheet p → frame sheet ≡ Ok p
 unfolding frame
 answered_frame {sheet} {p} f =
     rw (answered_section_at f.allow, answered_section_at f.deny, answered_section_at f.byuid, answered_section_at f.portacl)
-    (ap (λ t. answered (with_tables p t)) (sym f.tables))
+    (ap (λ t. Ok (with_tables p t)) (sym f.tables))
 
 module _ {sheet : List ℕ} {p : Parts} (f : Framed sheet p) where
   -- where the tables begin
@@ -227,10 +227,10 @@ pub record WithinLimits (ts : Texts) : Type 0 where
   pub portacl : length ts.portacl ≤ (S.portacl).limit
   pub tables : length ts.tables ≤ (S.tables).limit
 
-pub over_limit_none : (s : Section) (t : List ℕ) → over_limit s t ≡ none → length t ≤ s.limit
+pub over_limit_none : (s : Section) (t : List ℕ) → over_limit s t ≡ None → length t ≤ s.limit
 over_limit_none s t e = ltb-false s.limit (length t) (given_none _ _ e)
 
-module _ (ts : Texts) (e : texts_fault ts ≡ none) where
+module _ (ts : Texts) (e : texts_fault ts ≡ None) where
   pub texts_fault_none : WithinLimits ts
   unfolding texts_fault
   texts_fault_none =
@@ -247,7 +247,7 @@ module _ (ts : Texts) (e : texts_fault ts ≡ none) where
         tables = tables_limit ts.tables (tables_named ts.allow ts.deny ts.tables n.1);
       }
 
-  pub tables_frame_none : tables_frame ts.tables ≡ none
+  pub tables_frame_none : tables_frame ts.tables ≡ None
   tables_frame_none =
       let limits = limits_fault ts.allow ts.deny ts.byuid ts.portacl in
       let contents = contents_fault ts.allow ts.deny ts.byuid ts.portacl ts.tables in
@@ -256,7 +256,7 @@ module _ (ts : Texts) (e : texts_fault ts ≡ none) where
 
 -- the texts of a framed sheet are within their limits
 pub limits_framed : {sheet : List ℕ} {p : Parts} → Framed sheet p
-    → limits_fault (bytes_at sheet p.allow) (bytes_at sheet p.deny) (bytes_at sheet p.byuid) (bytes_at sheet p.portacl) ≡ none
+    → limits_fault (bytes_at sheet p.allow) (bytes_at sheet p.deny) (bytes_at sheet p.byuid) (bytes_at sheet p.portacl) ≡ None
 unfolding limits_fault
 limits_framed {sheet} {p} f =
     rw (
@@ -335,24 +335,24 @@ sheet_of_texts_at {sheet} {p} e f =
 
 -- ## Unpacking and packing
 
-pub unpack_answered : (sheet : List ℕ) (p : Parts) → unpack sheet ≡ answered p → Framed sheet p × (texts_fault (texts_at sheet p) ≡ none)
+pub unpack_answered : (sheet : List ℕ) (p : Parts) → unpack sheet ≡ Ok p → Framed sheet p × (texts_fault (texts_at sheet p) ≡ None)
 unfolding unpack
 unpack_answered sheet p e =
     let b = bind_answered (frame sheet) _ p e in
     let r = refusing_answered (texts_fault (texts_at sheet b.0)) b.0 p b.2 in
-    subst (λ q. Framed sheet q × (texts_fault (texts_at sheet q) ≡ none)) r.1 (frame_answered sheet b.0 b.1, r.0)
+    subst (λ q. Framed sheet q × (texts_fault (texts_at sheet q) ≡ None)) r.1 (frame_answered sheet b.0 b.1, r.0)
 
-pub answered_unpack : {sheet : List ℕ} {p : Parts} → Framed sheet p → texts_fault (texts_at sheet p) ≡ none → unpack sheet ≡ answered p
+pub answered_unpack : {sheet : List ℕ} {p : Parts} → Framed sheet p → texts_fault (texts_at sheet p) ≡ None → unpack sheet ≡ Ok p
 unfolding unpack
 answered_unpack f e = rw (answered_frame f, e)
 
-pub pack_answered : (ts : Texts) (room : ℕ) (sheet : List ℕ) → pack ts room ≡ answered sheet → (texts_fault ts ≡ none) × (sheet_of ts ≡ sheet)
+pub pack_answered : (ts : Texts) (room : ℕ) (sheet : List ℕ) → pack ts room ≡ Ok sheet → (texts_fault ts ≡ None) × (sheet_of ts ≡ sheet)
 unfolding pack
 pack_answered ts room sheet e =
     let b = bind_answered (refusing (texts_fault ts) (sheet_of ts)) _ sheet e in
     let r = refusing_answered (texts_fault ts) (sheet_of ts) b.0 b.1 in
     (r.0, r.1 ∙ (refusing_answered (given (ltb room (length b.0)) (placeless F.NoRoom)) b.0 sheet b.2).1)
 
-pub answered_pack : (ts : Texts) (room : ℕ) → texts_fault ts ≡ none → length (sheet_of ts) ≤ room → pack ts room ≡ answered (sheet_of ts)
+pub answered_pack : (ts : Texts) (room : ℕ) → texts_fault ts ≡ None → length (sheet_of ts) ≤ room → pack ts room ≡ Ok (sheet_of ts)
 unfolding pack
 answered_pack ts room e h = rw (e, le-ltb room (length (sheet_of ts)) h)

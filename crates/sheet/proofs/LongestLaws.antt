@@ -2,18 +2,18 @@
 -- one byte and whose text is 12,280 spaces. Its checks are computed.
 --   reached == it is accepted, and so long
 -- Assumes nothing.
+use Rattle.std.specs.Prelude.{None, Ok}
 use Prim.Native.Char.{code}
 use native.Mathlib.Omega.{arith}
 use mathlib.Core.Bool.{true}
 use mathlib.Core.List.{[], ◌∷◌, ◌++◌}
-use mathlib.Core.Option.{none}
 use mathlib.Core.Path.{◌≡◌, refl}
 use lib.ListN.{length, replicate}
 use lib.Dec.{ltb}
 use Rattle.text.specs.Basics.{any, all, first}
 use Rattle.text.specs.Text.{bytes, equal, split, split_once, intercalate}
 use Rattle.text.specs.Number.{from_digits, to_digits, numeral, read_decimal}
-use Rattle.section.specs.Refusal.{answered, lowest}
+use Rattle.section.specs.Refusal.{lowest}
 use Rattle.lines.specs.Line.{join, logical_lines, lines, has_bad_byte}
 use Rattle.lines.specs.Rule.{non_empty}
 use Rattle.patterns.specs.Pattern.{is_name_byte}
@@ -35,7 +35,7 @@ longest = record {
   tables = 0 ∷ 1 ∷ 1 ∷ code "a" ∷ counted (replicate 12280 (code " "));
 }
 
-pub longest_sound : texts_fault longest ≡ none
+pub longest_sound : texts_fault longest ≡ None
 unfolding
     texts_fault hosts_fault line_fault_by lowest lines logical_lines join has_bad_byte
     portacl_fault entry_fault entries read_entry read_decimal numeral from_digits split split_once equal intercalate
@@ -53,5 +53,5 @@ pub longest_length : length (sheet_of longest) ≡ 57360
 unfolding sheet_of to_digits intercalate
 longest_length = refl
 
-pub reached : unpack (sheet_of longest) ≡ answered (parts_of longest)
+pub reached : unpack (sheet_of longest) ≡ Ok (parts_of longest)
 reached = (unpack_pack longest 57360 (sheet_of longest) (answered_pack longest 57360 longest_sound (omega (arith, longest_length)))).0

@@ -3,10 +3,10 @@
 --   length_sheet_of, sheet_fits == how long a sheet is, and can be
 --   pack_refused, pack_no_room, pack_count == the three answers
 -- Assumes nothing.
+use Rattle.std.specs.Prelude.{Err, None, Ok, Result}
 use Prim.Native.Nat.{ℕ, ◌+◌, ◌/◌, ◌%◌, ◌≤◌, ◌<◌}
 use native.Mathlib.Omega.{arith}
 use mathlib.Core.List.{List, [], ◌∷◌, ◌++◌}
-use mathlib.Core.Option.{none}
 use mathlib.Core.Path.{◌≡◌, refl, sym, ap, ◌∙◌}
 use borrow.Author.Tests.{lt-ltb}
 use lib.ListN.{length, length-append}
@@ -16,10 +16,7 @@ use Rattle.text.proofs.Digits.{length_to_digits}
 use Rattle.text.proofs.PasteLaws.{put_put, put_first, put_more}
 use Rattle.section.specs.declared.Fault.TheVariants as F
 use Rattle.section.specs.declared.Refusal.{Refusal}
-use Rattle.section.specs.declared.Written.TheVariants as W
 use Rattle.section.specs.Refusal.{placeless, written_of, lent_after}
-use Rattle.sheet.specs.declared.texts.Checked.{Checked}
-use Rattle.sheet.specs.declared.texts.Checked.TheVariants as C
 use Rattle.sheet.specs.Sheet.{texts, texts_fault, counted, sheet_of, pack}
 use Rattle.sheet.specs.Code.{checked_of}
 use Rattle.sheet.proofs.FrameLaws.{texts_fault_none, answered_pack}
@@ -77,14 +74,14 @@ module _ (out a d b p t : List ℕ) (o₁ o₂ o₃ o₄ o₅ : List ℕ) (n₁ 
 
 -- ## The answers
 
-module _ (a d b p t : List ℕ) (x : Checked) (is_x : x ≡ checked_of (texts_fault (texts a d b p t))) where
-  pub pack_refused : (r : Refusal) → x ≡ C.Refused r → (out : List ℕ)
-      → (W.Refused r ≡ written_of (pack (texts a d b p t) (length out))) × (out ≡ lent_after out (pack (texts a d b p t) (length out)))
+module _ (a d b p t : List ℕ) (x : Result Unit Refusal) (is_x : x ≡ checked_of (texts_fault (texts a d b p t))) where
+  pub pack_refused : (r : Refusal) → x ≡ Err r → (out : List ℕ)
+      → (Err r ≡ written_of (pack (texts a d b p t) (length out))) × (out ≡ lent_after out (pack (texts a d b p t) (length out)))
   unfolding pack
   pack_refused r e out = rw (checked_refused (texts_fault (texts a d b p t)) r (sym is_x ∙ e)) (refl, refl)
 
-  module _ (e : x ≡ C.Sound) where
-    sound : texts_fault (texts a d b p t) ≡ none
+  module _ (e : x ≡ Ok tt) where
+    sound : texts_fault (texts a d b p t) ≡ None
     sound = checked_sound (texts_fault (texts a d b p t)) (sym is_x ∙ e)
 
     -- "the longest sheet is 57,360 bytes"
@@ -92,14 +89,14 @@ module _ (a d b p t : List ℕ) (x : Checked) (is_x : x ≡ checked_of (texts_fa
     sheet_fits = let w = texts_fault_none (texts a d b p t) sound in omega (arith, w.allow, w.deny, w.byuid, w.portacl, w.tables)
 
     pub pack_no_room : (out : List ℕ) → length out < 16 + length a + length d + length b + length p + length t → (r : Refusal) → r ≡ placeless F.NoRoom
-        → (W.Refused r ≡ written_of (pack (texts a d b p t) (length out))) × (out ≡ lent_after out (pack (texts a d b p t) (length out)))
+        → (Err r ≡ written_of (pack (texts a d b p t) (length out))) × (out ≡ lent_after out (pack (texts a d b p t) (length out)))
     unfolding pack
     pack_no_room out h r is-r =
         rw (sound, lt-ltb (length out) (length (sheet_of (texts a d b p t))) (omega (arith, length_sheet_of a d b p t)), is-r) (refl, refl)
 
     pub pack_count : (out o : List ℕ) (n : ℕ) → 16 + length a + length d + length b + length p + length t ≤ length out
         → (n ≡ length (sheet_of (texts a d b p t))) × (o ≡ after (sheet_of (texts a d b p t)) out)
-        → (W.Count n ≡ written_of (pack (texts a d b p t) (length out))) × (o ≡ lent_after out (pack (texts a d b p t) (length out)))
+        → (Ok n ≡ written_of (pack (texts a d b p t) (length out))) × (o ≡ lent_after out (pack (texts a d b p t) (length out)))
     unfolding after
     pack_count out o n h w =
-        rw (answered_pack (texts a d b p t) (length out) sound (omega (arith, length_sheet_of a d b p t))) (ap W.Count w.0, w.1)
+        rw (answered_pack (texts a d b p t) (length out) sound (omega (arith, length_sheet_of a d b p t))) (ap Ok w.0, w.1)

@@ -5,11 +5,11 @@
 --   unpack_pack == the sheet of packed texts is accepted, and its texts are those
 --   pack_unpack == the texts of an accepted sheet, given room, are packed to that sheet
 -- Assumes nothing.
+use Rattle.std.specs.Prelude.{Err, None, Ok, Some}
 use Prim.Native.Nat.{ℕ, ◌-◌, ◌≤◌, ◌<◌}
 use native.Mathlib.Omega.{arith}
 use mathlib.Core.Bool.{Bool, true, false}
 use mathlib.Core.List.{List}
-use mathlib.Core.Option.{none, some}
 use mathlib.Core.Path.{◌≡◌, refl, sym, ap, ◌∙◌}
 use borrow.Author.Tests.{ltb-true, ltb-false}
 use lib.ListN.{length, take, drop}
@@ -19,7 +19,7 @@ use Rattle.text.specs.Basics.{all}
 use Rattle.section.specs.declared.Fault.TheVariants as F
 use Rattle.section.specs.declared.Part.{Part}
 use Rattle.section.specs.declared.Refusal.{Refusal}
-use Rattle.section.specs.Refusal.{Outcome, refused, answered, ◌>>=◌, refusal}
+use Rattle.section.specs.Refusal.{Outcome, ◌>>=◌, refusal}
 use Rattle.section.specs.Section.{Section, bytes_at}
 use Rattle.tables.specs.Table.{tables_of, framed, tables_frame}
 use Rattle.tables.proofs.TableLaws.{tables_whole, frame_none, tables_cut}
@@ -37,10 +37,10 @@ use Rattle.sheet.proofs.FrameLaws.{sheet_of_texts_at, unpack_answered, answered_
 
 -- what is refused by 1 at one of the five sections
 abbrev pub Short : {A : Type 0} → Outcome A → Type 0
-Short o = (s : ℕ) × (1 ≤ s) × (s ≤ 5) × (o ≡ refused (refusal F.CutShort s 0))
+Short o = (s : ℕ) × (1 ≤ s) × (s ≤ 5) × (o ≡ Err (refusal F.CutShort s 0))
 
 -- a text that is not refused by its limits, with a cut section five
-limits_pass : (a d b p t : List ℕ) (g : Refusal) → limits_fault a d b p ≡ none → tables_frame t ≡ some g → texts_fault (texts a d b p t) ≡ some g
+limits_pass : (a d b p t : List ℕ) (g : Refusal) → limits_fault a d b p ≡ None → tables_frame t ≡ Some g → texts_fault (texts a d b p t) ≡ Some g
 limits_pass a d b p t g e f = rw (texts_fault_parts a d b p t, e, f)
 
 module _ (sheet : List ℕ) (k : ℕ) (less : k < length sheet) where
@@ -91,8 +91,8 @@ module _ (sheet : List ℕ) (k : ℕ) (less : k < length sheet) where
           ap (λ (m : ℕ). take (m - e) (drop e (take k sheet))) (length-take-le k sheet (omega arith))
           ∙ take_drop_take (k - e) e k sheet (omega arith) ∙ ap (take (k - e)) (sym (tables_rest f))
 
-      tables_short : tables_frame (bytes_at sheet p.tables) ≡ none
-          → tables_frame (bytes_at (take k sheet) cut_parts.tables) ≡ some (refusal F.CutShort 5 0)
+      tables_short : tables_frame (bytes_at sheet p.tables) ≡ None
+          → tables_frame (bytes_at (take k sheet) cut_parts.tables) ≡ Some (refusal F.CutShort 5 0)
       unfolding tables_frame
       tables_short e =
           let t : List ℕ = bytes_at sheet p.tables in
@@ -100,17 +100,17 @@ module _ (sheet : List ℕ) (k : ℕ) (less : k < length sheet) where
           rw tables_left
           (ap framed (tables_cut t (k - part_end p.portacl) (tables_of t) (tables_whole t (frame_none t e)) fewer))
 
-      unpack_short : tables_frame (bytes_at sheet p.tables) ≡ none → Short (unpack (take k sheet))
+      unpack_short : tables_frame (bytes_at sheet p.tables) ≡ None → Short (unpack (take k sheet))
       unfolding unpack
       unpack_short e =
           rw (answered_frame framed_cut, limits_pass _ _ _ _ _ (refusal F.CutShort 5 0) (limits_framed framed_cut) (tables_short e))
           (5, omega arith, omega arith, refl)
 
-pub cut_short : (sheet : List ℕ) (n : ℕ) (p : Parts) → unpack sheet ≡ answered p → n < length sheet → Short (unpack (take n sheet))
+pub cut_short : (sheet : List ℕ) (n : ℕ) (p : Parts) → unpack sheet ≡ Ok p → n < length sheet → Short (unpack (take n sheet))
 unfolding unpack
 cut_short sheet n p e less = by (ltb n (part_end p.portacl)) refl
   where
-    accepted : Framed sheet p × (texts_fault (texts_at sheet p) ≡ none)
+    accepted : Framed sheet p × (texts_fault (texts_at sheet p) ≡ None)
     accepted = unpack_answered sheet p e
 
     by : (b : Bool) → ltb n (part_end p.portacl) ≡ b → Short (unpack (take n sheet))
@@ -123,7 +123,7 @@ cut_short sheet n p e less = by (ltb n (part_end p.portacl)) refl
 -- ## The longest sheet
 
 -- "the longest sheet is 57,360 bytes"
-pub at_most : (sheet : List ℕ) (p : Parts) → unpack sheet ≡ answered p → length sheet ≤ 57360
+pub at_most : (sheet : List ℕ) (p : Parts) → unpack sheet ≡ Ok p → length sheet ≤ 57360
 at_most sheet p e =
     let accepted = unpack_answered sheet p e in
     let f = accepted.0 in
@@ -142,7 +142,7 @@ at_most sheet p e =
       tables_length f,
     )
 
-pub whole : (sheet : List ℕ) (p : Parts) → unpack (take 57361 sheet) ≡ answered p → take 57361 sheet ≡ sheet
+pub whole : (sheet : List ℕ) (p : Parts) → unpack (take 57361 sheet) ≡ Ok p → take 57361 sheet ≡ sheet
 whole sheet p e = by (ltb 57361 (length sheet)) refl
   where
     by : (b : Bool) → ltb 57361 (length sheet) ≡ b → take 57361 sheet ≡ sheet
@@ -153,7 +153,7 @@ whole sheet p e = by (ltb 57361 (length sheet)) refl
 
 -- ## Packing and unpacking
 
-pub unpack_pack : (ts : Texts) (room : ℕ) (sheet : List ℕ) → pack ts room ≡ answered sheet → (unpack sheet ≡ answered (parts_of ts))
+pub unpack_pack : (ts : Texts) (room : ℕ) (sheet : List ℕ) → pack ts room ≡ Ok sheet → (unpack sheet ≡ Ok (parts_of ts))
     × (texts_at sheet (parts_of ts) ≡ ts)
 unpack_pack ts room sheet e =
     let a = pack_answered ts room sheet e in
@@ -161,9 +161,9 @@ unpack_pack ts room sheet e =
     let same = texts_at_parts_of ts sheet is in
     (answered_unpack (framed_parts_of ts sheet is (texts_fault_none ts a.0)) (ap texts_fault same ∙ a.0), same)
 
-pub pack_unpack : (sheet : List ℕ) (p : Parts) (room : ℕ) → all (λ b. ltb b 256) sheet ≡ true → unpack sheet ≡ answered p → length sheet ≤ room
-    → pack (texts_at sheet p) room ≡ answered sheet
+pub pack_unpack : (sheet : List ℕ) (p : Parts) (room : ℕ) → all (λ b. ltb b 256) sheet ≡ true → unpack sheet ≡ Ok p → length sheet ≤ room
+    → pack (texts_at sheet p) room ≡ Ok sheet
 pack_unpack sheet p room bytes e h =
     let a = unpack_answered sheet p e in
     let same = sheet_of_texts_at bytes a.0 in
-    answered_pack (texts_at sheet p) room a.1 (rw same h) ∙ ap answered same
+    answered_pack (texts_at sheet p) room a.1 (rw same h) ∙ ap Ok same

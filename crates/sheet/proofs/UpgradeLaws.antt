@@ -3,10 +3,10 @@
 --   put_upgraded, upgrade_refused, upgrade_no_room, upgrade_count == what is written, and the three answers
 --   upgraded == the frame and the texts of what is written: the same four, and no tables
 -- Assumes nothing.
+use Rattle.std.specs.Prelude.{Err, None, Ok, Result}
 use Prim.Native.Nat.{ℕ, ◌+◌, ◌-◌, ◌≤◌, ◌<◌}
 use native.Mathlib.Omega.{arith}
 use mathlib.Core.List.{List, [], ◌∷◌, ◌++◌}
-use mathlib.Core.Option.{none}
 use mathlib.Core.Path.{◌≡◌, refl, sym, ap, ◌∙◌}
 use borrow.Author.Tests.{lt-ltb, le-ltb, ltb-false}
 use lib.ListN.{length, take, drop, length-append}
@@ -17,8 +17,7 @@ use Rattle.text.proofs.PasteLaws.{put_first, put_more}
 use Rattle.section.specs.declared.Fault.TheVariants as F
 use Rattle.section.specs.declared.Part.{Part}
 use Rattle.section.specs.declared.Refusal.{Refusal}
-use Rattle.section.specs.declared.Written.TheVariants as W
-use Rattle.section.specs.Refusal.{Outcome, refused, answered, placeless, written_of, lent_after}
+use Rattle.section.specs.Refusal.{Outcome, placeless, written_of, lent_after}
 use Rattle.section.specs.Section as S
 use Rattle.section.specs.Section.{bytes_at, Section, part}
 use Rattle.tables.specs.Table.{read_each, read_tables, tables_frame}
@@ -27,10 +26,6 @@ use Rattle.rules.specs.Code.{lines_fault}
 use Rattle.byuid.specs.Byuid.{byuid_fault}
 use Rattle.portacl.specs.Portacl.{portacl_fault}
 use Rattle.sheet.specs.declared.Parts.{Parts}
-use Rattle.sheet.specs.declared.frame.Framed.{Framed as FramedRead}
-use Rattle.sheet.specs.declared.frame.Framed.TheVariants as Fr
-use Rattle.sheet.specs.declared.texts.Checked.{Checked}
-use Rattle.sheet.specs.declared.texts.Checked.TheVariants as C
 use Rattle.sheet.specs.Sheet.{Texts, texts, texts_at, texts_fault, part_end, frame, unpack, nothing_after, four_frame, upgrade}
 use Rattle.sheet.specs.Code.{checked_of, framed_of, contents_fault}
 use Rattle.sheet.proofs.TextsLaws.{checked_sound, checked_refused, texts_fault_parts}
@@ -40,17 +35,17 @@ use Rattle.sheet.proofs.UnpackLaws.{framed_refused, framed_parts}
 
 -- ## The check
 
-module _ (sheet : List ℕ) (x : FramedRead) (is_x : x ≡ framed_of (frame sheet)) where
-  pub four_refused : (g : Refusal) → x ≡ Fr.Refused g → C.Refused g ≡ checked_of (four_frame sheet)
+module _ (sheet : List ℕ) (x : Result Parts Refusal) (is_x : x ≡ framed_of (frame sheet)) where
+  pub four_refused : (g : Refusal) → x ≡ Err g → Err g ≡ checked_of (four_frame sheet)
   unfolding four_frame
   four_refused g e = rw (framed_refused (frame sheet) g (sym is_x ∙ e))
 
-  module _ (p : Parts) (e : x ≡ Fr.Parts p) where
-    pub four_trailing : 0 < p.tables.len → (g : Refusal) → g ≡ placeless F.TrailingBytes → C.Refused g ≡ checked_of (four_frame sheet)
+  module _ (p : Parts) (e : x ≡ Ok p) where
+    pub four_trailing : 0 < p.tables.len → (g : Refusal) → g ≡ placeless F.TrailingBytes → Err g ≡ checked_of (four_frame sheet)
     unfolding four_frame
     four_trailing h g is-g = rw (framed_parts (frame sheet) p (sym is_x ∙ e), lt-ltb 0 p.tables.len h, is-g)
 
-    pub four_sound : p.tables.len ≤ 0 → C.Sound ≡ checked_of (four_frame sheet)
+    pub four_sound : p.tables.len ≤ 0 → Ok tt ≡ checked_of (four_frame sheet)
     unfolding four_frame
     four_sound h = rw (framed_parts (frame sheet) p (sym is_x ∙ e), le-ltb 0 p.tables.len h)
 
@@ -66,28 +61,28 @@ put_upgraded out sheet o₁ o₂ n₁ n₂ w₁ w₂ =
     let s₁ = put_first out o₁ sheet w₁.1 in
     (omega (arith, w₁.0, w₂.0, length-append sheet (0 ∷ 0 ∷ [])), put_more out o₁ o₂ sheet (0 ∷ 0 ∷ []) n₁ w₂.1 s₁ (omega (arith, w₁.0)))
 
-module _ (sheet : List ℕ) (x : Checked) (is_x : x ≡ checked_of (four_frame sheet)) where
-  pub upgrade_refused : (r : Refusal) → x ≡ C.Refused r → (out : List ℕ)
-      → (W.Refused r ≡ written_of (upgrade sheet (length out))) × (out ≡ lent_after out (upgrade sheet (length out)))
+module _ (sheet : List ℕ) (x : Result Unit Refusal) (is_x : x ≡ checked_of (four_frame sheet)) where
+  pub upgrade_refused : (r : Refusal) → x ≡ Err r → (out : List ℕ)
+      → (Err r ≡ written_of (upgrade sheet (length out))) × (out ≡ lent_after out (upgrade sheet (length out)))
   unfolding upgrade
   upgrade_refused r e out = rw (checked_refused (four_frame sheet) r (sym is_x ∙ e)) (refl, refl)
 
-  module _ (e : x ≡ C.Sound) where
-    is_four : four_frame sheet ≡ none
+  module _ (e : x ≡ Ok tt) where
+    is_four : four_frame sheet ≡ None
     is_four = checked_sound (four_frame sheet) (sym is_x ∙ e)
 
     pub upgrade_no_room : (out : List ℕ) → length out < length sheet + 2 → (r : Refusal) → r ≡ placeless F.NoRoom
-        → (W.Refused r ≡ written_of (upgrade sheet (length out))) × (out ≡ lent_after out (upgrade sheet (length out)))
+        → (Err r ≡ written_of (upgrade sheet (length out))) × (out ≡ lent_after out (upgrade sheet (length out)))
     unfolding upgrade
     upgrade_no_room out h r is-r =
         rw (is_four, lt-ltb (length out) (length (sheet ++ 0 ∷ 0 ∷ [])) (omega (arith, length-append sheet (0 ∷ 0 ∷ []))), is-r) (refl, refl)
 
     pub upgrade_count : (out o : List ℕ) (n : ℕ) → length sheet + 2 ≤ length out
         → (n ≡ length (sheet ++ 0 ∷ 0 ∷ [])) × (o ≡ after (sheet ++ 0 ∷ 0 ∷ []) out)
-        → (W.Count n ≡ written_of (upgrade sheet (length out))) × (o ≡ lent_after out (upgrade sheet (length out)))
+        → (Ok n ≡ written_of (upgrade sheet (length out))) × (o ≡ lent_after out (upgrade sheet (length out)))
     unfolding upgrade after
     upgrade_count out o n h w =
-        rw (is_four, le-ltb (length out) (length (sheet ++ 0 ∷ 0 ∷ [])) (omega (arith, length-append sheet (0 ∷ 0 ∷ [])))) (ap W.Count w.0, w.1)
+        rw (is_four, le-ltb (length out) (length (sheet ++ 0 ∷ 0 ∷ [])) (omega (arith, length-append sheet (0 ∷ 0 ∷ [])))) (ap Ok w.0, w.1)
 
 -- ## What it makes of a sheet
 
@@ -107,7 +102,7 @@ bytes_at_more : {s : Section} {at : ℕ} {sheet : List ℕ} {p : Part} (t : List
 bytes_at_more {sheet = sheet} {p} t f = take_drop_more p.len p.place sheet t (omega (arith, f.place, f.within))
 
 -- the two zero bytes of an empty count: no tables, and nothing after them
-pub no_tables_lem : tables_frame (0 ∷ 0 ∷ []) ≡ none
+pub no_tables_lem : tables_frame (0 ∷ 0 ∷ []) ≡ None
 unfolding tables_frame read_tables read_each from_digits
 no_tables_lem = refl
 
@@ -116,22 +111,22 @@ abbrev pub four_texts : List ℕ → Parts → Texts
 four_texts sheet p = texts (bytes_at sheet p.allow) (bytes_at sheet p.deny) (bytes_at sheet p.byuid) (bytes_at sheet p.portacl) (0 ∷ 0 ∷ [])
 
 pub record Upgraded (sheet : List ℕ) (p : Parts) : Type 0 where
-  pub was : frame sheet ≡ answered p
-  pub framed : frame (sheet ++ 0 ∷ 0 ∷ []) ≡ answered (with_tables p (part (length sheet) 2))
+  pub was : frame sheet ≡ Ok p
+  pub framed : frame (sheet ++ 0 ∷ 0 ∷ []) ≡ Ok (with_tables p (part (length sheet) 2))
   pub found : texts_at (sheet ++ 0 ∷ 0 ∷ []) (with_tables p (part (length sheet) 2)) ≡ four_texts sheet p
   -- accepted where its lines and entries are sound, no rule names a table and no line is of the retired form
-  pub accepted : hosts_fault S.allow (bytes_at sheet p.allow) ≡ none → hosts_fault S.deny (bytes_at sheet p.deny) ≡ none
-      → portacl_fault (bytes_at sheet p.portacl) ≡ none → tables_fault (bytes_at sheet p.allow) (bytes_at sheet p.deny) (0 ∷ 0 ∷ []) ≡ none
-      → byuid_fault (bytes_at sheet p.byuid) ≡ none → unpack (sheet ++ 0 ∷ 0 ∷ []) ≡ answered (with_tables p (part (length sheet) 2))
+  pub accepted : hosts_fault S.allow (bytes_at sheet p.allow) ≡ None → hosts_fault S.deny (bytes_at sheet p.deny) ≡ None
+      → portacl_fault (bytes_at sheet p.portacl) ≡ None → tables_fault (bytes_at sheet p.allow) (bytes_at sheet p.deny) (0 ∷ 0 ∷ []) ≡ None
+      → byuid_fault (bytes_at sheet p.byuid) ≡ None → unpack (sheet ++ 0 ∷ 0 ∷ []) ≡ Ok (with_tables p (part (length sheet) 2))
 
 module _ (sheet : List ℕ) where
-  four_parts : four_frame sheet ≡ none → (p : Parts) × (frame sheet ≡ answered p) × (p.tables.len ≤ 0)
+  four_parts : four_frame sheet ≡ None → (p : Parts) × (frame sheet ≡ Ok p) × (p.tables.len ≤ 0)
   unfolding four_frame
   four_parts e = by (frame sheet) refl e
     where
-      by : (o : Outcome Parts) → frame sheet ≡ o → nothing_after o ≡ none → (p : Parts) × (frame sheet ≡ answered p) × (p.tables.len ≤ 0)
-      by (refused r) f g = let z : ◌≡◌ {A = ℕ} 0 1 = cc in absurd (omega arith)
-      by (answered p) f g = (p, f, ltb-false 0 p.tables.len (given_none _ _ g))
+      by : (o : Outcome Parts) → frame sheet ≡ o → nothing_after o ≡ None → (p : Parts) × (frame sheet ≡ Ok p) × (p.tables.len ≤ 0)
+      by (Err r) f g = let z : ◌≡◌ {A = ℕ} 0 1 = cc in absurd (omega arith)
+      by (Ok p) f g = (p, f, ltb-false 0 p.tables.len (given_none _ _ g))
 
   module _ (p : Parts) (f : Framed sheet p) (last : p.tables.len ≤ 0) where
     abbrev more : List ℕ
@@ -165,9 +160,9 @@ module _ (sheet : List ℕ) where
           drop-append_seam sheet (0 ∷ 0 ∷ []),
         )
 
-  texts_sound : (p : Parts) → Framed sheet p → hosts_fault S.allow (bytes_at sheet p.allow) ≡ none → hosts_fault S.deny (bytes_at sheet p.deny) ≡ none
-      → portacl_fault (bytes_at sheet p.portacl) ≡ none → tables_fault (bytes_at sheet p.allow) (bytes_at sheet p.deny) (0 ∷ 0 ∷ []) ≡ none
-      → byuid_fault (bytes_at sheet p.byuid) ≡ none → texts_fault (four_texts sheet p) ≡ none
+  texts_sound : (p : Parts) → Framed sheet p → hosts_fault S.allow (bytes_at sheet p.allow) ≡ None → hosts_fault S.deny (bytes_at sheet p.deny) ≡ None
+      → portacl_fault (bytes_at sheet p.portacl) ≡ None → tables_fault (bytes_at sheet p.allow) (bytes_at sheet p.deny) (0 ∷ 0 ∷ []) ≡ None
+      → byuid_fault (bytes_at sheet p.byuid) ≡ None → texts_fault (four_texts sheet p) ≡ None
   unfolding contents_fault lines_fault
   texts_sound p f allow deny portacl naming byuid =
       rw (
@@ -181,7 +176,7 @@ module _ (sheet : List ℕ) where
         byuid,
       )
 
-  pub upgraded : four_frame sheet ≡ none → (p : Parts) × Upgraded sheet p
+  pub upgraded : four_frame sheet ≡ None → (p : Parts) × Upgraded sheet p
   upgraded e =
       let h = four_parts e in
       let f = frame_answered sheet h.0 h.1 in

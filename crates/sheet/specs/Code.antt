@@ -6,40 +6,31 @@
 --   section_of c      == the section of a cursor
 --   from_deny sheet a, from_byuid sheet a d, from_portacl sheet a d b == what is left of frame, once the parts before are read
 -- Assumes nothing: these are definitions.
-use Rattle.std.specs.Prelude.{ℕ, List}
-use Rattle.std.proofs.Math.Option.{Option, none, some}
+use Rattle.std.specs.Prelude.{ℕ, List, Err, None, Ok, Option, Result, Some}
 use Rattle.text.specs.Basics.{◌or_else◌}
 use Rattle.section.specs.declared.Cursor.{Cursor}
 use Rattle.section.specs.declared.Part.{Part}
 use Rattle.section.specs.declared.Refusal.{Refusal}
-use Rattle.section.specs.Refusal.{Outcome, refused, answered, ◌>>=◌}
+use Rattle.section.specs.Refusal.{Outcome, ◌>>=◌}
 use Rattle.section.specs.Section as S
 use Rattle.section.specs.Section.{Section, over_limit}
-use Rattle.rules.specs.declared.hosts_file.Pass.{Pass}
-use Rattle.rules.specs.declared.hosts_file.Pass.TheVariants as P
 use Rattle.rules.specs.Check.{tables_fault}
 use Rattle.rules.specs.Code.{lines_fault}
 use Rattle.byuid.specs.Byuid.{byuid_fault}
 use Rattle.portacl.specs.Portacl.{portacl_fault}
 use Rattle.sheet.specs.declared.Parts.{Parts}
-use Rattle.sheet.specs.declared.texts.Checked.{Checked}
-use Rattle.sheet.specs.declared.texts.Checked.TheVariants as C
-use Rattle.sheet.specs.declared.frame.SectionRead.{SectionRead}
-use Rattle.sheet.specs.declared.frame.SectionRead.TheVariants as R
-use Rattle.sheet.specs.declared.frame.Framed.{Framed}
-use Rattle.sheet.specs.declared.frame.Framed.TheVariants as Fr
 use Rattle.sheet.specs.Sheet.{section_at, part_end, rest_after}
 
 -- ## Texts
 
-abbrev pub checked_of : Option Refusal → Checked
-checked_of none = C.Sound
-checked_of (some r) = C.Refused r
+abbrev pub checked_of : Option Refusal → Result Unit Refusal
+checked_of None = Ok tt
+checked_of (Some r) = Err r
 
-abbrev pub checked_by : Pass → Checked
-checked_by (P.Faulty r) = C.Refused r
-checked_by P.Unmatched = C.Sound
-checked_by (P.Matched a) = C.Sound
+abbrev pub checked_by : Result (Option Answer) Refusal → Result Unit Refusal
+checked_by (Err r) = Err r
+checked_by (Ok None) = Ok tt
+checked_by (Ok (Some a)) = Ok tt
 
 unfoldable pub limits_fault : List ℕ → List ℕ → List ℕ → List ℕ → Option Refusal
 limits_fault allow deny byuid portacl =
@@ -54,18 +45,18 @@ contents_fault allow deny byuid portacl tables =
 abbrev pub section_of : Cursor → Section
 section_of c = record { order = c.order; limit = c.limit }
 
-abbrev pub section_read_of : Outcome Part → SectionRead
-section_read_of (refused r) = R.Refused r
-section_read_of (answered p) = R.Found p
+abbrev pub section_read_of : Outcome Part → Result Part Refusal
+section_read_of (Err r) = Err r
+section_read_of (Ok p) = Ok p
 
-abbrev pub framed_of : Outcome Parts → Framed
-framed_of (refused r) = Fr.Refused r
-framed_of (answered p) = Fr.Parts p
+abbrev pub framed_of : Outcome Parts → Result Parts Refusal
+framed_of (Err r) = Err r
+framed_of (Ok p) = Ok p
 
 unfoldable pub from_portacl : List ℕ → Part → Part → Part → Outcome Parts
 from_portacl sheet a d b = do
   p ← section_at S.portacl (part_end b) sheet
-  answered (record { allow = a; deny = d; byuid = b; portacl = p; tables = rest_after sheet p })
+  Ok (record { allow = a; deny = d; byuid = b; portacl = p; tables = rest_after sheet p })
 
 unfoldable pub from_byuid : List ℕ → Part → Part → Outcome Parts
 from_byuid sheet a d = do

@@ -6,14 +6,13 @@
 --   four_frame sheet   == the refusal of a sheet of document 01 by its frame
 --   upgrade sheet room == such a sheet with an empty fifth section, into room bytes
 -- Assumes nothing: these are definitions.
-use Rattle.std.specs.Prelude.{ℕ, ◌+◌, ◌-◌, List, [], ◌∷◌, ◌++◌, length, take, drop, ltb}
-use Rattle.std.proofs.Math.Option.{Option, some}
+use Rattle.std.specs.Prelude.{ℕ, ◌+◌, ◌-◌, List, [], ◌∷◌, ◌++◌, length, take, drop, ltb, Err, Ok, Option, Result, Some}
 use Rattle.text.specs.Basics.{when◌then◌else◌, ◌or_else◌, given}
 use Rattle.text.specs.Number.{from_digits, to_digits}
 use Rattle.section.specs.declared.Fault.TheVariants as F
 use Rattle.section.specs.declared.Part.{Part}
 use Rattle.section.specs.declared.Refusal.{Refusal}
-use Rattle.section.specs.Refusal.{Outcome, refused, answered, ◌>>=◌, refusal, placeless, refusing, within_room}
+use Rattle.section.specs.Refusal.{Outcome, ◌>>=◌, refusal, placeless, refusing, within_room}
 use Rattle.section.specs.Section as S
 use Rattle.section.specs.Section.{bytes_at, Section, part, over_limit}
 use Rattle.tables.specs.Table.{tables_frame}
@@ -21,8 +20,6 @@ use Rattle.rules.specs.Check.{hosts_fault, tables_fault}
 use Rattle.byuid.specs.Byuid.{byuid_fault}
 use Rattle.portacl.specs.Portacl.{portacl_fault}
 use Rattle.sheet.specs.declared.Parts.{Parts}
-use Rattle.sheet.specs.declared.unpack.Unpacked.{Unpacked}
-use Rattle.sheet.specs.declared.unpack.Unpacked.TheVariants as U
 
 -- ## Five texts
 
@@ -66,10 +63,10 @@ unfoldable pub section_at : Section → ℕ → List ℕ → Outcome Part
 section_at s at sheet =
     let rest : List ℕ = drop at sheet in
     let n : ℕ = from_digits 256 0 (take 4 rest) in
-    when ltb (length rest) 4 then refused (refusal F.CutShort s.order 0)
-    else when ltb s.limit n then refused (refusal F.OverLimit s.order 0)
-    else when ltb (length rest) (4 + n) then refused (refusal F.CutShort s.order 0)
-    else answered (part (at + 4) n)
+    when ltb (length rest) 4 then Err (refusal F.CutShort s.order 0)
+    else when ltb s.limit n then Err (refusal F.OverLimit s.order 0)
+    else when ltb (length rest) (4 + n) then Err (refusal F.CutShort s.order 0)
+    else Ok (part (at + 4) n)
 
 abbrev pub part_end : Part → ℕ
 part_end p = p.place + p.len
@@ -86,7 +83,7 @@ frame sheet = do
   d ← section_at S.deny (part_end a) sheet
   b ← section_at S.byuid (part_end d) sheet
   p ← section_at S.portacl (part_end b) sheet
-  answered (record { allow = a; deny = d; byuid = b; portacl = p; tables = rest_after sheet p })
+  Ok (record { allow = a; deny = d; byuid = b; portacl = p; tables = rest_after sheet p })
 
 -- ## The calls
 
@@ -97,9 +94,9 @@ unpack sheet = do
   refusing (texts_fault (texts_at sheet p)) p
 
 -- the outcome as the call answers it
-abbrev pub unpacked_of : Outcome Parts → Unpacked
-unpacked_of (refused r) = U.Refused r
-unpacked_of (answered p) = U.Parts p
+abbrev pub unpacked_of : Outcome Parts → Result Parts Refusal
+unpacked_of (Err r) = Err r
+unpacked_of (Ok p) = Ok p
 
 abbrev pub counted : List ℕ → List ℕ
 counted t = to_digits 256 4 (length t) ++ t
@@ -115,8 +112,8 @@ pack ts room = refusing (texts_fault ts) (sheet_of ts) >>= within_room room
 
 -- document 01: "per section in turn ..; then 3": "bytes follow the last section"
 abbrev pub nothing_after : Outcome Parts → Option Refusal
-nothing_after (refused r) = some r
-nothing_after (answered p) = given (ltb 0 p.tables.len) (placeless F.TrailingBytes)
+nothing_after (Err r) = Some r
+nothing_after (Ok p) = given (ltb 0 p.tables.len) (placeless F.TrailingBytes)
 
 unfoldable pub four_frame : List ℕ → Option Refusal
 four_frame sheet = nothing_after (frame sheet)

@@ -3,26 +3,12 @@
 //   frame(sheet)              == the parts of all sections; the last goes to the sheet's end
 ghost use Rattle.std.specs.Prelude.{◌≡◌, ◌≤◌, length, take, drop};
 ghost use Rattle.text.specs.Number.{from_digits};
-ghost use Rattle.section.specs.Refusal.{refusal, refused};
+ghost use Rattle.section.specs.Refusal.{refusal};
 ghost use Rattle.sheet.specs.Sheet.{section_at, part_end, rest_after, frame as frame_of};
 ghost use Rattle.sheet.specs.Code.{section_of, section_read_of, framed_of, from_deny, from_byuid, from_portacl};
 
 use crate::Parts;
 use section::{Allow, Byuid, Cursor, Deny, Fault, Part, Portacl, Refusal};
-
-// What reading a section answers: a refusal, or the part that holds its text.
-#[derive(Clone, Copy)]
-pub enum SectionRead {
-    Refused(Refusal),
-    Found(Part),
-}
-
-// What reading a frame answers.
-#[derive(Clone, Copy)]
-pub enum Framed {
-    Refused(Refusal),
-    Parts(Parts),
-}
 
 // What stands from a place on, empty where that is past the end.
 fn bytes_from(s: &[u8], at: usize) -> &[u8]
@@ -47,10 +33,10 @@ fn read_count(s: &[u8]) -> usize
 }
 
 // The refusal of the cursor's section.
-fn refuse(cursor: Cursor, fault: Fault) -> SectionRead
-    ensures { result ≡ section_read_of (refused (refusal fault cursor.order 0)) }
+fn refuse(cursor: Cursor, fault: Fault) -> Result<Part, Refusal>
+    ensures { result ≡ section_read_of (Err (refusal fault cursor.order 0)) }
 {
-    SectionRead::Refused(Refusal {
+    Err(Refusal {
         fault,
         section: cursor.order,
         line: 0,
@@ -58,7 +44,7 @@ fn refuse(cursor: Cursor, fault: Fault) -> SectionRead
 }
 
 // The part of the cursor's section: its count present, its limit, its bytes present.
-pub fn section_at(sheet: &[u8], cursor: Cursor) -> SectionRead
+pub fn section_at(sheet: &[u8], cursor: Cursor) -> Result<Part, Refusal>
     ensures { result ≡ section_read_of (section_at (section_of cursor) cursor.at sheet.now) }
 {
     let rest = bytes_from(sheet, cursor.at);
@@ -72,7 +58,7 @@ pub fn section_at(sheet: &[u8], cursor: Cursor) -> SectionRead
     if rest.len() - 4 < n {
         return refuse(cursor, Fault::CutShort);
     }
-    SectionRead::Found(Part {
+    Ok(Part {
         place: cursor.at + 4,
         len: n,
     })
@@ -91,13 +77,13 @@ fn rest_after(sheet: &[u8], part: Part) -> Part
 }
 
 // The frame, read from portacl on.
-fn from_portacl(sheet: &[u8], allow: Part, deny: Part, byuid: Part) -> Framed
+fn from_portacl(sheet: &[u8], allow: Part, deny: Part, byuid: Part) -> Result<Parts, Refusal>
     requires { part_end byuid ≤ length sheet.now }
     ensures { result ≡ framed_of (from_portacl sheet.now allow deny byuid) }
 {
     match section_at(sheet, Portacl::cursor(byuid.place + byuid.len)) {
-        SectionRead::Refused(refusal) => Framed::Refused(refusal),
-        SectionRead::Found(portacl) => Framed::Parts(Parts {
+        Err(refusal) => Err(refusal),
+        Ok(portacl) => Ok(Parts {
             allow,
             deny,
             byuid,
@@ -108,33 +94,33 @@ fn from_portacl(sheet: &[u8], allow: Part, deny: Part, byuid: Part) -> Framed
 }
 
 // The frame, read from byuid on.
-fn from_byuid(sheet: &[u8], allow: Part, deny: Part) -> Framed
+fn from_byuid(sheet: &[u8], allow: Part, deny: Part) -> Result<Parts, Refusal>
     requires { part_end deny ≤ length sheet.now }
     ensures { result ≡ framed_of (from_byuid sheet.now allow deny) }
 {
     match section_at(sheet, Byuid::cursor(deny.place + deny.len)) {
-        SectionRead::Refused(refusal) => Framed::Refused(refusal),
-        SectionRead::Found(byuid) => from_portacl(sheet, allow, deny, byuid),
+        Err(refusal) => Err(refusal),
+        Ok(byuid) => from_portacl(sheet, allow, deny, byuid),
     }
 }
 
 // The frame, read from deny on.
-fn from_deny(sheet: &[u8], allow: Part) -> Framed
+fn from_deny(sheet: &[u8], allow: Part) -> Result<Parts, Refusal>
     requires { part_end allow ≤ length sheet.now }
     ensures { result ≡ framed_of (from_deny sheet.now allow) }
 {
     match section_at(sheet, Deny::cursor(allow.place + allow.len)) {
-        SectionRead::Refused(refusal) => Framed::Refused(refusal),
-        SectionRead::Found(deny) => from_byuid(sheet, allow, deny),
+        Err(refusal) => Err(refusal),
+        Ok(deny) => from_byuid(sheet, allow, deny),
     }
 }
 
 // The parts of all sections; the last goes to the sheet's end.
-pub fn frame(sheet: &[u8]) -> Framed
+pub fn frame(sheet: &[u8]) -> Result<Parts, Refusal>
     ensures { result ≡ framed_of (frame_of sheet.now) }
 {
     match section_at(sheet, Allow::cursor(0)) {
-        SectionRead::Refused(refusal) => Framed::Refused(refusal),
-        SectionRead::Found(allow) => from_deny(sheet, allow),
+        Err(refusal) => Err(refusal),
+        Ok(allow) => from_deny(sheet, allow),
     }
 }

@@ -7,8 +7,7 @@ ghost use Rattle.section.specs.Refusal.{written_of, lent_after};
 ghost use Rattle.sheet.specs.Sheet.{texts, counted, sheet_of};
 ghost use Rattle.sheet.specs.Sheet.{pack as packOf};
 
-use crate::texts::Checked;
-use section::{Fault, Written};
+use section::Fault;
 
 // Writes the last 32 bits of n as four bytes, most significant first, from at on, and answers the place after them.
 pub fn put_count(out: &mut [u8], at: usize, n: usize) -> usize
@@ -66,7 +65,7 @@ pub fn pack(
     byuid: &[u8],
     portacl: &[u8],
     tables: &[u8],
-) -> Written
+) -> Result<usize, Refusal>
     ensures answer { result
         ≡ written_of (packOf
         (texts allow.now deny.now byuid.now portacl.now tables.now) (length out.old)) }
@@ -76,14 +75,14 @@ pub fn pack(
         (length out.old)) }
 {
     match crate::texts::check_texts(allow, deny, byuid, portacl, tables) {
-        Checked::Refused(refusal) => Written::Refused(refusal),
-        Checked::Sound => {
+        Err(refusal) => Err(refusal),
+        Ok(()) => {
             if out.len()
                 < 16 + allow.len() + deny.len() + byuid.len() + portacl.len() + tables.len()
             {
-                return Written::Refused(section::placeless(Fault::NoRoom));
+                return Err(section::placeless(Fault::NoRoom));
             }
-            Written::Count(put_sheet(out, allow, deny, byuid, portacl, tables))
+            Ok(put_sheet(out, allow, deny, byuid, portacl, tables))
         }
     }
 }

@@ -1,6 +1,5 @@
 // The checks of the five texts of a sheet.
 //   check_texts(allow, deny, byuid, portacl, tables) == their first refusal, if there is one: limits, the frame of the tables, contents
-ghost use Rattle.std.proofs.Math.Option.{none};
 ghost use Rattle.std.specs.Prelude.{◌≡◌};
 ghost use Rattle.text.specs.Basics.{◌or_else◌};
 ghost use Rattle.tables.specs.Table.{tables_frame};
@@ -9,112 +8,104 @@ ghost use Rattle.portacl.specs.Portacl.{portacl_fault};
 ghost use Rattle.sheet.specs.Sheet.{texts, texts_fault};
 ghost use Rattle.sheet.specs.Code.{checked_of, checked_by, limits_fault, contents_fault};
 
-use rules::hosts_file::Pass;
 use rules::naming;
 use rules::search::are_sound;
 use section::{Allow, Byuid, Deny, Fault, Portacl, Refusal, Tables};
 use tables::entry;
 use tables::entry::Framing;
 
-// What a check answers: a refusal, or that there is none.
-#[derive(Clone, Copy)]
-pub enum Checked {
-    Sound,
-    Refused(Refusal),
-}
-
 // Whether each counted text is within its section's limit.
-fn check_limits(allow: &[u8], deny: &[u8], byuid: &[u8], portacl: &[u8]) -> Checked
+fn check_limits(allow: &[u8], deny: &[u8], byuid: &[u8], portacl: &[u8]) -> Result<(), Refusal>
     ensures { result ≡ checked_of (limits_fault allow.now deny.now byuid.now portacl.now) }
 {
     if Allow::over(allow.len()) {
-        return Checked::Refused(Allow::refusal(Fault::OverLimit, 0));
+        return Err(Allow::refusal(Fault::OverLimit, 0));
     }
     if Deny::over(deny.len()) {
-        return Checked::Refused(Deny::refusal(Fault::OverLimit, 0));
+        return Err(Deny::refusal(Fault::OverLimit, 0));
     }
     if Byuid::over(byuid.len()) {
-        return Checked::Refused(Byuid::refusal(Fault::OverLimit, 0));
+        return Err(Byuid::refusal(Fault::OverLimit, 0));
     }
     if Portacl::over(portacl.len()) {
-        return Checked::Refused(Portacl::refusal(Fault::OverLimit, 0));
+        return Err(Portacl::refusal(Fault::OverLimit, 0));
     }
-    Checked::Sound
+    Ok(())
 }
 
 // The check of the counts of the tables: cut short is 1, bytes after the last table are 3.
-pub fn check_frame(tables: &[u8]) -> Checked
+pub fn check_frame(tables: &[u8]) -> Result<(), Refusal>
     ensures { result ≡ checked_of (tables_frame tables.now) }
 {
     match entry::frame(tables) {
-        Framing::Sound => Checked::Sound,
-        Framing::Cut => Checked::Refused(Tables::refusal(Fault::CutShort, 0)),
-        Framing::Trailing => Checked::Refused(section::placeless(Fault::TrailingBytes)),
+        Framing::Sound => Ok(()),
+        Framing::Cut => Err(Tables::refusal(Fault::CutShort, 0)),
+        Framing::Trailing => Err(section::placeless(Fault::TrailingBytes)),
     }
 }
 
 // A pass that looks for nothing, as a check.
-pub fn checked_by(pass: Pass) -> Checked
+pub fn checked_by(pass: Result<Option<Answer>, Refusal>) -> Result<(), Refusal>
     ensures { result ≡ checked_by pass }
 {
     match pass {
-        Pass::Faulty(refusal) => Checked::Refused(refusal),
-        Pass::Unmatched => Checked::Sound,
-        Pass::Matched(_) => Checked::Sound,
+        Err(refusal) => Err(refusal),
+        Ok(None) => Ok(()),
+        Ok(Some(_)) => Ok(()),
     }
 }
 
 // The check of the entries of a portacl text.
-fn check_portacl(text: &[u8]) -> Checked
+fn check_portacl(text: &[u8]) -> Result<(), Refusal>
     ensures { result ≡ checked_of (portacl_fault text.now) }
 {
     match portacl::check(text) {
-        portacl::Checked::Refused(refusal) => Checked::Refused(refusal),
-        portacl::Checked::Sound => Checked::Sound,
+        Err(refusal) => Err(refusal),
+        Ok(()) => Ok(()),
     }
 }
 
 // The check of the lines of a byuid text.
-fn check_byuid(text: &[u8]) -> Checked
+fn check_byuid(text: &[u8]) -> Result<(), Refusal>
     ensures { result ≡ checked_of (byuid_fault text.now) }
 {
     match byuid::check(text) {
-        byuid::Checked::Refused(refusal) => Checked::Refused(refusal),
-        byuid::Checked::Sound => Checked::Sound,
+        Err(refusal) => Err(refusal),
+        Ok(()) => Ok(()),
     }
 }
 
 // The check of the texts of the port decisions.
-fn check_ports(byuid: &[u8], portacl: &[u8]) -> Checked
+fn check_ports(byuid: &[u8], portacl: &[u8]) -> Result<(), Refusal>
     ensures { result ≡ checked_of (portacl_fault portacl.now or_else byuid_fault byuid.now) }
 {
     match check_portacl(portacl) {
-        Checked::Refused(refusal) => Checked::Refused(refusal),
-        Checked::Sound => check_byuid(byuid),
+        Err(refusal) => Err(refusal),
+        Ok(()) => check_byuid(byuid),
     }
 }
 
 // The check of the lines and entries of the rules and of portacl, then of the tables and of what names them, then of the lines of byuid.
-fn check_in_order(allow: &[u8], deny: &[u8], byuid: &[u8], portacl: &[u8], tables: &[u8]) -> Checked
-    requires { tables_frame tables.now ≡ none }
+fn check_in_order(allow: &[u8], deny: &[u8], byuid: &[u8], portacl: &[u8], tables: &[u8]) -> Result<(), Refusal>
+    requires { tables_frame tables.now ≡ None }
     ensures { result
         ≡ checked_of (contents_fault allow.now deny.now byuid.now portacl.now tables.now) }
 {
     match checked_by(naming::check_lines(allow, deny)) {
-        Checked::Refused(refusal) => Checked::Refused(refusal),
-        Checked::Sound => match check_portacl(portacl) {
-            Checked::Refused(refusal) => Checked::Refused(refusal),
-            Checked::Sound => match checked_by(naming::check_naming(allow, deny, tables)) {
-                Checked::Refused(refusal) => Checked::Refused(refusal),
-                Checked::Sound => check_byuid(byuid),
+        Err(refusal) => Err(refusal),
+        Ok(()) => match check_portacl(portacl) {
+            Err(refusal) => Err(refusal),
+            Ok(()) => match checked_by(naming::check_naming(allow, deny, tables)) {
+                Err(refusal) => Err(refusal),
+                Ok(()) => check_byuid(byuid),
             },
         },
     }
 }
 
 // The same, where rules that are sound are read once.
-fn check_contents(allow: &[u8], deny: &[u8], byuid: &[u8], portacl: &[u8], tables: &[u8]) -> Checked
-    requires { tables_frame tables.now ≡ none }
+fn check_contents(allow: &[u8], deny: &[u8], byuid: &[u8], portacl: &[u8], tables: &[u8]) -> Result<(), Refusal>
+    requires { tables_frame tables.now ≡ None }
     ensures { result
         ≡ checked_of (contents_fault allow.now deny.now byuid.now portacl.now tables.now) }
 {
@@ -131,15 +122,15 @@ pub fn check_texts(
     byuid: &[u8],
     portacl: &[u8],
     tables: &[u8],
-) -> Checked
+) -> Result<(), Refusal>
     ensures { result
         ≡ checked_of (texts_fault (texts allow.now deny.now byuid.now portacl.now tables.now)) }
 {
     match check_limits(allow, deny, byuid, portacl) {
-        Checked::Refused(refusal) => Checked::Refused(refusal),
-        Checked::Sound => match check_frame(tables) {
-            Checked::Refused(refusal) => Checked::Refused(refusal),
-            Checked::Sound => check_contents(allow, deny, byuid, portacl, tables),
+        Err(refusal) => Err(refusal),
+        Ok(()) => match check_frame(tables) {
+            Err(refusal) => Err(refusal),
+            Ok(()) => check_contents(allow, deny, byuid, portacl, tables),
         },
     }
 }

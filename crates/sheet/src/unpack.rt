@@ -4,20 +4,11 @@ ghost use Rattle.std.specs.Prelude.{◌≡◌};
 ghost use Rattle.sheet.specs.Sheet.{texts_at, texts_fault, unpack as unpackOf, unpacked_of};
 ghost use Rattle.sheet.specs.Code.{checked_of};
 
-use crate::frame::Framed;
-use crate::texts::Checked;
 use crate::{Parts, frame, texts};
 use section::{Refusal, part_of};
 
-// What unpacking answers.
-#[derive(Clone, Copy)]
-pub enum Unpacked {
-    Refused(Refusal),
-    Parts(Parts),
-}
-
 // The first refusal of the texts that stand in a sheet, if there is one.
-fn check_parts(sheet: &[u8], parts: Parts) -> Checked
+fn check_parts(sheet: &[u8], parts: Parts) -> Result<(), Refusal>
     ensures { result ≡ checked_of (texts_fault (texts_at sheet.now parts)) }
 {
     texts::check_texts(
@@ -30,14 +21,14 @@ fn check_parts(sheet: &[u8], parts: Parts) -> Checked
 }
 
 // The place and length of each text of a sheet.
-pub fn unpack(sheet: &[u8]) -> Unpacked
+pub fn unpack(sheet: &[u8]) -> Result<Parts, Refusal>
     ensures { result ≡ unpacked_of (unpackOf sheet.now) }
 {
     match frame::frame(sheet) {
-        Framed::Refused(refusal) => Unpacked::Refused(refusal),
-        Framed::Parts(parts) => match check_parts(sheet, parts) {
-            Checked::Refused(refusal) => Unpacked::Refused(refusal),
-            Checked::Sound => Unpacked::Parts(parts),
+        Err(refusal) => Err(refusal),
+        Ok(parts) => match check_parts(sheet, parts) {
+            Err(refusal) => Err(refusal),
+            Ok(()) => Ok(parts),
         },
     }
 }

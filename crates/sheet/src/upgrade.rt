@@ -8,22 +8,20 @@ ghost use Rattle.sheet.specs.Sheet.{upgrade as upgradeOf};
 ghost use Rattle.sheet.specs.Code.{checked_of};
 
 use crate::frame;
-use crate::frame::Framed;
-use crate::texts::Checked;
-use section::{Fault, Written};
+use section::Fault;
 
 // The check of the frame of a sheet of four sections: no byte follows the fourth.
-fn check_four(sheet: &[u8]) -> Checked
+fn check_four(sheet: &[u8]) -> Result<(), Refusal>
     ensures { result ≡ checked_of (four_frame sheet.now) }
 {
     match frame::frame(sheet) {
-        Framed::Refused(refusal) => Checked::Refused(refusal),
-        Framed::Parts(parts) => {
+        Err(refusal) => Err(refusal),
+        Ok(parts) => {
             let following = parts.tables;
             if 0 < following.len {
-                return Checked::Refused(section::placeless(Fault::TrailingBytes));
+                return Err(section::placeless(Fault::TrailingBytes));
             }
-            Checked::Sound
+            Ok(())
         }
     }
 }
@@ -40,17 +38,17 @@ fn put_upgraded(out: &mut [u8], sheet: &[u8]) -> usize
 }
 
 // Appends an empty fifth section to a sheet of four; a refusal leaves out as it was.
-pub fn upgrade(out: &mut [u8], sheet: &[u8]) -> Written
+pub fn upgrade(out: &mut [u8], sheet: &[u8]) -> Result<usize, Refusal>
     ensures answer { result ≡ written_of (upgradeOf sheet.now (length out.old)) }
     ensures holds { out.new ≡ lent_after out.old (upgradeOf sheet.now (length out.old)) }
 {
     match check_four(sheet) {
-        Checked::Refused(refusal) => Written::Refused(refusal),
-        Checked::Sound => {
+        Err(refusal) => Err(refusal),
+        Ok(()) => {
             if out.len() < sheet.len() + 2 {
-                return Written::Refused(section::placeless(Fault::NoRoom));
+                return Err(section::placeless(Fault::NoRoom));
             }
-            Written::Count(put_upgraded(out, sheet))
+            Ok(put_upgraded(out, sheet))
         }
     }
 }

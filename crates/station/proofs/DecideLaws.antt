@@ -2,11 +2,11 @@
 --   parts_doubtful, parts_answered == a verdict by the frame and one pass over the texts is the verdict by the sheet
 --   command_bytes_lem == the command's bytes in the sheet are those in the file that decided
 -- Assumes nothing.
+use Rattle.std.specs.Prelude.{Err, None, Ok, Option, Result, Some}
 use Prim.Native.Nat.{ℕ, ◌+◌, ◌≤◌, ◌<◌}
 use native.Mathlib.Omega.{arith}
 use mathlib.Core.Bool.{Bool, true, false, not}
 use mathlib.Core.List.{List}
-use mathlib.Core.Option.{Option, none, some}
 use mathlib.Core.Path.{◌≡◌, refl, sym, ap, subst, ◌∙◌}
 use borrow.Author.Tests.{le-ltb}
 use lib.ListN.{length, take, drop, length-drop}
@@ -15,7 +15,7 @@ use Rattle.text.specs.Basics.{when◌then◌else◌, ◌or_else◌, given}
 use Rattle.section.specs.declared.Fault.TheVariants as F
 use Rattle.section.specs.declared.Part.{Part}
 use Rattle.section.specs.declared.Refusal.{Refusal}
-use Rattle.section.specs.Refusal.{Outcome, refused, answered, ◌>>=◌, placeless, refusing, ◌before◌}
+use Rattle.section.specs.Refusal.{Outcome, ◌>>=◌, placeless, refusing, ◌before◌}
 use Rattle.section.specs.Section as S
 use Rattle.section.specs.Section.{bytes_at, Section, part, over_limit}
 use Rattle.tables.specs.declared.entry.Framing.{Framing}
@@ -34,8 +34,6 @@ use Rattle.rules.specs.declared.File.TheVariants.{Neither, Allow, Deny}
 use Rattle.rules.specs.declared.Answer.{Answer}
 use Rattle.rules.specs.declared.Reported.{Reported}
 use Rattle.rules.specs.declared.search.Searched.{Searched}
-use Rattle.rules.specs.declared.search.Finding.{Finding}
-use Rattle.rules.specs.declared.search.Finding.TheVariants as Finding
 use Rattle.rules.specs.Check.{tables_fault}
 use Rattle.rules.specs.Search.{answer, search, decide_over, command_bytes}
 use Rattle.rules.specs.Looked.{looked, number_of, looked_over, reported}
@@ -44,25 +42,13 @@ use Rattle.rules.specs.Code.{lines_fault, searched, finding_of}
 use Rattle.rules.specs.Code.{contents_fault as textsContents}
 use Rattle.rules.proofs.NamingLaws.{or_else_none}
 use Rattle.rules.proofs.PlaceLaws.{file_length, search_within}
-use Rattle.byuid.specs.declared.Checked.{Checked as ByuidChecked}
-use Rattle.byuid.specs.declared.Checked.TheVariants as ByC
-use Rattle.byuid.specs.declared.Ruling.{Ruling as ByuidRuling}
-use Rattle.byuid.specs.declared.Ruling.TheVariants as ByR
 use Rattle.byuid.specs.declared.Mark.TheVariants.{Plain}
 use Rattle.byuid.specs.Byuid.{Bind as ByuidBind, from_file, byuid_fault, decide_byuid, byuid_ruling}
 use Rattle.byuid.specs.Code.{checked_of as byuidCheckedOf}
-use Rattle.portacl.specs.declared.Checked.{Checked as PortaclChecked}
-use Rattle.portacl.specs.declared.Checked.TheVariants as PoC
-use Rattle.portacl.specs.declared.Ruling.{Ruling as PortaclRuling}
-use Rattle.portacl.specs.declared.Ruling.TheVariants as PoR
 use Rattle.portacl.specs.declared.Settings.{Settings}
 use Rattle.portacl.specs.Code.{checked_of as portaclCheckedOf}
 use Rattle.portacl.specs.Portacl.{Bind as PortaclBind, portacl_fault, decide_portacl, portacl_ruling}
 use Rattle.sheet.specs.declared.Parts.{Parts}
-use Rattle.sheet.specs.declared.frame.Framed.{Framed as FramedRead}
-use Rattle.sheet.specs.declared.frame.Framed.TheVariants as Fr
-use Rattle.sheet.specs.declared.unpack.Unpacked.{Unpacked}
-use Rattle.sheet.specs.declared.unpack.Unpacked.TheVariants as Un
 use Rattle.sheet.specs.Sheet.{texts_at, texts_fault, frame, unpack, unpacked_of}
 use Rattle.station.specs.Station.{file_place, in_sheet, decide_sheet, looked_sheet, decide_byuid_sheet, decide_portacl_sheet}
 use Rattle.sheet.specs.Code.{framed_of, limits_fault, contents_fault}
@@ -73,102 +59,102 @@ use Rattle.sheet.proofs.UnpackLaws.{framed_refused, unpacked_refused, unpacked_p
 
 -- ## The port decisions
 
-module _ (sheet : List ℕ) (x : Unpacked) (is_x : x ≡ unpacked_of (unpack sheet)) where
+module _ (sheet : List ℕ) (x : Result Parts Refusal) (is_x : x ≡ unpacked_of (unpack sheet)) where
   module _ (o : Option ByuidBind) where
-    pub byuid_refused : (g : Refusal) → x ≡ Un.Refused g → ByR.Refused g ≡ byuid_ruling (decide_byuid_sheet sheet o)
+    pub byuid_refused : (g : Refusal) → x ≡ Err g → Err g ≡ byuid_ruling (decide_byuid_sheet sheet o)
     unfolding decide_byuid_sheet
     byuid_refused g e = rw (unpacked_refused (unpack sheet) g (sym is_x ∙ e))
 
-    pub byuid_decided : (p : Parts) → x ≡ Un.Parts p → (t : List ℕ) → t ≡ bytes_at sheet p.byuid
-        → (y : ByuidRuling) → y ≡ byuid_ruling (decide_byuid t (from_file Plain o)) → y ≡ byuid_ruling (decide_byuid_sheet sheet o)
+    pub byuid_decided : (p : Parts) → x ≡ Ok p → (t : List ℕ) → t ≡ bytes_at sheet p.byuid
+        → (y : Result Decision Refusal) → y ≡ byuid_ruling (decide_byuid t (from_file Plain o)) → y ≡ byuid_ruling (decide_byuid_sheet sheet o)
     unfolding decide_byuid_sheet
     byuid_decided p e t is-t y is_y = is_y ∙ rw (unpacked_parts (unpack sheet) p (sym is_x ∙ e), is-t)
 
   module _ (s : Settings) (o : Option PortaclBind) where
-    pub portacl_refused : (g : Refusal) → x ≡ Un.Refused g → PoR.Refused g ≡ portacl_ruling (decide_portacl_sheet sheet s o)
+    pub portacl_refused : (g : Refusal) → x ≡ Err g → Err g ≡ portacl_ruling (decide_portacl_sheet sheet s o)
     unfolding decide_portacl_sheet
     portacl_refused g e = rw (unpacked_refused (unpack sheet) g (sym is_x ∙ e))
 
-    pub portacl_decided : (p : Parts) → x ≡ Un.Parts p → (t : List ℕ) → t ≡ bytes_at sheet p.portacl
-        → (y : PortaclRuling) → y ≡ portacl_ruling (decide_portacl t s o) → y ≡ portacl_ruling (decide_portacl_sheet sheet s o)
+    pub portacl_decided : (p : Parts) → x ≡ Ok p → (t : List ℕ) → t ≡ bytes_at sheet p.portacl
+        → (y : Result Decision Refusal) → y ≡ portacl_ruling (decide_portacl t s o) → y ≡ portacl_ruling (decide_portacl_sheet sheet s o)
     unfolding decide_portacl_sheet
     portacl_decided p e t is-t y is_y = is_y ∙ rw (unpacked_parts (unpack sheet) p (sym is_x ∙ e), is-t)
 
 -- ## What is found by texts
 
-module _ (o : Option Refusal) (c : PortaclChecked) (is_c : c ≡ portaclCheckedOf o) where
-  bad_entry : (g : Refusal) → c ≡ PoC.Refused g → o ≡ some g
+module _ (o : Option Refusal) (c : Result Unit Refusal) (is_c : c ≡ portaclCheckedOf o) where
+  bad_entry : (g : Refusal) → c ≡ Err g → o ≡ Some g
   bad_entry g e = by o (sym is_c ∙ e)
     where
-      by : (o : Option Refusal) → portaclCheckedOf o ≡ PoC.Refused g → o ≡ some g
-      by none k = let z : ◌≡◌ {A = ℕ} 0 1 = cc in absurd (omega arith)
-      by (some h) k = cc
+      by : (o : Option Refusal) → portaclCheckedOf o ≡ Err g → o ≡ Some g
+      by None k = let z : ◌≡◌ {A = ℕ} 0 1 = cc in absurd (omega arith)
+      by (Some h) k = cc
 
-  entries : c ≡ PoC.Sound → o ≡ none
+  entries : c ≡ (Ok tt) → o ≡ None
   entries e = by o (sym is_c ∙ e)
     where
-      by : (o : Option Refusal) → portaclCheckedOf o ≡ PoC.Sound → o ≡ none
-      by none k = refl
-      by (some h) k = let z : ◌≡◌ {A = ℕ} 0 1 = cc in absurd (omega arith)
+      by : (o : Option Refusal) → portaclCheckedOf o ≡ (Ok tt) → o ≡ None
+      by None k = refl
+      by (Some h) k = let z : ◌≡◌ {A = ℕ} 0 1 = cc in absurd (omega arith)
 
-module _ (o : Option Refusal) (c : ByuidChecked) (is_c : c ≡ byuidCheckedOf o) where
-  bad_line_lem : (g : Refusal) → c ≡ ByC.Refused g → o ≡ some g
+module _ (o : Option Refusal) (c : Result Unit Refusal) (is_c : c ≡ byuidCheckedOf o) where
+  bad_line_lem : (g : Refusal) → c ≡ Err g → o ≡ Some g
   bad_line_lem g e = by o (sym is_c ∙ e)
     where
-      by : (o : Option Refusal) → byuidCheckedOf o ≡ ByC.Refused g → o ≡ some g
-      by none k = let z : ◌≡◌ {A = ℕ} 0 1 = cc in absurd (omega arith)
-      by (some h) k = cc
+      by : (o : Option Refusal) → byuidCheckedOf o ≡ Err g → o ≡ Some g
+      by None k = let z : ◌≡◌ {A = ℕ} 0 1 = cc in absurd (omega arith)
+      by (Some h) k = cc
 
-  grants : c ≡ ByC.Sound → o ≡ none
+  grants : c ≡ (Ok tt) → o ≡ None
   grants e = by o (sym is_c ∙ e)
     where
-      by : (o : Option Refusal) → byuidCheckedOf o ≡ ByC.Sound → o ≡ none
-      by none k = refl
-      by (some h) k = let z : ◌≡◌ {A = ℕ} 0 1 = cc in absurd (omega arith)
+      by : (o : Option Refusal) → byuidCheckedOf o ≡ (Ok tt) → o ≡ None
+      by None k = refl
+      by (Some h) k = let z : ◌≡◌ {A = ℕ} 0 1 = cc in absurd (omega arith)
 
-finds_doubt : (x y z : Option Refusal) (g : Refusal) (b : Searched) → Finding.Doubtful ≡ finding_of (x or_else some g or_else y or_else z) b
-finds_doubt none y z g b = refl
-finds_doubt (some f) y z g b = refl
+finds_doubt : (x y z : Option Refusal) (g : Refusal) (b : Searched) → None ≡ finding_of (x or_else Some g or_else y or_else z) b
+finds_doubt None y z g b = refl
+finds_doubt (Some f) y z g b = refl
 
-finds_last : (x : Option Refusal) (g : Refusal) (b : Searched) → Finding.Doubtful ≡ finding_of (x or_else some g) b
-finds_last none g b = refl
-finds_last (some f) g b = refl
+finds_last : (x : Option Refusal) (g : Refusal) (b : Searched) → None ≡ finding_of (x or_else Some g) b
+finds_last None g b = refl
+finds_last (Some f) g b = refl
 
-module _ (a d bu po t : List ℕ) (b : Searched) (c : PortaclChecked) (is_c : c ≡ portaclCheckedOf (portacl_fault po)) where
-  pub find_entry : (g : Refusal) → c ≡ PoC.Refused g → Finding.Doubtful ≡ finding_of (contents_fault a d bu po t) b
+module _ (a d bu po t : List ℕ) (b : Searched) (c : Result Unit Refusal) (is_c : c ≡ portaclCheckedOf (portacl_fault po)) where
+  pub find_entry : (g : Refusal) → c ≡ Err g → None ≡ finding_of (contents_fault a d bu po t) b
   unfolding contents_fault
   find_entry g e = rw (bad_entry (portacl_fault po) c is_c g e) (finds_doubt (lines_fault a d) (tables_fault a d t) (byuid_fault bu) g b)
 
-  module _ (e : c ≡ PoC.Sound) (k : ByuidChecked) (is-k : k ≡ byuidCheckedOf (byuid_fault bu)) where
-    pub find_retired : (g : Refusal) → k ≡ ByC.Refused g → Finding.Doubtful ≡ finding_of (contents_fault a d bu po t) b
+  module _ (e : c ≡ Ok tt) (k : Result Unit Refusal) (is-k : k ≡ byuidCheckedOf (byuid_fault bu)) where
+    pub find_retired : (g : Refusal) → k ≡ Err g → None ≡ finding_of (contents_fault a d bu po t) b
     unfolding contents_fault
     find_retired g h =
         rw (bad_line_lem (byuid_fault bu) k is-k g h) (finds_last (lines_fault a d or_else portacl_fault po or_else tables_fault a d t) g b)
 
-    pub find_entries : k ≡ ByC.Sound → (f : Finding) → f ≡ finding_of (textsContents a d t) b → f ≡ finding_of (contents_fault a d bu po t) b
+    pub find_entries : k ≡ (Ok tt) → (f : Option Searched) → f ≡ finding_of (textsContents a d t) b → f ≡ finding_of (contents_fault a d bu po t) b
     unfolding contents_fault textsContents
     find_entries h f is_f = is_f ∙ sym (rw (entries (portacl_fault po) c is_c e, grants (byuid_fault bu) k is-k h)
-        (ap (λ (o : Option Refusal). finding_of (o or_else tables_fault a d t or_else none) b) (or_else_none (lines_fault a d))
+        (ap (λ (o : Option Refusal). finding_of (o or_else tables_fault a d t or_else None) b) (or_else_none (lines_fault a d))
         ∙ ap (λ (o : Option Refusal). finding_of o b) (or_else_none (lines_fault a d or_else tables_fault a d t))))
 
 pub find_whole : (t : List ℕ) (x : Framing) → x ≡ frame_of (read_tables t) → x ≡ Framing.Sound → tables_in t ≡ tables_of t
 find_whole t x is_x e = tables_in_of t (sym is_x ∙ e)
 
 module _ (a d bu po t : List ℕ) (b : Searched) (x : Framing) (is_x : x ≡ frame_of (read_tables t)) where
-  pub find_cut : x ≡ Framing.Cut → Finding.Doubtful ≡ finding_of (framed_fault a d bu po t) b
+  pub find_cut : x ≡ Framing.Cut → None ≡ finding_of (framed_fault a d bu po t) b
   unfolding framed_fault
   find_cut e = rw (frame_cut t x is_x e)
 
-  pub find_trailing : x ≡ Framing.Trailing → Finding.Doubtful ≡ finding_of (framed_fault a d bu po t) b
+  pub find_trailing : x ≡ Framing.Trailing → None ≡ finding_of (framed_fault a d bu po t) b
   unfolding framed_fault
   find_trailing e = rw (frame_trailing t x is_x e)
 
-  pub find_sound : x ≡ Framing.Sound → (f : Finding) → f ≡ finding_of (contents_fault a d bu po t) b → f ≡ finding_of (framed_fault a d bu po t) b
+  pub find_sound : x ≡ Framing.Sound → (f : Option Searched) → f ≡ finding_of (contents_fault a d bu po t) b → f ≡ finding_of (framed_fault a d bu po t) b
   unfolding framed_fault
   find_sound e f is_f = is_f ∙ sym (rw (frame_sound t x is_x e))
 
 pub find_parts : (sheet : List ℕ) (p : Parts) (a d bu po t : List ℕ) → a ≡ bytes_at sheet p.allow → d ≡ bytes_at sheet p.deny
-    → bu ≡ bytes_at sheet p.byuid → po ≡ bytes_at sheet p.portacl → t ≡ bytes_at sheet p.tables → (r : Request) (f : Finding)
+    → bu ≡ bytes_at sheet p.byuid → po ≡ bytes_at sheet p.portacl → t ≡ bytes_at sheet p.tables → (r : Request) (f : Option Searched)
     → f ≡ finding_of (framed_fault a d bu po t) (searched (search (match_of (tables_of t)) a d r) (capped (looked (tables_of t) a d r)))
     → f ≡ finding_of (framed_fault (bytes_at sheet p.allow) (bytes_at sheet p.deny) (bytes_at sheet p.byuid) (bytes_at sheet p.portacl)
     (bytes_at sheet p.tables))
@@ -180,11 +166,11 @@ pub placed_in_sheet : (p : Parts) (a : Answer) (n : ℕ) → n ≡ file_place p 
     → answer a.verdict a.file a.line (part (n + a.command.place) a.command.len) ≡ in_sheet p a
 placed_in_sheet p a n is-n = rw is-n
 
-module _ (sheet : List ℕ) (x : Unpacked) (is_x : x ≡ unpacked_of (unpack sheet)) where
-  pub refuse_refused : (g : Refusal) → x ≡ Un.Refused g → (y : Reported) → y ≡ refused_report g → y ≡ refused_by (unpack sheet)
+module _ (sheet : List ℕ) (x : Result Parts Refusal) (is_x : x ≡ unpacked_of (unpack sheet)) where
+  pub refuse_refused : (g : Refusal) → x ≡ Err g → (y : Reported) → y ≡ refused_report g → y ≡ refused_by (unpack sheet)
   refuse_refused g e y is_y = is_y ∙ rw (unpacked_refused (unpack sheet) g (sym is_x ∙ e))
 
-  pub refuse_parts : (p : Parts) → x ≡ Un.Parts p → (g : Refusal) → g ≡ placeless F.BadRequest
+  pub refuse_parts : (p : Parts) → x ≡ Ok p → (g : Refusal) → g ≡ placeless F.BadRequest
       → (y : Reported) → y ≡ refused_report g → y ≡ refused_by (unpack sheet)
   refuse_parts p e g is-g y is_y = is_y ∙ rw (unpacked_parts (unpack sheet) p (sym is_x ∙ e), is-g)
 
@@ -194,14 +180,14 @@ module _ {s : Section} {at : ℕ} {sheet : List ℕ} {q : Part} (f : SectionAt s
   length_text : length (bytes_at sheet q) ≡ q.len
   length_text = length-take-le q.len (drop q.place sheet) (rw length-drop (omega (arith, f.place, f.within)))
 
-  within_limit : over_limit s (bytes_at sheet q) ≡ none
+  within_limit : over_limit s (bytes_at sheet q) ≡ None
   within_limit = rw (length_text, le-ltb s.limit q.len f.limit)
 
 -- a part of a part
 in_part : (sheet : List ℕ) (p q : Part) → q.place + q.len ≤ p.len → bytes_at (bytes_at sheet p) q ≡ bytes_at sheet (part (p.place + q.place) q.len)
 in_part sheet p q h = take_drop_take q.len q.place p.len (drop p.place sheet) h ∙ ap (take q.len) (drop-drop q.place p.place sheet)
 
-module _ (sheet : List ℕ) (p : Parts) (framed : frame sheet ≡ answered p) where
+module _ (sheet : List ℕ) (p : Parts) (framed : frame sheet ≡ Ok p) where
   abbrev a : List ℕ
   a = bytes_at sheet p.allow
 
@@ -233,30 +219,30 @@ module _ (sheet : List ℕ) (p : Parts) (framed : frame sheet ≡ answered p) wh
     found = searched (search (match_of (tables_of t)) a d (request_at names h)) (capped (looked (tables_of t) a d (request_at names h)))
 
     abbrev decided : Reported
-    decided = reported (decide_sheet sheet (some (request_at names q))) (looked_sheet sheet (some (request_at names q)))
+    decided = reported (decide_sheet sheet (Some (request_at names q))) (looked_sheet sheet (Some (request_at names q)))
 
-    module _ (f : Finding) (is_f : f ≡ finding_of (framed_fault a d bu po t) found) where
-      pub parts_doubtful : f ≡ Finding.Doubtful → (x : Reported) → x ≡ refused_by (unpack sheet) → x ≡ decided
+    module _ (f : Option Searched) (is_f : f ≡ finding_of (framed_fault a d bu po t) found) where
+      pub parts_doubtful : f ≡ None → (x : Reported) → x ≡ refused_by (unpack sheet) → x ≡ decided
       unfolding decide_sheet
       parts_doubtful e x is_x = is_x ∙ rw unpack_framed (by (framed_fault a d bu po t) (sym is_f ∙ e))
         where
-          by : (o : Option Refusal) → finding_of o found ≡ Finding.Doubtful
+          by : (o : Option Refusal) → finding_of o found ≡ None
               → refused_by (refusing o p)
               ≡ reported (refusing o p >>= λ p. decide_over (tables_of (bytes_at sheet p.tables)) (bytes_at sheet p.allow) (bytes_at sheet p.deny)
-              (some (request_at names q)) >>= λ a. answered (in_sheet p a)) (looked_sheet sheet (some (request_at names q)))
-          by none k = let z : ◌≡◌ {A = ℕ} 0 1 = cc in absurd (omega arith)
-          by (some g) k = refl
+              (Some (request_at names q)) >>= λ a. Ok (in_sheet p a)) (looked_sheet sheet (Some (request_at names q)))
+          by None k = let z : ◌≡◌ {A = ℕ} 0 1 = cc in absurd (omega arith)
+          by (Some g) k = refl
 
-      module _ (y : Searched) (e : f ≡ Finding.Answer y) where
+      module _ (y : Searched) (e : f ≡ Some y) where
         abbrev b : Answer
         b = y.answer
 
-        answer_found : (framed_fault a d bu po t ≡ none) × (found ≡ y)
+        answer_found : (framed_fault a d bu po t ≡ None) × (found ≡ y)
         answer_found = by (framed_fault a d bu po t) (sym is_f ∙ e)
           where
-            by : (o : Option Refusal) → finding_of o found ≡ Finding.Answer y → (o ≡ none) × (found ≡ y)
-            by none k = (refl, cc)
-            by (some g) k = let z : ◌≡◌ {A = ℕ} 0 1 = cc in absurd (omega arith)
+            by : (o : Option Refusal) → finding_of o found ≡ Some y → (o ≡ None) × (found ≡ y)
+            by None k = (refl, cc)
+            by (Some g) k = let z : ◌≡◌ {A = ℕ} 0 1 = cc in absurd (omega arith)
 
         pub parts_answered : (c : Answer) → c ≡ in_sheet p b → (s : Bool) → s ≡ well_formed (request_at names h)
             → (x : Reported) → x ≡ refusing_request s c y.looked → x ≡ decided
@@ -267,8 +253,8 @@ module _ (sheet : List ℕ) (p : Parts) (framed : frame sheet ≡ answered p) wh
             (capped (looked (tables_of t) a d (held (request_at names q)))))
           where
             by : (z : Bool) (w : Answer) (k : ℕ) → refusing_request z (in_sheet p w) k
-                ≡ reported ((when z then answered w else refused (placeless F.BadRequest)) >>= λ a. answered (in_sheet p a))
-                (number_of (when z then answered k else refused (placeless F.BadRequest)))
+                ≡ reported ((when z then Ok w else Err (placeless F.BadRequest)) >>= λ a. Ok (in_sheet p a))
+                (number_of (when z then Ok k else Err (placeless F.BadRequest)))
             by true w k = refl
             by false w k = refl
 
@@ -286,17 +272,17 @@ module _ (sheet : List ℕ) (p : Parts) (framed : frame sheet ≡ answered p) wh
         pub command_fits : (m : ℕ) → length sheet < m → file_place p b.file + b.command.place < m
         command_fits m l = omega (arith, command_place)
 
-pub over_search : (ts : List Table) (a d : List ℕ) (r : Request) (b : Answer) → decide_over ts a d (some r) ≡ answered b → search (match_of ts) a d (held r) ≡ b
+pub over_search : (ts : List Table) (a d : List ℕ) (r : Request) (b : Answer) → decide_over ts a d (Some r) ≡ Ok b → search (match_of ts) a d (held r) ≡ b
 over_search ts a d r b e = by (well_formed r) e
   where
-    by : (c : Bool) → (when c then answered (search (match_of ts) a d (held r)) else refused (placeless F.BadRequest)) ≡ answered b
+    by : (c : Bool) → (when c then Ok (search (match_of ts) a d (held r)) else Err (placeless F.BadRequest)) ≡ Ok b
         → search (match_of ts) a d (held r) ≡ b
     by false k = let z : ◌≡◌ {A = ℕ} 0 1 = cc in absurd (omega arith)
     by true k = cc
 
 -- the command's bytes in the sheet are those in the file that decided
-pub command_bytes_lem : (sheet : List ℕ) (p : Parts) → frame sheet ≡ answered p → (r : Request) (b : Answer)
-    → (ts : List Table) → decide_over ts (bytes_at sheet p.allow) (bytes_at sheet p.deny) (some r) ≡ answered b
+pub command_bytes_lem : (sheet : List ℕ) (p : Parts) → frame sheet ≡ Ok p → (r : Request) (b : Answer)
+    → (ts : List Table) → decide_over ts (bytes_at sheet p.allow) (bytes_at sheet p.deny) (Some r) ≡ Ok b
     → bytes_at sheet (in_sheet p b).command ≡ command_bytes (bytes_at sheet p.allow) (bytes_at sheet p.deny) b
 command_bytes_lem sheet p framed r b ts e =
     by b.file
@@ -315,7 +301,7 @@ command_bytes_lem sheet p framed r b ts e =
         let f = frame_answered sheet p framed in
         sym (in_part sheet p.deny b.command (omega (arith, length_text f.deny)))
 
-pub decide_unframed : (sheet : List ℕ) (x : FramedRead) → x ≡ framed_of (frame sheet) → (r : Request) (g : Refusal) → x ≡ Fr.Refused g
-    → (y : Reported) → y ≡ refused_report g → y ≡ reported (decide_sheet sheet (some r)) (looked_sheet sheet (some r))
+pub decide_unframed : (sheet : List ℕ) (x : Result Parts Refusal) → x ≡ framed_of (frame sheet) → (r : Request) (g : Refusal) → x ≡ Err g
+    → (y : Reported) → y ≡ refused_report g → y ≡ reported (decide_sheet sheet (Some r)) (looked_sheet sheet (Some r))
 unfolding decide_sheet unpack
 decide_unframed sheet x is_x r g e y is_y = is_y ∙ rw (framed_refused (frame sheet) g (sym is_x ∙ e))

@@ -1,29 +1,23 @@
 -- The portacl decision by a sheet: a list that gives a decision is sound, so the other texts alone are checked besides.
 --   others_refused, others_sound == what the check of the other texts says of the sheet
 -- Assumes nothing.
+use Rattle.std.specs.Prelude.{Err, None, Ok, Option, Result, Some}
 use Prim.Native.Nat.{ℕ}
 use native.Mathlib.Omega.{arith}
 use mathlib.Core.Bool.{Bool, true, false}
 use mathlib.Core.List.{List, []}
-use mathlib.Core.Option.{Option, none, some}
 use mathlib.Core.Path.{◌≡◌, refl, sym, ap, ◌∙◌}
 use lib.ListN.{length}
 use lib.Dec.{ltb}
 use Rattle.text.specs.Basics.{◌or_else◌}
 use Rattle.section.specs.declared.Refusal.{Refusal}
-use Rattle.section.specs.Refusal.{Outcome, refused, answered, ◌before◌, fitting, ◌>>=◌, refusing}
+use Rattle.section.specs.Refusal.{Outcome, ◌before◌, fitting, ◌>>=◌, refusing}
 use Rattle.section.specs.Section as S
 use Rattle.section.specs.Section.{bytes_at, over_limit}
 use Rattle.portacl.specs.declared.Decision.{Decision}
-use Rattle.portacl.specs.declared.Ruling.{Ruling}
-use Rattle.portacl.specs.declared.Ruling.TheVariants as R
 use Rattle.portacl.specs.declared.Settings.{Settings}
 use Rattle.portacl.specs.Portacl.{Bind, entries, entry_fault, portacl_fault, portacl_decision, groups_fit, decide_portacl, portacl_ruling}
 use Rattle.sheet.specs.declared.Parts.{Parts}
-use Rattle.sheet.specs.declared.texts.Checked.{Checked}
-use Rattle.sheet.specs.declared.texts.Checked.TheVariants as C
-use Rattle.sheet.specs.declared.frame.Framed.{Framed}
-use Rattle.sheet.specs.declared.frame.Framed.TheVariants as Fr
 use Rattle.sheet.specs.Sheet.{Texts, texts, texts_at, texts_fault, frame, unpack}
 use Rattle.sheet.specs.Code.{checked_of, framed_of}
 use Rattle.sheet.proofs.TextsLaws.{checked_sound, checked_refused, or_else_none}
@@ -32,34 +26,34 @@ use Rattle.station.specs.Station.{decide_portacl_sheet}
 use Rattle.station.specs.Code.{without_list}
 
 -- what a decision says of its list
-decided_sound : (t : List ℕ) (s : Settings) (o : Option Bind) (d : Decision) → decide_portacl t s o ≡ answered d → (over_limit S.portacl t ≡ none)
-    × (portacl_fault t ≡ none)
+decided_sound : (t : List ℕ) (s : Settings) (o : Option Bind) (d : Decision) → decide_portacl t s o ≡ Ok d → (over_limit S.portacl t ≡ None)
+    × (portacl_fault t ≡ None)
 unfolding decide_portacl
 decided_sound t s o d = by (over_limit S.portacl t) (portacl_fault t)
   where
-    by : (a b : Option Refusal) → ((a or_else b) before fitting groups_fit o (λ b. answered (portacl_decision t s b))) ≡ answered d → (a ≡ none) × (b ≡ none)
-    by none none e = (refl, refl)
-    by none (some g) e = let z : ◌≡◌ {A = ℕ} 0 1 = cc in absurd (omega arith)
-    by (some g) b e = let z : ◌≡◌ {A = ℕ} 0 1 = cc in absurd (omega arith)
+    by : (a b : Option Refusal) → ((a or_else b) before fitting groups_fit o (λ b. Ok (portacl_decision t s b))) ≡ Ok d → (a ≡ None) × (b ≡ None)
+    by None None e = (refl, refl)
+    by None (Some g) e = let z : ◌≡◌ {A = ℕ} 0 1 = cc in absurd (omega arith)
+    by (Some g) b e = let z : ◌≡◌ {A = ℕ} 0 1 = cc in absurd (omega arith)
 
-ruled : (o : Outcome Decision) (d : Decision) → portacl_ruling o ≡ R.Answered d → o ≡ answered d
-ruled (refused g) d e = let z : ◌≡◌ {A = ℕ} 0 1 = cc in absurd (omega arith)
-ruled (answered c) d e = cc
+ruled : (o : Outcome Decision) (d : Decision) → portacl_ruling o ≡ Ok d → o ≡ Ok d
+ruled (Err g) d e = let z : ◌≡◌ {A = ℕ} 0 1 = cc in absurd (omega arith)
+ruled (Ok c) d e = cc
 
 -- an empty list has no fault
-no_entries : portacl_fault [] ≡ none
+no_entries : portacl_fault [] ≡ None
 unfolding portacl_fault entries entry_fault
 no_entries = refl
 
 -- the fault of texts whose list has none
-same_fault : (a d b t f : List ℕ) → over_limit S.portacl t ≡ none → portacl_fault t ≡ none → texts_fault (texts a d b t f) ≡ texts_fault (texts a d b [] f)
+same_fault : (a d b t f : List ℕ) → over_limit S.portacl t ≡ None → portacl_fault t ≡ None → texts_fault (texts a d b t f) ≡ texts_fault (texts a d b [] f)
 unfolding texts_fault
 same_fault a d b t f o e = rw (o, e, no_entries)
 
-module _ (sheet : List ℕ) (p : Parts) (framed : frame sheet ≡ answered p) (s : Settings) (o : Option Bind) (t : List ℕ) (is-t : t ≡ bytes_at sheet p.portacl)
-    (y : Ruling) (is_y : y ≡ portacl_ruling (decide_portacl t s o)) (d : Decision) (e : y ≡ R.Answered d)
-    (c : Checked) (is_c : c ≡ checked_of (texts_fault (without_list (texts_at sheet p)))) where
-  decided : decide_portacl (bytes_at sheet p.portacl) s o ≡ answered d
+module _ (sheet : List ℕ) (p : Parts) (framed : frame sheet ≡ Ok p) (s : Settings) (o : Option Bind) (t : List ℕ) (is-t : t ≡ bytes_at sheet p.portacl)
+    (y : Result Decision Refusal) (is_y : y ≡ portacl_ruling (decide_portacl t s o)) (d : Decision) (e : y ≡ Ok d)
+    (c : Result Unit Refusal) (is_c : c ≡ checked_of (texts_fault (without_list (texts_at sheet p)))) where
+  decided : decide_portacl (bytes_at sheet p.portacl) s o ≡ Ok d
   decided = ap (λ (u : List ℕ). decide_portacl u s o) (sym is-t) ∙ ruled (decide_portacl t s o) d (sym is_y ∙ e)
 
   others : texts_fault (texts_at sheet p) ≡ texts_fault (without_list (texts_at sheet p))
@@ -68,20 +62,20 @@ module _ (sheet : List ℕ) (p : Parts) (framed : frame sheet ≡ answered p) (s
       same_fault (bytes_at sheet p.allow) (bytes_at sheet p.deny) (bytes_at sheet p.byuid) (bytes_at sheet p.portacl) (bytes_at sheet p.tables) k.0
       k.1
 
-  pub others_refused : (g : Refusal) → c ≡ C.Refused g → R.Refused g ≡ portacl_ruling (decide_portacl_sheet sheet s o)
+  pub others_refused : (g : Refusal) → c ≡ Err g → Err g ≡ portacl_ruling (decide_portacl_sheet sheet s o)
   unfolding decide_portacl_sheet unpack
   others_refused g h = rw (framed, others, checked_refused (texts_fault (without_list (texts_at sheet p))) g (sym is_c ∙ h))
 
-  pub others_sound : c ≡ C.Sound → R.Answered d ≡ portacl_ruling (decide_portacl_sheet sheet s o)
+  pub others_sound : c ≡ (Ok tt) → Ok d ≡ portacl_ruling (decide_portacl_sheet sheet s o)
   unfolding decide_portacl_sheet unpack
   others_sound h = rw (framed, others, checked_sound (texts_fault (without_list (texts_at sheet p))) (sym is_c ∙ h), decided)
 
-pub list_unframed : (sheet : List ℕ) (x : Framed) → x ≡ framed_of (frame sheet) → (s : Settings) (o : Option Bind) (g : Refusal) → x ≡ Fr.Refused g
-    → R.Refused g ≡ portacl_ruling (decide_portacl_sheet sheet s o)
+pub list_unframed : (sheet : List ℕ) (x : Result Parts Refusal) → x ≡ framed_of (frame sheet) → (s : Settings) (o : Option Bind) (g : Refusal) → x ≡ Err g
+    → Err g ≡ portacl_ruling (decide_portacl_sheet sheet s o)
 unfolding decide_portacl_sheet unpack
 list_unframed sheet x is_x s o g e = rw (framed_refused (frame sheet) g (sym is_x ∙ e))
 
 pub others_checked : (sheet : List ℕ) (p : Parts) (a d b q t : List ℕ) → a ≡ bytes_at sheet p.allow → d ≡ bytes_at sheet p.deny
     → b ≡ bytes_at sheet p.byuid → q ≡ [] → t ≡ bytes_at sheet p.tables
-    → (x : Checked) → x ≡ checked_of (texts_fault (texts a d b q t)) → x ≡ checked_of (texts_fault (without_list (texts_at sheet p)))
+    → (x : Result Unit Refusal) → x ≡ checked_of (texts_fault (texts a d b q t)) → x ≡ checked_of (texts_fault (without_list (texts_at sheet p)))
 others_checked sheet p a d b q t is-a is_d is_b is-q is-t x is_x = is_x ∙ rw (is-a, is_d, is_b, is-q, is-t)

@@ -2,9 +2,8 @@
 --   decide_sheet, decide_byuid_sheet, decide_portacl_sheet == every check of the sheet, then the decision by its texts
 --   looked_sheet sheet o == how many elements were looked at for decide_sheet
 -- Assumes nothing: these are definitions.
-use Rattle.std.specs.Prelude.{ℕ, ◌+◌, List}
-use Rattle.std.proofs.Math.Option.{Option}
-use Rattle.section.specs.Refusal.{Outcome, refused, answered, ◌>>=◌}
+use Rattle.std.specs.Prelude.{ℕ, ◌+◌, List, Err, Ok, Option}
+use Rattle.section.specs.Refusal.{Outcome, ◌>>=◌}
 use Rattle.section.specs.Section.{bytes_at, part}
 use Rattle.elements.specs.Request.{Request}
 use Rattle.rules.specs.declared.Answer.{Answer}
@@ -36,12 +35,12 @@ unfoldable pub decide_sheet : List ℕ → Option Request → Outcome Answer
 decide_sheet sheet o = do
   p ← unpack sheet
   a ← decide_over (tables_of (bytes_at sheet p.tables)) (bytes_at sheet p.allow) (bytes_at sheet p.deny) o
-  answered (in_sheet p a)
+  Ok (in_sheet p a)
 
 -- document 02, request 12: how many elements were looked at, "(0 at a refusal)"
 abbrev pub looked_in : List ℕ → Option Request → Outcome Parts → ℕ
-looked_in sheet o (refused f) = 0
-looked_in sheet o (answered p) = looked_over (tables_of (bytes_at sheet p.tables)) (bytes_at sheet p.allow) (bytes_at sheet p.deny) o
+looked_in sheet o (Err f) = 0
+looked_in sheet o (Ok p) = looked_over (tables_of (bytes_at sheet p.tables)) (bytes_at sheet p.allow) (bytes_at sheet p.deny) o
 
 unfoldable pub looked_sheet : List ℕ → Option Request → ℕ
 looked_sheet sheet o = looked_in sheet o (unpack sheet)

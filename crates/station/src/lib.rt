@@ -6,8 +6,6 @@
 #![tactic(auto)]
 
 ghost use Rattle.std.specs.Prelude.{◌≡◌, ◌+◌, ◌<◌};
-ghost use Rattle.std.proofs.Math.Option.{some};
-ghost use Rattle.section.specs.Refusal.{answered};
 ghost use Rattle.section.specs.Section.{bytes_at};
 ghost use Rattle.elements.specs.Places.{request_at};
 ghost use Rattle.tables.specs.Table.{tables_of, match_of};
@@ -25,12 +23,10 @@ ghost use Rattle.station.specs.Code.{framed_fault, refused_by, without_list};
 
 use address::Addr;
 use elements::request::Request;
-use rules::search::{Finding, find};
+use rules::search::find;
 use rules::{Answer, File, Reported};
 use section::{Fault, Part, part_of};
-use sheet::frame::Framed;
-use sheet::texts::{Checked, check_texts};
-use sheet::unpack::Unpacked;
+use sheet::texts::check_texts;
 use sheet::{Parts, frame, unpack};
 use tables::entry::Framing;
 
@@ -43,7 +39,7 @@ fn find_framed(
     tables: &[u8],
     names: &[u8],
     request: Request,
-) -> Finding
+) -> Option<Searched>
     requires { tables_in tables.now ≡ tables_of tables.now }
     ensures { result
         ≡ finding_of (contents_fault allow.now deny.now byuid.now portacl.now tables.now)
@@ -52,10 +48,10 @@ fn find_framed(
         (capped (looked (tables_of tables.now) allow.now deny.now (request_at names.now request)))) }
 {
     match portacl::check(portacl) {
-        portacl::Checked::Refused(_) => Finding::Doubtful,
-        portacl::Checked::Sound => match byuid::check(byuid) {
-            byuid::Checked::Refused(_) => Finding::Doubtful,
-            byuid::Checked::Sound => find(allow, deny, tables, names, request),
+        Err(_) => None,
+        Ok(()) => match byuid::check(byuid) {
+            Err(_) => None,
+            Ok(()) => find(allow, deny, tables, names, request),
         },
     }
 }
@@ -69,7 +65,7 @@ fn find_in_texts(
     tables: &[u8],
     names: &[u8],
     request: Request,
-) -> Finding
+) -> Option<Searched>
     ensures { result
         ≡ finding_of (framed_fault allow.now deny.now byuid.now portacl.now tables.now)
         (searched
@@ -77,8 +73,8 @@ fn find_in_texts(
         (capped (looked (tables_of tables.now) allow.now deny.now (request_at names.now request)))) }
 {
     match tables::entry::frame(tables) {
-        Framing::Cut => Finding::Doubtful,
-        Framing::Trailing => Finding::Doubtful,
+        Framing::Cut => None,
+        Framing::Trailing => None,
         Framing::Sound => find_framed(allow, deny, byuid, portacl, tables, names, request),
     }
 }
@@ -114,7 +110,7 @@ fn in_sheet(parts: Parts, answer: Answer) -> Answer
 }
 
 // The answer by the texts that stand in a sheet.
-fn find_in_parts(sheet: &[u8], parts: Parts, names: &[u8], request: Request) -> Finding
+fn find_in_parts(sheet: &[u8], parts: Parts, names: &[u8], request: Request) -> Option<Searched>
     ensures { result
         ≡ finding_of
         (framed_fault (bytes_at sheet.now parts.allow) (bytes_at sheet.now parts.deny) (bytes_at sheet.now parts.byuid)
@@ -141,22 +137,22 @@ fn refuse(sheet: &[u8]) -> Reported
     ensures { result ≡ refused_by (unpackOf sheet.now) }
 {
     match unpack::unpack(sheet) {
-        Unpacked::Refused(refusal) => rules::refused(refusal),
-        Unpacked::Parts(_) => rules::refused(section::placeless(Fault::BadRequest)),
+        Err(refusal) => rules::refused(refusal),
+        Ok(_) => rules::refused(section::placeless(Fault::BadRequest)),
     }
 }
 
 // The verdict by the parts of a sheet.
 fn decide_by_parts(sheet: &[u8], parts: Parts, names: &[u8], request: Request) -> Reported
-    requires { frame_of sheet.now ≡ answered parts }
+    requires { frame_of sheet.now ≡ Ok parts }
     ensures { result
-        ≡ reported (decide_sheet sheet.now (some (request_at names.now request)))
-        (looked_sheet sheet.now (some (request_at names.now request))) }
+        ≡ reported (decide_sheet sheet.now (Some (request_at names.now request)))
+        (looked_sheet sheet.now (Some (request_at names.now request))) }
 {
     let holding = elements::request::held(request);
     match find_in_parts(sheet, parts, names, holding) {
-        Finding::Doubtful => refuse(sheet),
-        Finding::Answer(found) => {
+        None => refuse(sheet),
+        Some(found) => {
             let sound = elements::request::fits(names, holding);
             rules::answered(in_sheet(parts, found.answer), found.looked, sound)
         }
@@ -166,12 +162,12 @@ fn decide_by_parts(sheet: &[u8], parts: Parts, names: &[u8], request: Request) -
 // The verdict on a request by a sheet, or the refusal of the sheet or of the request.
 pub fn decide(sheet: &[u8], names: &[u8], request: Request) -> Reported
     ensures { result
-        ≡ reported (decide_sheet sheet.now (some (request_at names.now request)))
-        (looked_sheet sheet.now (some (request_at names.now request))) }
+        ≡ reported (decide_sheet sheet.now (Some (request_at names.now request)))
+        (looked_sheet sheet.now (Some (request_at names.now request))) }
 {
     match frame::frame(sheet) {
-        Framed::Refused(refusal) => rules::refused(refusal),
-        Framed::Parts(parts) => decide_by_parts(sheet, parts, names, request),
+        Err(refusal) => rules::refused(refusal),
+        Ok(parts) => decide_by_parts(sheet, parts, names, request),
     }
 }
 
@@ -183,12 +179,12 @@ pub fn command(sheet: &[u8], answer: Answer) -> &[u8]
 }
 
 // Whether a caller may bind a port at an address, by the byuid text of a sheet, which is the plain file.
-pub fn decide_byuid(sheet: &[u8], port: u16, addr: Addr, uid: u32) -> byuid::Ruling
-    ensures { result ≡ byuid_ruling (decide_byuid_sheet sheet.now (some (byuid_bind port addr uid))) }
+pub fn decide_byuid(sheet: &[u8], port: u16, addr: Addr, uid: u32) -> Result<byuid::Decision, Refusal>
+    ensures { result ≡ byuid_ruling (decide_byuid_sheet sheet.now (Some (byuid_bind port addr uid))) }
 {
     match unpack::unpack(sheet) {
-        Unpacked::Refused(refusal) => byuid::Ruling::Refused(refusal),
-        Unpacked::Parts(parts) => byuid::decide(
+        Err(refusal) => Err(refusal),
+        Ok(parts) => byuid::decide(
             part_of(sheet, parts.byuid),
             byuid::Mark::Plain,
             port,
@@ -206,12 +202,12 @@ fn decide_unpacked(
     groups: &[u32],
     protocol: portacl::Protocol,
     port: u16,
-) -> portacl::Ruling
-    ensures { result ≡ portacl_ruling (decide_portacl_sheet sheet.now settings (some (portacl_bind uid groups.now protocol port))) }
+) -> Result<portacl::Decision, Refusal>
+    ensures { result ≡ portacl_ruling (decide_portacl_sheet sheet.now settings (Some (portacl_bind uid groups.now protocol port))) }
 {
     match unpack::unpack(sheet) {
-        Unpacked::Refused(refusal) => portacl::Ruling::Refused(refusal),
-        Unpacked::Parts(parts) => portacl::decide(
+        Err(refusal) => Err(refusal),
+        Ok(parts) => portacl::decide(
             part_of(sheet, parts.portacl),
             settings,
             uid,
@@ -223,7 +219,7 @@ fn decide_unpacked(
 }
 
 // The check of the texts of a sheet without its portacl list: an empty list is as sound as one that gave a decision.
-fn check_others(sheet: &[u8], parts: Parts) -> Checked
+fn check_others(sheet: &[u8], parts: Parts) -> Result<(), Refusal>
     ensures { result ≡ checked_of (texts_fault (without_list (texts_at sheet.now parts))) }
 {
     let allow = part_of(sheet, parts.allow);
@@ -243,18 +239,18 @@ fn decide_framed(
     groups: &[u32],
     protocol: portacl::Protocol,
     port: u16,
-) -> portacl::Ruling
-    requires { frame_of sheet.now ≡ answered parts }
-    ensures { result ≡ portacl_ruling (decide_portacl_sheet sheet.now settings (some (portacl_bind uid groups.now protocol port))) }
+) -> Result<portacl::Decision, Refusal>
+    requires { frame_of sheet.now ≡ Ok parts }
+    ensures { result ≡ portacl_ruling (decide_portacl_sheet sheet.now settings (Some (portacl_bind uid groups.now protocol port))) }
 {
     let list = part_of(sheet, parts.portacl);
     match portacl::decide(list, settings, uid, groups, protocol, port) {
-        portacl::Ruling::Refused(_) => {
+        Err(_) => {
             decide_unpacked(sheet, settings, uid, groups, protocol, port)
         }
-        portacl::Ruling::Answered(decision) => match check_others(sheet, parts) {
-            Checked::Refused(refusal) => portacl::Ruling::Refused(refusal),
-            Checked::Sound => portacl::Ruling::Answered(decision),
+        Ok(decision) => match check_others(sheet, parts) {
+            Err(refusal) => Err(refusal),
+            Ok(()) => Ok(decision),
         },
     }
 }
@@ -267,12 +263,12 @@ pub fn decide_portacl(
     groups: &[u32],
     protocol: portacl::Protocol,
     port: u16,
-) -> portacl::Ruling
-    ensures { result ≡ portacl_ruling (decide_portacl_sheet sheet.now settings (some (portacl_bind uid groups.now protocol port))) }
+) -> Result<portacl::Decision, Refusal>
+    ensures { result ≡ portacl_ruling (decide_portacl_sheet sheet.now settings (Some (portacl_bind uid groups.now protocol port))) }
 {
     match frame::frame(sheet) {
-        Framed::Refused(refusal) => portacl::Ruling::Refused(refusal),
-        Framed::Parts(parts) => {
+        Err(refusal) => Err(refusal),
+        Ok(parts) => {
             decide_framed(sheet, parts, settings, uid, groups, protocol, port)
         }
     }

@@ -1,9 +1,9 @@
 -- Laws of the faults of the tables themselves, shaped as the calls and tests of the code hand their facts over.
 -- Assumes nothing.
+use Rattle.std.specs.Prelude.{None, Option, Some}
 use Prim.Native.Nat.{ℕ, zero, suc, ◌+◌, ◌-◌, ◌≤◌, ◌<◌}
 use mathlib.Core.Bool.{Bool, true, false, not, ◌||◌, true≢false, or-false}
 use mathlib.Core.List.{List, [], ◌∷◌}
-use mathlib.Core.Option.{Option, none, some}
 use mathlib.Core.Path.{◌≡◌, refl, sym, ap, ap₂, ◌∙◌, subst}
 use native.Mathlib.Numerals.{add-one}
 use native.Mathlib.Omega.{arith}
@@ -20,8 +20,6 @@ use Rattle.patterns.specs.Pattern.{host_pattern}
 use Rattle.patterns.specs.Code.{pattern_seen}
 use Rattle.patterns.specs.declared.HostSeen.{HostSeen}
 use Rattle.tables.specs.declared.entry.EntrySpan.{EntrySpan}
-use Rattle.tables.specs.declared.entry.Place.{Place}
-use Rattle.tables.specs.declared.entry.Place.TheVariants as Place
 use Rattle.tables.specs.declared.check.TextCheck.{TextCheck}
 use Rattle.tables.specs.declared.check.TablesCheck.{TablesCheck}
 use Rattle.tables.specs.Table.{Table, table, table_named, is_missing, is_table_name, table_name}
@@ -40,30 +38,30 @@ place_some [] n = refl
 place_some (t ∷ ts) n = by (equal_fold n t.name) (place_named ts n) (table_named ts n) (place_some ts n)
   where
     by : (b : Bool) (o : Option ℕ) (p : Option Table) → is_some o ≡ is_some p
-        → is_some (when b then some 0 else (o >>= λ i. some (suc i))) ≡ is_some (given b t or_else p)
+        → is_some (when b then Some 0 else (o >>= λ i. Some (suc i))) ≡ is_some (given b t or_else p)
     by true o p e = refl
-    by false none p e = e
-    by false (some i) p e = e
+    by false None p e = e
+    by false (Some i) p e = e
 
-place_missing : (o : Option ℕ) → place_of o ≡ Place.Missing → o ≡ none
-place_missing none e = refl
-place_missing (some i) e = let z : ◌≡◌ {A = ℕ} 0 1 = cc in absurd (omega arith)
+place_missing : (o : Option ℕ) → place_of o ≡ None → o ≡ None
+place_missing None e = refl
+place_missing (Some i) e = let z : ◌≡◌ {A = ℕ} 0 1 = cc in absurd (omega arith)
 
-place_at : (o : Option ℕ) (k : ℕ) → place_of o ≡ Place.At k → o ≡ some k
-place_at none k e = let z : ◌≡◌ {A = ℕ} 0 1 = cc in absurd (omega arith)
-place_at (some i) k e = cc
+place_at : (o : Option ℕ) (k : ℕ) → place_of o ≡ Some k → o ≡ Some k
+place_at None k e = let z : ◌≡◌ {A = ℕ} 0 1 = cc in absurd (omega arith)
+place_at (Some i) k e = cc
 
-module _ (ts : List Table) (n : List ℕ) (p : Place) (is-p : p ≡ place_of (place_named ts n)) where
-  pub missing_none : p ≡ Place.Missing → true ≡ is_missing ts n
+module _ (ts : List Table) (n : List ℕ) (p : Option ℕ) (is-p : p ≡ place_of (place_named ts n)) where
+  pub missing_none : p ≡ None → true ≡ is_missing ts n
   missing_none e = sym (ap not (sym (place_some ts n) ∙ ap is_some (place_missing (place_named ts n) (sym is-p ∙ e))))
 
-  pub missing_found : (k : ℕ) → p ≡ Place.At k → false ≡ is_missing ts n
+  pub missing_found : (k : ℕ) → p ≡ Some k → false ≡ is_missing ts n
   missing_found k e = sym (ap not (sym (place_some ts n) ∙ ap is_some (place_at (place_named ts n) k (sym is-p ∙ e))))
 
-  pub before_none : (i : ℕ) → p ≡ Place.Missing → false ≡ named_before ts n i
+  pub before_none : (i : ℕ) → p ≡ None → false ≡ named_before ts n i
   before_none i e = sym (ap (holds (λ k. ltb k i)) (place_missing (place_named ts n) (sym is-p ∙ e)))
 
-  pub before_found : (i k : ℕ) → p ≡ Place.At k → ltb k i ≡ named_before ts n i
+  pub before_found : (i k : ℕ) → p ≡ Some k → ltb k i ≡ named_before ts n i
   before_found i k e = sym (ap (holds (λ j. ltb j i)) (place_at (place_named ts n) k (sym is-p ∙ e)))
 
 -- ## One word
@@ -99,7 +97,7 @@ module _ (ts : List Table) (w : List ℕ) (x : Bool) (is_x : x ≡ first_among "
     unfolding is_bad_pattern pattern_with
     bad_of = rw (slash_except w slash, slash, name_of) (by y)
       where
-        by : (b : Bool) → not (is_some {A = Endpoint → Bool} (given b (take (length w - 1) (drop 1 w)) >>= λ n. some (λ h. false))) ≡ not b
+        by : (b : Bool) → not (is_some {A = Endpoint → Bool} (given b (take (length w - 1) (drop 1 w)) >>= λ n. Some (λ h. false))) ≡ not b
         by true = refl
         by false = refl
 
@@ -169,10 +167,10 @@ number_more m b k o h = by (eqb m 0) refl b
     by true e false = simp e
     by false e b = simp e
 
-number_end : (m : ℕ) → number_from m none ≡ m
+number_end : (m : ℕ) → number_from m None ≡ m
 number_end m = by (eqb m 0) refl
   where
-    by : (z : Bool) → eqb m 0 ≡ z → number_from m none ≡ m
+    by : (z : Bool) → eqb m 0 ≡ z → number_from m None ≡ m
     by true e = rw e (sym (eqb-true m 0 e))
     by false e = rw e
 
@@ -182,12 +180,12 @@ before_start : (ts : List Table) (n : List ℕ) → false ≡ named_before ts n 
 before_start ts n = by (place_named ts n)
   where
     by : (o : Option ℕ) → false ≡ holds (λ k. ltb k 0) o
-    by none = refl
-    by (some k) = sym (le-ltb k 0 (omega arith))
+    by None = refl
+    by (Some k) = sym (le-ltb k 0 (omega arith))
 
-before_shift : (o : Option ℕ) (i : ℕ) → holds (λ k. ltb k (suc i)) (o >>= λ k. some (suc k)) ≡ holds (λ k. ltb k i) o
-before_shift none i = refl
-before_shift (some k) i = leb-suc-suc (suc k) i
+before_shift : (o : Option ℕ) (i : ℕ) → holds (λ k. ltb k (suc i)) (o >>= λ k. Some (suc k)) ≡ holds (λ k. ltb k i) o
+before_shift None i = refl
+before_shift (Some k) i = leb-suc-suc (suc k) i
 
 or_true : (a : Bool) → true ≡ (a || true)
 or_true true = refl
@@ -370,16 +368,16 @@ clean_plain ts w e plain sound =
     let p : false ≡ plain_bad w = rw (plain, sound) in
     ap (λ (c : TextCheck). text_checked (c.missing || false) (c.bad || false)) (sym (word_plain ts w (first_among "/" w) refl e false p))
 
-named_slash : (w n : List ℕ) → table_name w ≡ some n → first_among "/" w ≡ true
+named_slash : (w n : List ℕ) → table_name w ≡ Some n → first_among "/" w ≡ true
 unfolding table_name
 named_slash w n = by (first_among "/" w)
   where
-    by : (x : Bool) → (when x then given (is_table_name (drop 1 w)) (drop 1 w) else none) ≡ some n → x ≡ true
+    by : (x : Bool) → (when x then given (is_table_name (drop 1 w)) (drop 1 w) else None) ≡ Some n → x ≡ true
     by true e = refl
     by false e = ap is_some e
 
 -- the name of a table that is there
-pub clean_named : (ts : List Table) (w n : List ℕ) (i : ℕ) → table_name w ≡ some n → place_named ts n ≡ some i
+pub clean_named : (ts : List Table) (w n : List ℕ) (i : ℕ) → table_name w ≡ Some n → place_named ts n ≡ Some i
     → words_checked ts (w ∷ []) ≡ text_checked false false
 unfolding words_checked any is_bad_pattern pattern_with
 clean_named ts w n i is-n at =

@@ -1,10 +1,9 @@
 -- Laws of the tables of a section five, entry by entry, shaped as the calls and tests of the code hand their facts over.
 -- Assumes nothing.
+use Rattle.std.specs.Prelude.{None, Option, Some, unwrap_or}
 use Prim.Native.Nat.{ℕ, zero, suc, ◌+◌, ◌-◌, ◌*◌, ◌≤◌, ◌<◌}
 use mathlib.Core.Bool.{Bool, true, false, true≢false}
 use mathlib.Core.List.{List, [], ◌∷◌}
-use mathlib.Core.Option
-use mathlib.Core.Option.{Option, none, some}
 use mathlib.Core.Path.{◌≡◌, refl, sym, ap, ◌∙◌, subst}
 use native.Mathlib.Omega.{arith}
 use borrow.Author.Tests.{leb-true, leb-false, le-leb, lt-leb, lt-ltb, le-ltb}
@@ -18,17 +17,15 @@ use Rattle.text.proofs.ScanLaws.{take_rest}
 use Rattle.tables.specs.declared.entry.EntrySpan.{EntrySpan}
 use Rattle.tables.specs.declared.entry.Framing.{Framing}
 use Rattle.tables.specs.declared.entry.Framing.TheVariants as Framing
-use Rattle.tables.specs.declared.entry.Place.{Place}
-use Rattle.tables.specs.declared.entry.Place.TheVariants as Place
 use Rattle.tables.specs.Table.{Table, table, after_count, read_table, read_each, read_tables}
 use Rattle.tables.specs.Code.{entries, table_count, tables_in, cut_entry, span_of, entry_span, entry_or, entry_table, after_entry, frame_of}
 use Rattle.tables.specs.Code.{place_named, place_of, shifted, SoughtFrom}
 
-pub none_some : {A : Type 0} {a : A} → ◌≡◌ {A = Option A} none (some a) → ⊥
+pub none_some : {A : Type 0} {a : A} → ◌≡◌ {A = Option A} None (Some a) → ⊥
 none_some e = let z : ◌≡◌ {A = ℕ} 0 1 = cc in omega arith
 
-pub some_same : {A : Type 0} (x y : A) → ◌≡◌ {A = Option A} (some x) (some y) → x ≡ y
-some_same x y e = ap (λ (o : Option _). Option.get_or o x) e
+pub some_same : {A : Type 0} (x y : A) → ◌≡◌ {A = Option A} (Some x) (Some y) → x ≡ y
+some_same x y e = ap (λ (o : Option _). unwrap_or o x) e
 
 -- ## Counts
 
@@ -70,11 +67,11 @@ pub after_count_some : (s : List ℕ) → take (length s - 2) (drop 2 s) ≡ dro
 after_count_some s = take_rest s 2
 
 -- counted bytes
-pub after_none : (w : ℕ) (t : List ℕ) → length t < w + count_at w t → after_count w t ≡ none
+pub after_none : (w : ℕ) (t : List ℕ) → length t < w + count_at w t → after_count w t ≡ None
 unfolding after_count
 after_none w t h = rw (lt-leb (w + count_at w t) (length t) h)
 
-pub after_some : (w : ℕ) (t : List ℕ) → w + count_at w t ≤ length t → after_count w t ≡ some (take (count_at w t) (drop w t), drop (w + count_at w t) t)
+pub after_some : (w : ℕ) (t : List ℕ) → w + count_at w t ≤ length t → after_count w t ≡ Some (take (count_at w t) (drop w t), drop (w + count_at w t) t)
 unfolding after_count
 after_some w t h = rw (le-leb (w + count_at w t) (length t) h)
 
@@ -92,15 +89,15 @@ text_len t = count_at 4 (text_at t)
 abbrev entry_at : List ℕ → Table × List ℕ
 entry_at t = (table (take (name_len t) (drop 1 t)) (take (text_len t) (drop 4 (text_at t))), drop (4 + text_len t) (text_at t))
 
-name_none : (t : List ℕ) → length t < 1 + name_len t → read_table t ≡ none
+name_none : (t : List ℕ) → length t < 1 + name_len t → read_table t ≡ None
 unfolding read_table
 name_none t h = rw (after_none 1 t h)
 
-text_none : (t : List ℕ) → 1 + name_len t ≤ length t → length (text_at t) < 4 + text_len t → read_table t ≡ none
+text_none : (t : List ℕ) → 1 + name_len t ≤ length t → length (text_at t) < 4 + text_len t → read_table t ≡ None
 unfolding read_table
 text_none t h k = rw (after_some 1 t h, after_none 4 (text_at t) k)
 
-entry_some : (t : List ℕ) → 1 + name_len t ≤ length t → 4 + text_len t ≤ length (text_at t) → read_table t ≡ some (entry_at t)
+entry_some : (t : List ℕ) → 1 + name_len t ≤ length t → 4 + text_len t ≤ length (text_at t) → read_table t ≡ Some (entry_at t)
 unfolding read_table
 entry_some t h k = rw (after_some 1 t h, after_some 4 (text_at t) k)
 
@@ -131,7 +128,7 @@ module _ (t : List ℕ) (h : 1 + name_len t ≤ length t) (k : 4 + text_len t �
   unfolding entry_span
   span_some = rw (entry_some t h k, name_long, text_long)
 
-pub read_whole : (t : List ℕ) (p : Table × List ℕ) → read_table t ≡ some p → Whole t p
+pub read_whole : (t : List ℕ) (p : Table × List ℕ) → read_table t ≡ Some p → Whole t p
 read_whole t p e = by (leb (1 + name_len t) (length t)) refl (leb (4 + text_len t) (length (text_at t))) refl
   where
     by : (a : Bool) → leb (1 + name_len t) (length t) ≡ a → (b : Bool) → leb (4 + text_len t) (length (text_at t)) ≡ b → Whole t p
@@ -144,7 +141,7 @@ read_whole t p e = by (leb (1 + name_len t) (length t)) refl (leb (4 + text_len 
         subst (λ q. Whole t q) (some_same (entry_at t) p (sym (entry_some t h k) ∙ e)) (entry_whole t h k)
 
 -- as entry_span finds it
-pub read_count : (t : List ℕ) (p : Table × List ℕ) → read_table t ≡ some p → get_or t 0 0 ≡ length p.0.name
+pub read_count : (t : List ℕ) (p : Table × List ℕ) → read_table t ≡ Some p → get_or t 0 0 ≡ length p.0.name
 read_count t p e = by (leb (1 + name_len t) (length t)) refl (leb (4 + text_len t) (length (text_at t))) refl
   where
     by : (a : Bool) → leb (1 + name_len t) (length t) ≡ a → (b : Bool) → leb (4 + text_len t) (length (text_at t)) ≡ b → get_or t 0 0 ≡ length p.0.name
@@ -170,7 +167,7 @@ module _ (s : List ℕ) (full : length s ≡ 0 → ⊥) where
       one : name_len s ≡ get_or s 0 0
       one = count_of_one s full
 
-      by : (a : Bool) → leb (1 + name_len s) (length s) ≡ a → read_table s ≡ none
+      by : (a : Bool) → leb (1 + name_len s) (length s) ≡ a → read_table s ≡ None
       by false f = name_none s (leb-false (1 + name_len s) (length s) f)
       by true f = text_none s (leb-true (1 + name_len s) (length s) f) (omega (arith, one, length-drop (1 + name_len s) s))
 
@@ -191,7 +188,7 @@ module _ (s : List ℕ) (full : length s ≡ 0 → ⊥) where
         let one : name_len s ≡ get_or s 0 0 = count_of_one s full in
         sym (span_some s (omega (arith, one)) (omega (arith, one, counted, length-drop (1 + name_len s) s)) ∙ rw (← counted, one))
 
-module _ (s : List ℕ) (p : Table × List ℕ) (e : read_table s ≡ some p) where
+module _ (s : List ℕ) (p : Table × List ℕ) (e : read_table s ≡ Some p) where
   pub entry_table_lem : entry_table s ≡ p.0
   unfolding entry_table
   entry_table_lem = ap (λ (o : Option (Table × List ℕ)). (entry_or o).0) e
@@ -202,18 +199,18 @@ module _ (s : List ℕ) (p : Table × List ℕ) (e : read_table s ≡ some p) wh
 
 -- the entry that a span tells
 pub record Entry (s : List ℕ) (span : EntrySpan) : Type 0 where
-  pub read : read_table s ≡ some (entry_table s, after_entry s)
+  pub read : read_table s ≡ Some (entry_table s, after_entry s)
   pub name_end_lem : span.name_end ≡ 1 + length (entry_table s).name
   pub text_end : span.end ≡ 1 + length (entry_table s).name + 4 + length (entry_table s).text
 
 module _ (s : List ℕ) (span : EntrySpan) (is-span : span ≡ entry_span s) where
-  pub cut_read : span.cut ≡ true → read_table s ≡ none
+  pub cut_read : span.cut ≡ true → read_table s ≡ None
   unfolding entry_span
   cut_read e = by (read_table s) refl
     where
-      by : (o : Option (Table × List ℕ)) → read_table s ≡ o → read_table s ≡ none
-      by none f = f
-      by (some p) f = absurd (true≢false (sym e ∙ ap (λ (x : EntrySpan). x.cut) (is-span ∙ ap span_of f)))
+      by : (o : Option (Table × List ℕ)) → read_table s ≡ o → read_table s ≡ None
+      by None f = f
+      by (Some p) f = absurd (true≢false (sym e ∙ ap (λ (x : EntrySpan). x.cut) (is-span ∙ ap span_of f)))
 
   module _ (whole : span.cut ≡ false) where
     pub entry_of : Entry s span
@@ -221,9 +218,9 @@ module _ (s : List ℕ) (span : EntrySpan) (is-span : span ≡ entry_span s) whe
     entry_of = by (read_table s) refl
       where
         by : (o : Option (Table × List ℕ)) → read_table s ≡ o → Entry s span
-        by none f = absurd (true≢false (sym (ap (λ (x : EntrySpan). x.cut) (is-span ∙ ap span_of f)) ∙ whole))
-        by (some p) f =
-            let i : span ≡ span_of (some p) = is-span ∙ ap span_of f in
+        by None f = absurd (true≢false (sym (ap (λ (x : EntrySpan). x.cut) (is-span ∙ ap span_of f)) ∙ whole))
+        by (Some p) f =
+            let i : span ≡ span_of (Some p) = is-span ∙ ap span_of f in
             let t : entry_table s ≡ p.0 = entry_table_lem s p f in
             record { read = f ∙ rw (t, entry_rest s p f); name_end_lem = rw (i, t); text_end = rw (i, t) }
 
@@ -269,9 +266,9 @@ pub frame_start : (t : List ℕ) → 2 ≤ length t → (n : ℕ) → n ≡ tabl
 unfolding read_tables table_count
 frame_start t h n is-n rest is-rest = rw (is-n, is-rest, le-ltb (length t) 2 h)
 
-frame_row : (x : Table) (o : Option (List Table × List ℕ)) → frame_of (o >>= λ r. some (x ∷ r.0, r.1)) ≡ frame_of o
-frame_row x none = refl
-frame_row x (some r) = refl
+frame_row : (x : Table) (o : Option (List Table × List ℕ)) → frame_of (o >>= λ r. Some (x ∷ r.0, r.1)) ≡ frame_of o
+frame_row x None = refl
+frame_row x (Some r) = refl
 
 -- the loop that has the tables up to rest, n of them left
 module _ (f : Framing) (n : ℕ) (rest : List ℕ) (so_far : f ≡ frame_of (read_each n rest)) where
@@ -295,21 +292,21 @@ module _ (f : Framing) (n : ℕ) (rest : List ℕ) (so_far : f ≡ frame_of (rea
             rw (m, (entry_of rest span is-span e).read) (frame_row (entry_table rest) (read_each k (after_entry rest)))
 
   module _ (ended : n ≤ 0) where
-    done : f ≡ frame_of (some ([], rest))
+    done : f ≡ frame_of (Some ([], rest))
     unfolding read_each
     done = let z : n ≡ 0 = omega arith in so_far ∙ rw z
 
     pub frame_sound : length rest ≡ 0 → Framing.Sound ≡ f
     frame_sound e = sym (done ∙ by rest e)
       where
-        by : (r : List ℕ) → length r ≡ 0 → frame_of (some ([], r)) ≡ Framing.Sound
+        by : (r : List ℕ) → length r ≡ 0 → frame_of (Some ([], r)) ≡ Framing.Sound
         by [] e = refl
         by (x ∷ r) e = absurd (omega arith)
 
     pub frame_trailing : (length rest ≡ 0 → ⊥) → Framing.Trailing ≡ f
     frame_trailing e = sym (done ∙ by rest e)
       where
-        by : (r : List ℕ) → (length r ≡ 0 → ⊥) → frame_of (some ([], r)) ≡ Framing.Trailing
+        by : (r : List ℕ) → (length r ≡ 0 → ⊥) → frame_of (Some ([], r)) ≡ Framing.Trailing
         by [] e = absurd (e refl)
         by (x ∷ r) e = refl
 
@@ -372,12 +369,12 @@ pub record Sought (t name : List ℕ) (n : ℕ) (rest : List ℕ) (i : ℕ) : Ty
   pub place : place_named (tables_in t) name ≡ shifted i (place_named (drop i (tables_in t)) name)
 
 pub shifted_none : (o : Option ℕ) → o ≡ shifted 0 o
-shifted_none none = refl
-shifted_none (some k) = let z : k ≡ 0 + k = omega arith in ap some z
+shifted_none None = refl
+shifted_none (Some k) = let z : k ≡ 0 + k = omega arith in ap Some z
 
-shifted_more : (i : ℕ) (o : Option ℕ) → shifted i (o >>= λ k. some (suc k)) ≡ shifted (i + 1) o
-shifted_more i none = refl
-shifted_more i (some k) = let z : i + suc k ≡ i + 1 + k = omega arith in ap some z
+shifted_more : (i : ℕ) (o : Option ℕ) → shifted i (o >>= λ k. Some (suc k)) ≡ shifted (i + 1) o
+shifted_more i None = refl
+shifted_more i (Some k) = let z : i + suc k ≡ i + 1 + k = omega arith in ap Some z
 
 pub sought_start : (t name : List ℕ) (n : ℕ) → n ≡ table_count t → (rest : List ℕ) (i : ℕ) → SoughtFrom t name rest i → Sought t name n rest i
 sought_start t name n is-n rest i h = record {
@@ -401,30 +398,30 @@ sought_first t name rest is-rest =
     }
 
 module _ (t name : List ℕ) (n : ℕ) (rest : List ℕ) (i : ℕ) (so_far : Sought t name n rest i) where
-  missing : drop i (tables_in t) ≡ [] → Place.Missing ≡ place_of (place_named (tables_in t) name)
+  missing : drop i (tables_in t) ≡ [] → None ≡ place_of (place_named (tables_in t) name)
   unfolding place_named
   missing e =
-      let z : place_named (tables_in t) name ≡ none = so_far.place ∙ rw e in
+      let z : place_named (tables_in t) name ≡ None = so_far.place ∙ rw e in
       sym (ap place_of z)
 
-  pub sought_end : n ≤ i → Place.Missing ≡ place_of (place_named (tables_in t) name)
+  pub sought_end : n ≤ i → None ≡ place_of (place_named (tables_in t) name)
   sought_end h = missing (reached_end t n rest i so_far.reached h)
 
   module _ (more : i < n) (span : EntrySpan) (is-span : span ≡ entry_span rest) where
-    pub sought_cut : span.cut ≡ true → Place.Missing ≡ place_of (place_named (tables_in t) name)
+    pub sought_cut : span.cut ≡ true → None ≡ place_of (place_named (tables_in t) name)
     sought_cut e = missing (reached_cut t n rest i so_far.reached more span is-span e)
 
     module _ (whole : span.cut ≡ false) (other : List ℕ) (is-other : other ≡ (entry_table rest).name) (x : Bool) (is_x : x ≡ equal_fold name other) where
       here : place_named (drop i (tables_in t)) name
-          ≡ (when x then some 0 else (place_named (entries (n - (i + 1)) (after_entry rest)) name >>= λ k. some (suc k)))
+          ≡ (when x then Some 0 else (place_named (entries (n - (i + 1)) (after_entry rest)) name >>= λ k. Some (suc k)))
       unfolding place_named
       here = rw (reached_here t n rest i so_far.reached more span is-span whole, is_x, is-other)
 
-      pub sought_found : x ≡ true → Place.At i ≡ place_of (place_named (tables_in t) name)
+      pub sought_found : x ≡ true → Some i ≡ place_of (place_named (tables_in t) name)
       sought_found e =
-          let z : place_named (tables_in t) name ≡ some (i + 0) = so_far.place ∙ rw (here, e) in
+          let z : place_named (tables_in t) name ≡ Some (i + 0) = so_far.place ∙ rw (here, e) in
           let m : i + 0 ≡ i = omega arith in
-          sym (ap place_of z ∙ ap Place.At m)
+          sym (ap place_of z ∙ ap Some m)
 
       pub sought_more : x ≡ false → (next : List ℕ) → next ≡ after_entry rest → Sought t name n next (i + 1)
       sought_more e next is-next =

@@ -1,11 +1,11 @@
 -- Examples, computed from the definitions: a definition that answers otherwise is refused here.
 -- Assumes nothing.
+use Rattle.std.specs.Prelude.{None, Some}
 use Prim.Native.Nat.{ℕ}
 use Prim.Native.Char.{code}
 use Prim.Native.String.{String}
 use mathlib.Core.Bool.{true, false, not}
 use mathlib.Core.List.{List, [], ◌∷◌}
-use mathlib.Core.Option.{none, some}
 use mathlib.Core.Path.{◌≡◌, refl}
 use lib.ListN.{take, replicate}
 use Rattle.text.specs.Basics.{holds, is_some, any, all, is_empty, first, each}
@@ -44,26 +44,26 @@ section = 0 ∷ 1 ∷ 1 ∷ code "v" ∷ 0 ∷ 0 ∷ 0 ∷ 1 ∷ bytes "x"
 
 pub record Examples : Type 0 where
   -- "its name after a one-byte count .. and its text after a four-byte count"
-  pub counted : after_count 1 (2 ∷ bytes "abc") ≡ some (bytes "ab", bytes "c")
-  pub counted_short : after_count 1 (2 ∷ bytes "a") ≡ none
-  pub entry_read : read_table (1 ∷ code "v" ∷ 0 ∷ 0 ∷ 0 ∷ 1 ∷ bytes "xy") ≡ some (of "v" "x", bytes "y")
+  pub counted : after_count 1 (2 ∷ bytes "abc") ≡ Some (bytes "ab", bytes "c")
+  pub counted_short : after_count 1 (2 ∷ bytes "a") ≡ None
+  pub entry_read : read_table (1 ∷ code "v" ∷ 0 ∷ 0 ∷ 0 ∷ 1 ∷ bytes "xy") ≡ Some (of "v" "x", bytes "y")
   -- "a two-byte count of tables, most significant first"
-  pub tables_read_lem : read_tables section ≡ some (of "v" "x" ∷ [], [])
-  pub tables_many : tables_frame (1 ∷ 0 ∷ []) ≡ some (refusal F.CutShort 5 0)
+  pub tables_read_lem : read_tables section ≡ Some (of "v" "x" ∷ [], [])
+  pub tables_many : tables_frame (1 ∷ 0 ∷ []) ≡ Some (refusal F.CutShort 5 0)
   -- "a cut in section five is 1"; "bytes after its last table are 3"; "the two zero bytes of an empty count"
-  pub frame_cut : tables_frame (take 8 section) ≡ some (refusal F.CutShort 5 0)
-  pub frame_trailing : tables_frame (0 ∷ section) ≡ some (placeless F.TrailingBytes)
-  pub frame_empty : tables_frame (0 ∷ 0 ∷ []) ≡ none
+  pub frame_cut : tables_frame (take 8 section) ≡ Some (refusal F.CutShort 5 0)
+  pub frame_trailing : tables_frame (0 ∷ section) ≡ Some (placeless F.TrailingBytes)
+  pub frame_empty : tables_frame (0 ∷ 0 ∷ []) ≡ None
   -- "1 to 64 bytes, of those that pattern names may use"
   pub name_longest : is_table_name (replicate 64 (code "v")) ≡ true
   pub name_longer : is_table_name (replicate 65 (code "v")) ≡ false
   pub name_empty : is_table_name [] ≡ false
   pub name_byte : is_table_name (bytes "v@n") ≡ false
-  pub name_written_lem : table_name (bytes "/Vans") ≡ some (bytes "Vans")
-  pub name_unsound : table_name (bytes "/v@n") ≡ none
+  pub name_written_lem : table_name (bytes "/Vans") ≡ Some (bytes "Vans")
+  pub name_unsound : table_name (bytes "/v@n") ≡ None
   -- "All comparison ignores ASCII case"
   pub name_in_case : is_missing (of "vans" "x" ∷ []) (bytes "Vans") ≡ false
-  pub name_first : table_named (of "v" "x" ∷ of "v" "y" ∷ []) (bytes "v") ≡ some (of "v" "x")
+  pub name_first : table_named (of "v" "x" ∷ of "v" "y" ∷ []) (bytes "v") ≡ Some (of "v" "x")
   -- "parted by spaces, tabs and newlines"
   pub parted : patterns (of "v" "a b\tc\nd,e\r") ≡ (bytes "a" ∷ bytes "b" ∷ bytes "c" ∷ bytes "d,e\r" ∷ [])
   -- "`/name`, tried first of the kinds"
@@ -80,11 +80,11 @@ pub record Examples : Type 0 where
   pub four_deep_lem : leads_past chain 4 (bytes "b") ≡ false
   pub ring_deep : leads_past ring 4 (bytes "a") ≡ true
   -- "the later's place"
-  pub first_number_lem : first_table (λ before t. not (is_empty before)) 1 [] chain ≡ some 2
+  pub first_number_lem : first_table (λ before t. not (is_empty before)) 1 [] chain ≡ Some 2
   pub given_twice : is_misnamed [] (of "V" "" ∷ []) (of "v" "") ≡ true
   pub named_missing : is_misnamed ring [] (of "c" "x /d") ≡ true
   pub named_well : is_misnamed ring [] (of "c" "x /B") ≡ false
-  pub names_refused : table_name_fault (of "v" "x" ∷ of "w" "/V" ∷ of "V" "" ∷ []) ≡ some (refusal F.TableName 5 3)
+  pub names_refused : table_name_fault (of "v" "x" ∷ of "w" "/V" ∷ of "V" "" ∷ []) ≡ Some (refusal F.TableName 5 3)
   -- "no EXCEPT, no users"
   pub bad_except : is_bad_pattern (bytes "except") ≡ true
   pub bad_user : is_bad_pattern (bytes "x@y") ≡ true
@@ -96,10 +96,10 @@ pub record Examples : Type 0 where
   pub unsound_pattern : is_unsound (of "v" "x y@z") ≡ true
   pub sound_empty : is_unsound (of "v" "") ≡ false
   -- "0 for the limits of 64 tables and of the whole section"
-  pub tables_64 : bad_table_fault (0 ∷ 64 ∷ replicate 320 0) ≡ some (refusal F.BadTable 5 1)
-  pub tables_65 : bad_table_fault (0 ∷ 65 ∷ replicate 325 0) ≡ some (refusal F.BadTable 5 0)
-  pub bytes_12288 : bad_table_fault (replicate 12288 0) ≡ none
-  pub bytes_12289 : bad_table_fault (replicate 12289 0) ≡ some (refusal F.BadTable 5 0)
+  pub tables_64 : bad_table_fault (0 ∷ 64 ∷ replicate 320 0) ≡ Some (refusal F.BadTable 5 1)
+  pub tables_65 : bad_table_fault (0 ∷ 65 ∷ replicate 325 0) ≡ Some (refusal F.BadTable 5 0)
+  pub bytes_12288 : bad_table_fault (replicate 12288 0) ≡ None
+  pub bytes_12289 : bad_table_fault (replicate 12289 0) ≡ Some (refusal F.BadTable 5 0)
 
 pub examples : Examples
 unfolding any all first each equal split_once split lower equal_fold from_digits numeral read_decimal non_empty

@@ -1,12 +1,12 @@
 -- Laws of the numbers of names, and of where to begin to look for one, shaped as the calls and tests of the code hand their facts over.
 -- Assumes nothing.
+use Rattle.std.specs.Prelude.{None, Option, Some}
 use Prim.Native.Nat.{ℕ, zero, suc, ◌+◌, ◌-◌, ◌*◌, ◌%◌, ◌≤◌, ◌<◌}
 use native.Mathlib.Nat.{mod-lt}
 use native.Mathlib.Numerals.{add-one}
 use native.Mathlib.Omega.{arith}
 use mathlib.Core.Bool.{Bool, true, false}
 use mathlib.Core.List.{List, [], ◌∷◌, map}
-use mathlib.Core.Option.{Option, none, some}
 use mathlib.Core.Path.{◌≡◌, refl, sym, ap, ◌∙◌, subst}
 use borrow.Author.Tests.{eqb-true, eqb-false, ltb-true, ltb-false, leb-true, leb-false}
 use lib.Dec.{eqb, ltb, leb}
@@ -16,8 +16,6 @@ use Rattle.text.specs.Basics.{when◌then◌else◌, ◌>>=◌}
 use Rattle.text.specs.Text.{lower, equal, equal_fold}
 use Rattle.text.proofs.ScanLaws.{eq_of_equal, take_rest}
 use Rattle.tables.specs.declared.entry.EntrySpan.{EntrySpan}
-use Rattle.tables.specs.declared.entry.Place.{Place}
-use Rattle.tables.specs.declared.entry.Place.TheVariants as Place
 use Rattle.tables.specs.Table.{Table, table, read_table}
 use Rattle.tables.specs.Code.{entries, table_count, tables_in, entry_span, entry_table, after_entry, followed}
 use Rattle.tables.specs.Code.{place_named, place_of, shifted, SoughtFrom, key_from, key_of, StartOf, Starts}
@@ -73,9 +71,9 @@ key_other a b n = by (equal_fold a b) refl
 abbrev no_table : Table
 no_table = table [] []
 
-shifted_suc : (p : ℕ) (o : Option ℕ) → (shifted p o >>= λ k. some (suc k)) ≡ shifted (suc p) o
-shifted_suc p none = refl
-shifted_suc p (some k) = let z : suc (p + k) ≡ suc p + k = omega arith in ap some z
+shifted_suc : (p : ℕ) (o : Option ℕ) → (shifted p o >>= λ k. Some (suc k)) ≡ shifted (suc p) o
+shifted_suc p None = refl
+shifted_suc p (Some k) = let z : suc (p + k) ≡ suc p + k = omega arith in ap Some z
 
 passed_over : (p : ℕ) (ts : List Table) (name : List ℕ)
     → ((j : ℕ) → j < p → j < length ts → equal_fold name (get_or ts j no_table).name ≡ false)
@@ -85,7 +83,7 @@ passed_over zero ts name h = shifted_none (place_named ts name)
 passed_over (suc p) [] name h = refl
 passed_over (suc p) (x ∷ ts) name h =
     rw (h 0 (omega arith) (omega arith))
-    (ap (λ (o : Option ℕ). o >>= λ k. some (suc k)) (passed_over p ts name (λ j l m. h (suc j) (omega arith) (omega arith)))
+    (ap (λ (o : Option ℕ). o >>= λ k. Some (suc k)) (passed_over p ts name (λ j l m. h (suc j) (omega arith) (omega arith)))
     ∙ shifted_suc p (place_named (drop p ts) name))
 
 entries_length : (n : ℕ) (t : List ℕ) → length (entries n t) ≤ n
@@ -94,8 +92,8 @@ entries_length zero t = omega arith
 entries_length (suc n) t = by (read_table t) (entries_length n)
   where
     by : (o : Option (Table × List ℕ)) → ((u : List ℕ) → length (entries n u) ≤ n) → length (followed (entries n) o) ≤ suc n
-    by none h = omega arith
-    by (some p) h = omega (arith, h p.1)
+    by None h = omega arith
+    by (Some p) h = omega (arith, h p.1)
 
 tables_length : (t : List ℕ) → length (tables_in t) ≤ table_count t
 unfolding tables_in
@@ -299,11 +297,11 @@ module _ (t s : List ℕ) (are : Starts t s) (k : ℕ) (small : k < 256) where
     over = passed_over (table_count t - get_or s k 0) (tables_in t) name
         (λ j l m. key_other name (get_or (tables_in t) j no_table).name (λ e. start.start_first j l m (e ∙ sym is-k)))
 
-    pub start_none : get_or s k 0 ≡ 0 → Place.Missing ≡ place_of (place_named (tables_in t) name)
+    pub start_none : get_or s k 0 ≡ 0 → None ≡ place_of (place_named (tables_in t) name)
     unfolding place_named entries
     start_none z =
         let d : drop (table_count t - get_or s k 0) (tables_in t) ≡ [] = start.start_left ∙ rw z in
-        let e : place_named (tables_in t) name ≡ none = over ∙ rw d in
+        let e : place_named (tables_in t) name ≡ None = over ∙ rw d in
         sym (ap place_of e)
 
     pub start_sought : (get_or s k 0 ≡ 0 → ⊥) → (n : ℕ) → n ≡ table_count t

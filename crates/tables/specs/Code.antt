@@ -3,9 +3,7 @@
 --   tables_in t           == the tables of t, as far as its bytes go
 --   place_named ts n      == the place among ts of the first table named n
 -- Assumes nothing: these are definitions.
-use Rattle.std.specs.Prelude.{ℕ, zero, suc, ◌+◌, ◌-◌, ◌*◌, ◌%◌, ◌≤◌, ◌<◌, Bool, true, false, not, ◌&&◌, ◌||◌, List, [], ◌∷◌, ◌≡◌, length, take, drop, get_or, eqb, ltb}
-use Rattle.std.proofs.Math.Option
-use Rattle.std.proofs.Math.Option.{Option, none, some}
+use Rattle.std.specs.Prelude.{ℕ, zero, suc, ◌+◌, ◌-◌, ◌*◌, ◌%◌, ◌≤◌, ◌<◌, Bool, true, false, not, ◌&&◌, ◌||◌, List, [], ◌∷◌, ◌≡◌, length, take, drop, get_or, eqb, ltb, None, Option, Some, unwrap_or}
 use Rattle.text.specs.Basics.{when◌then◌else◌, ◌>>=◌, holds, is_some, is_empty, any}
 use Rattle.text.specs.Text.{among, split, equal_fold}
 use Rattle.text.specs.Number.{from_digits}
@@ -15,8 +13,6 @@ use Rattle.patterns.specs.Pattern.{host_pattern}
 use Rattle.tables.specs.declared.entry.EntrySpan.{EntrySpan}
 use Rattle.tables.specs.declared.entry.Framing.{Framing}
 use Rattle.tables.specs.declared.entry.Framing.TheVariants as Framing
-use Rattle.tables.specs.declared.entry.Place.{Place}
-use Rattle.tables.specs.declared.entry.Place.TheVariants as Place
 use Rattle.tables.specs.declared.word.WordSpan.{WordSpan}
 use Rattle.tables.specs.declared.check.TextCheck.{TextCheck}
 use Rattle.tables.specs.declared.check.TablesCheck.{TablesCheck}
@@ -25,8 +21,8 @@ use Rattle.tables.specs.Table.{Table, table, read_table, table_name, is_missing,
 -- ## Entries
 
 abbrev pub followed : (List ℕ → List Table) → Option (Table × List ℕ) → List Table
-followed f none = []
-followed f (some p) = p.0 ∷ f p.1
+followed f None = []
+followed f (Some p) = p.0 ∷ f p.1
 
 unfoldable pub entries : ℕ → List ℕ → List Table
 entries zero t = []
@@ -44,14 +40,14 @@ abbrev pub cut_entry : EntrySpan
 cut_entry = record { cut = true; name_end = 0; end = 0 }
 
 abbrev pub span_of : Option (Table × List ℕ) → EntrySpan
-span_of none = cut_entry
-span_of (some p) = let n : ℕ = 1 + length p.0.name in record { cut = false; name_end = n; end = n + 4 + length p.0.text }
+span_of None = cut_entry
+span_of (Some p) = let n : ℕ = 1 + length p.0.name in record { cut = false; name_end = n; end = n + 4 + length p.0.text }
 
 unfoldable pub entry_span : List ℕ → EntrySpan
 entry_span t = span_of (read_table t)
 
 abbrev pub entry_or : Option (Table × List ℕ) → Table × List ℕ
-entry_or o = Option.get_or o (table [] [], [])
+entry_or o = unwrap_or o (table [] [], [])
 
 unfoldable pub entry_table : List ℕ → Table
 entry_table t = (entry_or (read_table t)).0
@@ -60,21 +56,21 @@ unfoldable pub after_entry : List ℕ → List ℕ
 after_entry t = (entry_or (read_table t)).1
 
 abbrev pub frame_of : Option (List Table × List ℕ) → Framing
-frame_of none = Framing.Cut
-frame_of (some p) = when is_empty p.1 then Framing.Sound else Framing.Trailing
+frame_of None = Framing.Cut
+frame_of (Some p) = when is_empty p.1 then Framing.Sound else Framing.Trailing
 
 -- the place of the first table so named
 unfoldable pub place_named : List Table → List ℕ → Option ℕ
-place_named [] n = none
-place_named (t ∷ ts) n = when equal_fold n t.name then some 0 else (place_named ts n >>= λ i. some (suc i))
+place_named [] n = None
+place_named (t ∷ ts) n = when equal_fold n t.name then Some 0 else (place_named ts n >>= λ i. Some (suc i))
 
-abbrev pub place_of : Option ℕ → Place
-place_of none = Place.Missing
-place_of (some i) = Place.At i
+abbrev pub place_of : Option ℕ → Option ℕ
+place_of None = None
+place_of (Some i) = Some i
 
 -- how many places further, a place found
 abbrev pub shifted : ℕ → Option ℕ → Option ℕ
-shifted i o = o >>= λ k. some (i + k)
+shifted i o = o >>= λ k. Some (i + k)
 
 -- rest holds the tables of t from the place i on, and none before is named n
 pub record SoughtFrom (t n rest : List ℕ) (i : ℕ) : Type 0 where
@@ -157,7 +153,7 @@ first_number before b n = when eqb before 0 && b then n else before
 
 -- a number of a table, 0 for none
 abbrev pub number_or : Option ℕ → ℕ
-number_or o = Option.get_or o 0
+number_or o = unwrap_or o 0
 
 unfoldable pub tables_checked : List Table → TablesCheck
 tables_checked ts = record {

@@ -8,8 +8,7 @@
 --   leads_past ts d n    == the table named n leads more than d deep
 --   tables_frame t, table_name_fault ts, bad_table_fault t == the refusals of a section five by 1 and 3, by 15, by 17
 -- Assumes nothing: these are definitions.
-use Rattle.std.specs.Prelude.{ℕ, zero, suc, ◌+◌, Bool, true, false, not, ◌&&◌, ◌||◌, List, [], ◌∷◌, length, take, drop, leb, ltb}
-use Rattle.std.proofs.Math.Option.{Option, none, some}
+use Rattle.std.specs.Prelude.{ℕ, zero, suc, ◌+◌, Bool, true, false, not, ◌&&◌, ◌||◌, List, [], ◌∷◌, length, take, drop, leb, ltb, None, Option, Some}
 use Rattle.text.specs.Basics.{when◌then◌else◌, ◌>>=◌, ◌or_else◌, given, holds, is_some, is_empty, any, all, first}
 use Rattle.text.specs.Text.{first_among, split, in_range, equal_fold}
 use Rattle.text.specs.Number.{from_digits}
@@ -39,22 +38,22 @@ unfoldable pub read_table : List ℕ → Option (Table × List ℕ)
 read_table t = do
   n ← after_count 1 t
   x ← after_count 4 n.1
-  some (table n.0 x.0, x.1)
+  Some (table n.0 x.0, x.1)
 
 unfoldable pub read_each : ℕ → List ℕ → Option (List Table × List ℕ)
-read_each zero t = some ([], t)
+read_each zero t = Some ([], t)
 read_each (suc k) t = do
   x ← read_table t
   r ← read_each k x.1
-  some (x.0 ∷ r.0, r.1)
+  Some (x.0 ∷ r.0, r.1)
 
 -- "a two-byte count of tables, most significant first"
 unfoldable pub read_tables : List ℕ → Option (List Table × List ℕ)
-read_tables t = when ltb (length t) 2 then none else read_each (from_digits 256 0 (take 2 t)) (drop 2 t)
+read_tables t = when ltb (length t) 2 then None else read_each (from_digits 256 0 (take 2 t)) (drop 2 t)
 
 abbrev pub tables_read : Option (List Table × List ℕ) → List Table
-tables_read none = []
-tables_read (some p) = p.0
+tables_read None = []
+tables_read (Some p) = p.0
 
 abbrev pub tables_of : List ℕ → List Table
 tables_of t = tables_read (read_tables t)
@@ -66,7 +65,7 @@ unfoldable pub is_table_name : List ℕ → Bool
 is_table_name n = all is_name_byte n && in_range 1 64 (length n)
 
 unfoldable pub table_name : List ℕ → Option (List ℕ)
-table_name e = when first_among "/" e then given (is_table_name (drop 1 e)) (drop 1 e) else none
+table_name e = when first_among "/" e then given (is_table_name (drop 1 e)) (drop 1 e) else None
 
 -- "All comparison ignores ASCII case"
 unfoldable pub table_named : List Table → List ℕ → Option Table
@@ -80,8 +79,8 @@ unfoldable pub patterns : Table → List (List ℕ)
 patterns t = non_empty (split " \t\n" t.text)
 
 abbrev pub patterns_of : Option Table → List (List ℕ)
-patterns_of none = []
-patterns_of (some t) = patterns t
+patterns_of None = []
+patterns_of (Some t) = patterns t
 
 abbrev pub table_patterns : List Table → List ℕ → List (List ℕ)
 table_patterns ts n = patterns_of (table_named ts n)
@@ -94,7 +93,7 @@ Matcher = List ℕ → Endpoint → Bool
 
 -- "Let `/name`, tried first of the kinds, work": the pattern that e writes
 unfoldable pub pattern_with : Matcher → List ℕ → Pattern
-pattern_with m e = when first_among "/" e then (table_name e >>= λ n. some (m n)) else host_pattern e
+pattern_with m e = when first_among "/" e then (table_name e >>= λ n. Some (m n)) else host_pattern e
 
 -- "a host matches if any pattern in that table matches"; "tables may name tables"
 unfoldable pub in_table : List Table → ℕ → Matcher
@@ -118,15 +117,15 @@ leads_past ts (suc d) n = any (λ w. holds (leads_past ts d) (table_name w)) (ta
 
 -- "a cut in section five is 1, before 3"; "bytes after its last table are 3"
 abbrev pub framed : Option (List Table × List ℕ) → Option Refusal
-framed none = some (refusal F.CutShort (S.tables).order 0)
-framed (some p) = given (not (is_empty p.1)) (placeless F.TrailingBytes)
+framed None = Some (refusal F.CutShort (S.tables).order 0)
+framed (Some p) = given (not (is_empty p.1)) (placeless F.TrailingBytes)
 
 unfoldable pub tables_frame : List ℕ → Option Refusal
 tables_frame t = framed (read_tables t)
 
 -- the number of the first table of which p holds with those before it; n is the first one's
 unfoldable pub first_table : (List Table → Table → Bool) → ℕ → List Table → List Table → Option ℕ
-first_table p n before [] = none
+first_table p n before [] = None
 first_table p n before (t ∷ ts) = given (p before t) n or_else first_table p (n + 1) (t ∷ before) ts
 
 -- 15: "a table name missing or given twice (the later's place ..)", "section 5 and the table's number from 1"
@@ -134,7 +133,7 @@ unfoldable pub is_misnamed : List Table → List Table → Table → Bool
 is_misnamed ts before t = not (is_missing before t.name) || any (λ w. holds (is_missing ts) (table_name w)) (patterns t)
 
 unfoldable pub table_name_fault : List Table → Option Refusal
-table_name_fault ts = first_table (is_misnamed ts) 1 [] ts >>= λ n. some (refusal F.TableName (S.tables).order n)
+table_name_fault ts = first_table (is_misnamed ts) 1 [] ts >>= λ n. Some (refusal F.TableName (S.tables).order n)
 
 -- "no EXCEPT, no users": what a pattern of a table may not be
 unfoldable pub is_bad_pattern : List ℕ → Bool
@@ -148,4 +147,4 @@ unfoldable pub bad_table_fault : List ℕ → Option Refusal
 bad_table_fault t =
     (given (ltb 64 (length (tables_of t)) || ltb (S.tables).limit (length t)) 0
     or_else first_table (λ before x. is_unsound x) 1 [] (tables_of t))
-    >>= λ n. some (refusal F.BadTable (S.tables).order n)
+    >>= λ n. Some (refusal F.BadTable (S.tables).order n)

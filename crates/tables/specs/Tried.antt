@@ -3,16 +3,15 @@
 --   tried_in ts d n h == how many patterns are tried when h is matched against the table named n, by the recursion of in_table
 --   capped n         == n as 64 bits say it: a larger number stops at the largest
 -- Assumes nothing: these are definitions.
-use Rattle.std.specs.Prelude.{ℕ, zero, suc, ◌+◌, ◌-◌, ◌^◌, List, ltb}
-use Rattle.std.proofs.Math.Option.{Option, none, some}
+use Rattle.std.specs.Prelude.{ℕ, zero, suc, ◌+◌, ◌-◌, ◌^◌, List, ltb, None, Option, Some}
 use Rattle.text.specs.Basics.{when◌then◌else◌, holds, sum_until}
 use Rattle.patterns.specs.Host.{Endpoint}
 use Rattle.tables.specs.Table.{Table, table_name, table_patterns, pattern_with, in_table, depth}
 
 -- "counts as well as the element that named it"
 abbrev pub looked_with : (List ℕ → ℕ) → Option (List ℕ) → ℕ
-looked_with c none = 1
-looked_with c (some n) = 1 + c n
+looked_with c None = 1
+looked_with c (Some n) = 1 + c n
 
 -- "each pattern tried in a table, in order until one matches"
 unfoldable pub tried_in : List Table → ℕ → List ℕ → Endpoint → ℕ

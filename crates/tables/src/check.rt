@@ -6,9 +6,12 @@ ghost use Rattle.tables.specs.Table.{is_missing, is_bad_pattern};
 ghost use Rattle.tables.specs.Code.{tables_in, word_missing, words, plain_bad, words_checked, text_checked, named_before, first_number, tables_checked, Starts};
 ghost use Rattle.tables.specs.Code.{CleanWords, CleanTexts};
 
-use super::entry::{
-    Place, after_count, after_entry, entry_name, entry_span, entry_text, table_count,
-};
+use super::entry::after_count;
+use super::entry::after_entry;
+use super::entry::entry_name;
+use super::entry::entry_span;
+use super::entry::entry_text;
+use super::entry::table_count;
 use super::start::{find_by, note_starts};
 use super::word::{after_word, has_slash, is_table_name, word, word_span};
 use address::Addr;
@@ -35,8 +38,8 @@ fn is_missing(tables: &[u8], starts: &[usize; 512], name: &[u8]) -> bool
     ensures { result ≡ is_missing (tables_in tables.now) name.now }
 {
     match find_by(tables, starts, name) {
-        Place::Missing => true,
-        Place::At(_) => false,
+        None => true,
+        Some(_) => false,
     }
 }
 
@@ -123,8 +126,8 @@ fn is_named_before(tables: &[u8], starts: &[usize; 512], name: &[u8], i: usize) 
     ensures { result ≡ named_before (tables_in tables.now) name.now i }
 {
     match find_by(tables, starts, name) {
-        Place::Missing => false,
-        Place::At(k) => k < i,
+        None => false,
+        Some(k) => k < i,
     }
 }
 

@@ -26,13 +26,6 @@ pub enum Framing {
     Trailing,
 }
 
-// Where a table stands among all.
-#[derive(Clone, Copy)]
-pub enum Place {
-    Missing,
-    At(usize),
-}
-
 // The count that s begins with: four bytes, most significant first.
 fn read_count(s: &[u8]) -> usize
     requires { 4 ≤ length s.now }
@@ -189,7 +182,7 @@ pub fn is_named(name: &[u8], other: &[u8]) -> bool
 }
 
 // The place of the first table so named.
-pub fn find(tables: &[u8], name: &[u8]) -> Place
+pub fn find(tables: &[u8], name: &[u8]) -> Option<usize>
     ensures { result ≡ place_of (place_named (tables_in tables.now) name.now) }
 {
     let n = table_count(tables);
@@ -198,14 +191,14 @@ pub fn find(tables: &[u8], name: &[u8]) -> Place
     while i < n {
         let span = entry_span(rest);
         if span.cut {
-            return Place::Missing;
+            return None;
         }
         if is_named(name, entry_name(rest, span)) {
-            return Place::At(i);
+            return Some(i);
         }
         let next = after_entry(rest, span);
         rest = next;
         i += 1;
     }
-    Place::Missing
+    None
 }

@@ -5,9 +5,12 @@
 ghost use Rattle.std.specs.Prelude.{◌≡◌, ◌<◌, replicate};
 ghost use Rattle.tables.specs.Code.{tables_in, place_named, place_of, SoughtFrom, key_of, Starts};
 
-use super::entry::{
-    Place, after_count, after_entry, entry_name, entry_span, is_named, table_count,
-};
+use super::entry::after_count;
+use super::entry::after_entry;
+use super::entry::entry_name;
+use super::entry::entry_span;
+use super::entry::is_named;
+use super::entry::table_count;
 
 // The number of a name, the same whatever its case, which changes none of the low five bits of a byte.
 fn key(name: &[u8]) -> usize
@@ -48,7 +51,7 @@ pub fn note_starts(tables: &[u8], made: &mut [usize; 512])
 }
 
 // The place of the first table so named, from the place start on: from holds the tables from there, and none before it has the name.
-fn find_from(tables: &[u8], name: &[u8], from: &[u8], start: usize) -> Place
+fn find_from(tables: &[u8], name: &[u8], from: &[u8], start: usize) -> Option<usize>
     requires { SoughtFrom tables.now name.now from.now start }
     ensures { result ≡ place_of (place_named (tables_in tables.now) name.now) }
 {
@@ -58,27 +61,27 @@ fn find_from(tables: &[u8], name: &[u8], from: &[u8], start: usize) -> Place
     while i < n {
         let span = entry_span(rest);
         if span.cut {
-            return Place::Missing;
+            return None;
         }
         if is_named(name, entry_name(rest, span)) {
-            return Place::At(i);
+            return Some(i);
         }
         let next = after_entry(rest, span);
         rest = next;
         i += 1;
     }
-    Place::Missing
+    None
 }
 
 // The place of the first table so named.
-pub fn find_by(tables: &[u8], starts: &[usize; 512], name: &[u8]) -> Place
+pub fn find_by(tables: &[u8], starts: &[usize; 512], name: &[u8]) -> Option<usize>
     requires { Starts tables.now starts.now }
     ensures { result ≡ place_of (place_named (tables_in tables.now) name.now) }
 {
     let k = key(name);
     let left = starts[k];
     if left == 0 {
-        return Place::Missing;
+        return None;
     }
     let at = starts[256 + k];
     find_from(tables, name, &tables[at..], table_count(tables) - left)

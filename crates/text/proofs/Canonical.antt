@@ -1,10 +1,10 @@
 -- Numbers in fewest digits. The text of a number's digits, without a leading zero, is the writing of the number, and the writing of a
 -- number is such a text.
 -- Assumes nothing.
+use Rattle.std.specs.Prelude.{None, Some}
 use Prim.Native.Nat.{ℕ, zero, suc, ◌+◌, ◌-◌, ◌*◌, ◌/◌, ◌%◌, ◌^◌, ◌<◌, ◌≤◌}
 use mathlib.Core.Bool.{Bool, true, false, ◌&&◌}
 use mathlib.Core.List.{List, [], ◌∷◌, ◌++◌, map, map-append}
-use mathlib.Core.Option.{none, some}
 use mathlib.Core.Path.{◌≡◌, refl, ap₂, ◌∙◌}
 use native.Mathlib.Omega.{arith}
 use native.Mathlib.Nat.{one-le-pow, lt_of_lt_of_le, mul_assoc, add-mul, mul-le-mul_right, pow-succ', one-mul, pow-le-pow_right, div-lt_iff_lt-mul}
@@ -227,19 +227,19 @@ canonical_decimal n lt = record {
 -- ## Reading
 
 module _ (m : ℕ) (t : List ℕ) where
-  pub read_decimal_some : Canonical t → value t ≤ m → m < 10 ^ 10 → read_decimal m t ≡ some (value t)
+  pub read_decimal_some : Canonical t → value t ≤ m → m < 10 ^ 10 → read_decimal m t ≡ Some (value t)
   unfolding read_decimal
   read_decimal_some c h lt = rw (le-leb (value t) m h, decimal_value t c (omega arith), equal_refl t)
 
-  pub read_decimal_over : m < value t → read_decimal m t ≡ none
+  pub read_decimal_over : m < value t → read_decimal m t ≡ None
   unfolding read_decimal
   read_decimal_over h = rw (lt-leb (value t) m h)
 
-  pub read_decimal_not : m < 10 ^ 10 → (Canonical t → ⊥) → read_decimal m t ≡ none
+  pub read_decimal_not : m < 10 ^ 10 → (Canonical t → ⊥) → read_decimal m t ≡ None
   unfolding read_decimal
   read_decimal_not lt n = by (leb (value t) m && equal t (decimal (value t))) refl
     where
-      by : (x : Bool) → (leb (value t) m && equal t (decimal (value t))) ≡ x → given x (value t) ≡ none
+      by : (x : Bool) → (leb (value t) m && equal t (decimal (value t))) ≡ x → given x (value t) ≡ None
       by true e =
           let p : (leb (value t) m ≡ true) × (equal t (decimal (value t)) ≡ true) = and_true (leb (value t) m) (equal t (decimal (value t))) e in
           absurd (n (rw (eq_of_equal t (decimal (value t)) p.1) (canonical_decimal (value t) (omega (arith, leb-true (value t) m p.0)))))

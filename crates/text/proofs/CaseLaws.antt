@@ -2,12 +2,12 @@
 --   Alike x y      x and y are equal but for case, byte by byte
 --   Blind p        the test p does not see the case of a byte; computed for the letters, blind-by
 -- Assumes nothing.
+use Rattle.std.specs.Prelude.{None, Option, Some}
 use Prim.Native.Nat.{ℕ, zero, suc, ◌+◌, ◌-◌, ◌≤◌, ◌<◌}
 use Prim.Native.Char.{Char, code}
 use Prim.Native.String.{String, [] as end, ◌∷◌ as ◌then◌}
 use mathlib.Core.Bool.{Bool, true, false, not, ◌&&◌, ◌||◌, true≢false, or-true}
 use mathlib.Core.List.{List, [], ◌∷◌, ◌++◌, map, reverse}
-use mathlib.Core.Option.{Option, none, some}
 use mathlib.Core.Path.{◌≡◌, refl, sym, ap, ap₂, ◌∙◌}
 use native.Mathlib.Omega.{arith}
 use borrow.Author.Tests.{eqb-true, eqb-false, eq-eqb, leb-true, not-true}
@@ -199,10 +199,10 @@ alike_same p n (x ∷ xs) (y ∷ ys) a e =
 -- ## Parts
 
 abbrev pub AlikePair : Option (List ℕ × List ℕ) → Option (List ℕ × List ℕ) → Type 0
-AlikePair none none = Unit {0}
-AlikePair none (some q) = ⊥
-AlikePair (some p) none = ⊥
-AlikePair (some p) (some q) = Alike p.0 q.0 × Alike p.1 q.1
+AlikePair None None = Unit {0}
+AlikePair None (Some q) = ⊥
+AlikePair (Some p) None = ⊥
+AlikePair (Some p) (Some q) = Alike p.0 q.0 × Alike p.1 q.1
 
 -- a mark none of whose bytes is a letter
 module _ (m : List ℕ) (clear : (c : ℕ) → any (eqb c) m ≡ true → Blindly (λ x. eqb c x) 26) where
@@ -229,12 +229,12 @@ module _ (m : List ℕ) (clear : (c : ℕ) → any (eqb c) m ≡ true → Blindl
       (by (starts_with m (y ∷ ys)) (split_once m xs) (split_once m ys) (alike_split_once xs ys a.1))
     where
       by : (b : Bool) (o u : Option (List ℕ × List ℕ)) → AlikePair o u
-          → AlikePair (when b then some ([], drop (length m) (x ∷ xs)) else cons_first x o) (when b then some ([], drop (length m) (y ∷ ys)) else cons_first y u)
+          → AlikePair (when b then Some ([], drop (length m) (x ∷ xs)) else cons_first x o) (when b then Some ([], drop (length m) (y ∷ ys)) else cons_first y u)
       by true o u h = (tt, alike_drop (length m) (x ∷ xs) (y ∷ ys) a)
-      by false none none h = tt
-      by false none (some q) h = absurd h
-      by false (some p) none h = absurd h
-      by false (some p) (some q) h = ((a.0, h.0), h.1)
+      by false None None h = tt
+      by false None (Some q) h = absurd h
+      by false (Some p) None h = absurd h
+      by false (Some p) (Some q) h = ((a.0, h.0), h.1)
 
 abbrev pub AlikeList : List (List ℕ) → List (List ℕ) → Type 0
 AlikeList [] [] = Unit {0}

@@ -2,12 +2,12 @@
 --   free c w    == no byte of w is c
 --   is_field c w == w is free of c and not empty
 -- Assumes nothing.
+use Rattle.std.specs.Prelude.{None, Option, Some}
 use Prim.Native.Nat.{ℕ, ◌<◌}
 use Prim.Native.Char.{Char, code}
 use Prim.Native.String.{String, [] as end, ◌∷◌ as ◌then◌}
 use mathlib.Core.Bool.{Bool, true, false, not, ◌&&◌, ◌||◌, true≢false, or_assoc, or-false, or-true, and-false}
 use mathlib.Core.List.{List, [], ◌∷◌, ◌++◌, map, append_assoc}
-use mathlib.Core.Option.{Option, none, some}
 use mathlib.Core.Path.{◌≡◌, refl, sym, ap, subst, ◌∙◌}
 use native.Mathlib.Omega.{arith}
 use borrow.Author.Tests.{eqb-false, eq-eqb, ne_eqb, not-true}
@@ -56,22 +56,22 @@ module _ {A : Type 0} (p : A → Bool) where
 
 module _ {A B : Type 0} (f : A → Option B) where
   -- where f undoes g, so does each f undo map g
-  pub each_map : (g : B → A) (p : B → Bool) → ((b : B) → p b ≡ true → f (g b) ≡ some b) → (l : List B) → all p l ≡ true → each f (map g l) ≡ some l
+  pub each_map : (g : B → A) (p : B → Bool) → ((b : B) → p b ≡ true → f (g b) ≡ Some b) → (l : List B) → all p l ≡ true → each f (map g l) ≡ Some l
   unfolding each all
   each_map g p h [] e = refl
   each_map g p h (x ∷ l) e = let a = and_true (p x) (all p l) e in rw (h x a.0, each_map g p h l a.1)
 
   -- where f answers none, each f does
-  pub each_none : (q : A → Bool) → ((a : A) → q a ≡ true → f a ≡ none) → (l : List A) → any q l ≡ true → each f l ≡ none
+  pub each_none : (q : A → Bool) → ((a : A) → q a ≡ true → f a ≡ None) → (l : List A) → any q l ≡ true → each f l ≡ None
   unfolding each any
   each_none q h [] e = absurd (true≢false (sym e))
   each_none q h (x ∷ l) e = by (q x) refl (each_none q h l)
     where
-      skip : (o : Option B) (r : Option (List B)) → r ≡ none → (o >>= λ y. r >>= λ ys. some (y ∷ ys)) ≡ none
-      skip none r n = refl
-      skip (some y) r n = rw n
+      skip : (o : Option B) (r : Option (List B)) → r ≡ None → (o >>= λ y. r >>= λ ys. Some (y ∷ ys)) ≡ None
+      skip None r n = refl
+      skip (Some y) r n = rw n
 
-      by : (t : Bool) → q x ≡ t → (any q l ≡ true → each f l ≡ none) → (f x >>= λ y. each f l >>= λ ys. some (y ∷ ys)) ≡ none
+      by : (t : Bool) → q x ≡ t → (any q l ≡ true → each f l ≡ None) → (f x >>= λ y. each f l >>= λ ys. Some (y ∷ ys)) ≡ None
       by true d ih = rw (h x d)
       by false d ih = skip (f x) (each f l) (ih (rw d at e))
 
@@ -149,8 +149,8 @@ module _ (c : Char) where
 
 -- what split_once answers is there
 abbrev Parts : List ℕ → List ℕ → Option (List ℕ × List ℕ) → Type 0
-Parts m t none = Unit
-Parts m t (some p) = t ≡ p.0 ++ (m ++ p.1)
+Parts m t None = Unit
+Parts m t (Some p) = t ≡ p.0 ++ (m ++ p.1)
 
 parts : (m t : List ℕ) → Parts m t (split_once m t)
 unfolding split_once
@@ -158,34 +158,34 @@ parts m [] = tt
 parts m (x ∷ t) = by (starts_with m (x ∷ t)) refl (parts m t)
   where
     cons : (o : Option (List ℕ × List ℕ)) → Parts m t o → Parts m (x ∷ t) (cons_first x o)
-    cons none h = tt
-    cons (some p) h = ap (λ (l : List ℕ). x ∷ l) h
+    cons None h = tt
+    cons (Some p) h = ap (λ (l : List ℕ). x ∷ l) h
 
     by : (b : Bool) → starts_with m (x ∷ t) ≡ b → Parts m t (split_once m t)
-        → Parts m (x ∷ t) (when starts_with m (x ∷ t) then some ([], drop (length m) (x ∷ t)) else cons_first x (split_once m t))
+        → Parts m (x ∷ t) (when starts_with m (x ∷ t) then Some ([], drop (length m) (x ∷ t)) else cons_first x (split_once m t))
     by true e ih = rw e
         (sym (take-append-drop (length m) (x ∷ t)) ∙ ap (λ (l : List ℕ). l ++ drop (length m) (x ∷ t)) (sym (eq_of_equal m (take (length m) (x ∷ t)) e)))
     by false e ih = rw e (cons (split_once m t) ih)
 
-pub split_once_some : (m t : List ℕ) (p : List ℕ × List ℕ) → split_once m t ≡ some p → t ≡ p.0 ++ (m ++ p.1)
+pub split_once_some : (m t : List ℕ) (p : List ℕ × List ℕ) → split_once m t ≡ Some p → t ≡ p.0 ++ (m ++ p.1)
 split_once_some m t p e = subst (Parts m t) e (parts m t)
 
 -- w before the first of two parts
 abbrev pub append_first : List ℕ → Option (List ℕ × List ℕ) → Option (List ℕ × List ℕ)
-append_first w none = none
-append_first w (some p) = some (w ++ p.0, p.1)
+append_first w None = None
+append_first w (Some p) = Some (w ++ p.0, p.1)
 
 append_first_nil : (o : Option (List ℕ × List ℕ)) → append_first [] o ≡ o
-append_first_nil none = refl
-append_first_nil (some p) = refl
+append_first_nil None = refl
+append_first_nil (Some p) = refl
 
 append_first_cons : (x : ℕ) (w : List ℕ) (o : Option (List ℕ × List ℕ)) → cons_first x (append_first w o) ≡ append_first (x ∷ w) o
-append_first_cons x w none = refl
-append_first_cons x w (some p) = refl
+append_first_cons x w None = refl
+append_first_cons x w (Some p) = refl
 
 append_first_append : (v w : List ℕ) (o : Option (List ℕ × List ℕ)) → append_first v (append_first w o) ≡ append_first (v ++ w) o
-append_first_append v w none = refl
-append_first_append v w (some p) = simp append_assoc
+append_first_append v w None = refl
+append_first_append v w (Some p) = simp append_assoc
 
 module _ (c : ℕ) where
   split_once_free : (m w t : List ℕ) → free c w ≡ true → split_once (c ∷ m) (w ++ t) ≡ append_first w (split_once (c ∷ m) t)

@@ -1,9 +1,9 @@
 -- Laws of numerals: the value, the length and the bytes of a numeral, over its base; and reading one gives its number back.
 -- Assumes nothing.
+use Rattle.std.specs.Prelude.{None, Some}
 use Prim.Native.Nat.{ℕ, zero, suc, ◌+◌, ◌-◌, ◌/◌, ◌%◌, ◌^◌, ◌<◌, ◌≤◌}
 use mathlib.Core.Bool.{Bool, true, false, ◌&&◌, true≢false}
 use mathlib.Core.List.{List, [], ◌∷◌, ◌++◌, map, map-append}
-use mathlib.Core.Option.{none, some}
 use mathlib.Core.Path.{◌≡◌, refl, sym, ap, ◌∙◌}
 use native.Mathlib.Omega.{arith}
 use native.Mathlib.Nat.{div-add-mod', div-lt_iff_lt-mul, mod-lt, mod-eq_of_lt, pow-zero, pow-suc}
@@ -95,19 +95,19 @@ from_digits_numeral b pos small =
 
 -- ## Reading decimals
 
-pub read_decimal_decimal : (m n : ℕ) → n ≤ m → m < 10 ^ 10 → read_decimal m (decimal n) ≡ some n
+pub read_decimal_decimal : (m n : ℕ) → n ≤ m → m < 10 ^ 10 → read_decimal m (decimal n) ≡ Some n
 unfolding read_decimal
 read_decimal_decimal m n le lt = rw (from_digits_numeral 10 (omega arith) (omega arith) 10 n (omega arith), le-leb n m le, equal_refl (decimal n))
 
 -- what is read is of digits alone
-pub read_decimal_none : (m : ℕ) (t : List ℕ) → all is_digit t ≡ false → read_decimal m t ≡ none
+pub read_decimal_none : (m : ℕ) (t : List ℕ) → all is_digit t ≡ false → read_decimal m t ≡ None
 unfolding read_decimal
 read_decimal_none m t e = by (leb n m && equal t (decimal n)) refl
   where
     n : ℕ
     n = from_digits 10 0 (map digit_value t)
 
-    by : (x : Bool) → (leb n m && equal t (decimal n)) ≡ x → given x n ≡ none
+    by : (x : Bool) → (leb n m && equal t (decimal n)) ≡ x → given x n ≡ None
     by true f = absurd
         (true≢false
         (sym (ap (all is_digit) (eq_of_equal t (decimal n) (and_true (leb n m) (equal t (decimal n)) f).1)

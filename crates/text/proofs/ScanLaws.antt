@@ -1,10 +1,10 @@
 -- Laws of comparing texts, of the first place of a byte, and of parting a text there.
 -- Assumes nothing.
+use Rattle.std.specs.Prelude.{None, Some}
 use Prim.Native.Nat.{ℕ, suc, ◌+◌, ◌-◌, ◌<◌, ◌≤◌}
 use Prim.Native.String.{String}
 use mathlib.Core.Bool.{Bool, true, false, not, ◌&&◌, ◌||◌, true≢false}
 use mathlib.Core.List.{List, [], ◌∷◌, map}
-use mathlib.Core.Option.{none, some}
 use mathlib.Core.Path.{◌≡◌, refl, sym, ap, ap₂, ◌∙◌}
 use native.Mathlib.Numerals.{add-one}
 use native.Mathlib.Omega.{arith}
@@ -181,32 +181,32 @@ module _ (marks : String) (b : ℕ) (only : bytes marks ≡ b ∷ []) (s : List 
   split_no_mark h = split_none marks (λ x. not (eqb x b)) no_mark s (rw is-i at h)
 
 -- once, at the first b
-pub split_once_some : (b : ℕ) (s : List ℕ) → index_of b s < length s → split_once (b ∷ []) s ≡ some (take (index_of b s) s, drop (suc (index_of b s)) s)
+pub split_once_some : (b : ℕ) (s : List ℕ) → index_of b s < length s → split_once (b ∷ []) s ≡ Some (take (index_of b s) s, drop (suc (index_of b s)) s)
 unfolding split_once equal index_of span_len
 split_once_some b [] h = absurd (omega arith)
 split_once_some b (x ∷ s) h = by (eqb x b) refl (split_once_some b s)
   where
-    by : (t : Bool) → eqb x b ≡ t → (index_of b s < length s → split_once (b ∷ []) s ≡ some (take (index_of b s) s, drop (suc (index_of b s)) s))
-        → split_once (b ∷ []) (x ∷ s) ≡ some (take (index_of b (x ∷ s)) (x ∷ s), drop (suc (index_of b (x ∷ s))) (x ∷ s))
+    by : (t : Bool) → eqb x b ≡ t → (index_of b s < length s → split_once (b ∷ []) s ≡ Some (take (index_of b s) s, drop (suc (index_of b s)) s))
+        → split_once (b ∷ []) (x ∷ s) ≡ Some (take (index_of b (x ∷ s)) (x ∷ s), drop (suc (index_of b (x ∷ s))) (x ∷ s))
     by true e ih = simp (e, eq-eqb b x (sym (eqb-true x b e)))
     by false e ih =
         let k : suc (index_of b s) < length (x ∷ s) = simp e at h in
         simp (e, ne_eqb b x (λ q. eqb-false x b e (sym q))) (rw (ih (omega arith)))
 
-split_once_none : (b : ℕ) (s : List ℕ) → length s ≤ index_of b s → split_once (b ∷ []) s ≡ none
+split_once_none : (b : ℕ) (s : List ℕ) → length s ≤ index_of b s → split_once (b ∷ []) s ≡ None
 unfolding split_once equal index_of span_len
 split_once_none b [] h = refl
 split_once_none b (x ∷ s) h = by (eqb x b) refl (split_once_none b s)
   where
-    by : (t : Bool) → eqb x b ≡ t → (length s ≤ index_of b s → split_once (b ∷ []) s ≡ none) → split_once (b ∷ []) (x ∷ s) ≡ none
+    by : (t : Bool) → eqb x b ≡ t → (length s ≤ index_of b s → split_once (b ∷ []) s ≡ None) → split_once (b ∷ []) (x ∷ s) ≡ None
     by true e ih = let k : length (x ∷ s) ≤ 0 = simp e at h in absurd (omega arith)
     by false e ih =
         let k : length (x ∷ s) ≤ suc (index_of b s) = simp e at h in
         simp (e, ne_eqb b x (λ q. eqb-false x b e (sym q))) (rw (ih (omega arith)))
 
 module _ (b : ℕ) (s : List ℕ) (i : ℕ) (is-i : i ≡ index_of b s) where
-  pub split_once_mark : i < length s → split_once (b ∷ []) s ≡ some (take i s, drop (i + 1) s)
+  pub split_once_mark : i < length s → split_once (b ∷ []) s ≡ Some (take i s, drop (i + 1) s)
   split_once_mark h = rw (add-one, is-i) (split_once_some b s (rw is-i at h))
 
-  pub split_once_no_mark : length s ≤ i → split_once (b ∷ []) s ≡ none
+  pub split_once_no_mark : length s ≤ i → split_once (b ∷ []) s ≡ None
   split_once_no_mark h = split_once_none b s (rw is-i at h)

@@ -6,8 +6,7 @@
 --   sum f l     == the sum of f along l
 --   sum_until p f l == the same up to the first of which p holds, that one included
 -- Assumes nothing: these are definitions.
-use Rattle.std.specs.Prelude.{ℕ, ◌+◌, Bool, true, false, ◌&&◌, ◌||◌, List, [], ◌∷◌}
-use Rattle.std.proofs.Math.Option.{Option, none, some}
+use Rattle.std.specs.Prelude.{ℕ, ◌+◌, Bool, true, false, ◌&&◌, ◌||◌, List, [], ◌∷◌, None, Option, Some}
 
 infixr 5 when◌then◌else◌
 infixl 20 ◌>>=◌
@@ -17,19 +16,19 @@ when true then a else b = a
 when false then a else b = b
 
 abbrev pub ◌>>=◌ {ℓ κ} : {A : Type ℓ} {B : Type κ} → Option A → (A → Option B) → Option B
-none >>= f = none
-some a >>= f = f a
+None >>= f = None
+Some a >>= f = f a
 
 abbrev pub ◌or_else◌ {ℓ} : {A : Type ℓ} → Option A → Option A → Option A
-none or_else o = o
-some a or_else o = some a
+None or_else o = o
+Some a or_else o = Some a
 
 abbrev pub given {ℓ} : {A : Type ℓ} → Bool → A → Option A
-given b a = when b then some a else none
+given b a = when b then Some a else None
 
 abbrev pub holds {ℓ} : {A : Type ℓ} → (A → Bool) → Option A → Bool
-holds p none = false
-holds p (some a) = p a
+holds p None = false
+holds p (Some a) = p a
 
 abbrev pub is_some {ℓ} : {A : Type ℓ} → Option A → Bool
 is_some o = holds (λ a. true) o
@@ -57,12 +56,12 @@ module _ {A : Type 0} where
 
 module _ {A B : Type 0} where
   unfoldable pub first : (A → Option B) → List A → Option B
-  first f [] = none
+  first f [] = None
   first f (x ∷ xs) = f x or_else first f xs
 
   unfoldable pub each : (A → Option B) → List A → Option (List B)
-  each f [] = some []
+  each f [] = Some []
   each f (x ∷ xs) = do
     y ← f x
     ys ← each f xs
-    some (y ∷ ys)
+    Some (y ∷ ys)

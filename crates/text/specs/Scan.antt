@@ -6,12 +6,9 @@
 --   put_at d at s == the output d with s written over it from the place `at` on
 --   after t d    == the output d with t written over its front
 -- Assumes nothing: these are definitions.
-use Rattle.std.specs.Prelude.{ℕ, suc, Bool, not, List, [], ◌∷◌, ◌++◌, eqb, length, drop}
-use Rattle.std.proofs.Math.Option.{Option, none, some}
+use Rattle.std.specs.Prelude.{ℕ, suc, Bool, not, List, [], ◌∷◌, ◌++◌, eqb, length, drop, None, Option, Some}
 use Rattle.std.proofs.Math.Seq.{paste}
 use Rattle.text.specs.Basics.{when◌then◌else◌}
-use Rattle.text.specs.declared.NumberRead.{NumberRead}
-use Rattle.text.specs.declared.NumberRead.TheVariants.{Nothing, Value}
 
 unfoldable pub span_len : (ℕ → Bool) → List ℕ → ℕ
 span_len p [] = 0
@@ -20,9 +17,9 @@ span_len p (x ∷ s) = when p x then suc (span_len p s) else 0
 unfoldable pub index_of : ℕ → List ℕ → ℕ
 index_of b s = span_len (λ (x : ℕ). not (eqb x b)) s
 
-abbrev pub as_number : Option ℕ → NumberRead
-as_number none = Nothing
-as_number (some n) = Value n
+abbrev pub as_number : Option ℕ → Option ℕ
+as_number None = None
+as_number (Some n) = Some n
 
 unfoldable pub put_at : List ℕ → ℕ → List ℕ → List ℕ
 put_at d at s = paste d at s (length s)

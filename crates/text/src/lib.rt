@@ -7,13 +7,6 @@ ghost use Rattle.text.specs.Text.{lower as lowerOf, equal as equalTo, equal_fold
 ghost use Rattle.text.specs.Scan.{index_of, as_number, put_at};
 ghost use Rattle.text.specs.Number.{decimal, read_decimal};
 
-// A number that was read, or none.
-#[derive(Clone, Copy)]
-pub enum NumberRead {
-    Nothing,
-    Value(u32),
-}
-
 // b in lower case.
 pub fn lower(b: u8) -> u8
     ensures { result ≡ lowerOf b }
@@ -115,14 +108,14 @@ pub fn ends_with_fold(s: &[u8], suffix: &[u8]) -> bool
 }
 
 // The number of at most max that s writes in fewest decimal digits.
-pub fn read_decimal(s: &[u8], max: u32) -> NumberRead
+pub fn read_decimal(s: &[u8], max: u32) -> Option<u32>
     ensures { result ≡ as_number (read_decimal max s.now) }
 {
     if s.len() == 0 {
-        return NumberRead::Nothing;
+        return None;
     }
     if (s[0] == b'0') & (1 < s.len()) {
-        return NumberRead::Nothing;
+        return None;
     }
     let limit = max as u64;
     let mut n: u64 = 0;
@@ -130,18 +123,18 @@ pub fn read_decimal(s: &[u8], max: u32) -> NumberRead
     while i < s.len() {
         let b = s[i];
         if b < b'0' {
-            return NumberRead::Nothing;
+            return None;
         }
         if b'9' < b {
-            return NumberRead::Nothing;
+            return None;
         }
         n = n * 10 + (b - b'0') as u64;
         if limit < n {
-            return NumberRead::Nothing;
+            return None;
         }
         i += 1;
     }
-    NumberRead::Value(n as u32)
+    Some(n as u32)
 }
 
 // Writes s into out from at on, and answers the place after it.

@@ -6,10 +6,10 @@
 --   lines_dropped          == the lines of the new file are those that are not named
 --   nothing_dropped        == where nothing is named the file stays as it is
 -- Assumes nothing.
+use Rattle.std.specs.Prelude.{None, Ok, Option, Some, unwrap_or}
 use Prim.Native.Nat.{ℕ, zero, suc, ◌+◌, ◌*◌, ◌^◌, ◌≤◌, ◌<◌}
 use mathlib.Core.Bool.{Bool, true, false, not, ◌&&◌, ◌||◌, true≢false, or-true}
 use mathlib.Core.List.{List, [], ◌∷◌, ◌++◌, map, flat_map, append_assoc}
-use mathlib.Core.Option.{Option, none, some, get_or}
 use mathlib.Core.Path.{◌≡◌, refl, sym, ap, ap₂, subst, ◌∙◌}
 use native.Mathlib.Numerals.{add-one}
 use native.Mathlib.Omega.{arith}
@@ -25,7 +25,7 @@ use Rattle.text.proofs.BasicLaws.{and_true}
 use Rattle.text.proofs.Digits.{length_to_digits, from_digits_to_digits}
 use Rattle.section.specs.declared.Fault.TheVariants as F
 use Rattle.section.specs.declared.Refusal.{Refusal}
-use Rattle.section.specs.Refusal.{Outcome, refused, answered, ◌>>=◌, refusal, placeless, refusing, within_room}
+use Rattle.section.specs.Refusal.{Outcome, ◌>>=◌, refusal, placeless, refusing, within_room}
 use Rattle.section.specs.Section as S
 use Rattle.section.specs.Section.{Section}
 use Rattle.lines.specs.Line.{Line, line, logical_lines, lines}
@@ -46,67 +46,67 @@ use Rattle.tidy.proofs.NewFileLaws.{rest_of, sound_ended}
 -- ## Answers
 
 -- a call that was answered had room for what it wrote
-room_for : (b : Bool) (x s : List ℕ) → refusing (given b (placeless F.NoRoom)) x ≡ answered s → s ≡ x
+room_for : (b : Bool) (x s : List ℕ) → refusing (given b (placeless F.NoRoom)) x ≡ Ok s → s ≡ x
 room_for true x s k = let z : ◌≡◌ {A = ℕ} 0 1 = cc in absurd (omega arith)
 room_for false x s k = let z : x ≡ s = cc k in sym z
 
-passed : (o : Option Refusal) (x s : List ℕ) (room : ℕ) → (refusing o x >>= within_room room) ≡ answered s → (o ≡ none) × (s ≡ x)
-passed none x s room k = (refl, room_for (ltb room (length x)) x s k)
-passed (some g) x s room k = let z : ◌≡◌ {A = ℕ} 0 1 = cc in absurd (omega arith)
+passed : (o : Option Refusal) (x s : List ℕ) (room : ℕ) → (refusing o x >>= within_room room) ≡ Ok s → (o ≡ None) × (s ≡ x)
+passed None x s room k = (refl, room_for (ltb room (length x)) x s k)
+passed (Some g) x s room k = let z : ◌≡◌ {A = ℕ} 0 1 = cc in absurd (omega arith)
 
 pub record Dropped (n : ℕ) (t five p s : List ℕ) : Type 0 where
   pub section : Section
-  pub is_section : section_of n ≡ some section
-  pub sound : file_fault section t five ≡ none
+  pub is_section : section_of n ≡ Some section
+  pub sound : file_fault section t five ≡ None
   pub good : accepts t (numbers_of p) ≡ true
   pub bytes : s ≡ dropped (numbers_of p) t
 
-accepted_numbers : (t : List ℕ) (o : Option (List ℕ)) → given (not (holds (accepts t) o)) (placeless F.BadProposal) ≡ none
-    → accepts t (get_or o []) ≡ true
-accepted_numbers t none e = let z : ◌≡◌ {A = ℕ} 0 1 = cc in absurd (omega arith)
-accepted_numbers t (some ns) e = by (accepts t ns) e
+accepted_numbers : (t : List ℕ) (o : Option (List ℕ)) → given (not (holds (accepts t) o)) (placeless F.BadProposal) ≡ None
+    → accepts t (unwrap_or o []) ≡ true
+accepted_numbers t None e = let z : ◌≡◌ {A = ℕ} 0 1 = cc in absurd (omega arith)
+accepted_numbers t (Some ns) e = by (accepts t ns) e
   where
-    by : (b : Bool) → given (not b) (placeless F.BadProposal) ≡ none → b ≡ true
+    by : (b : Bool) → given (not b) (placeless F.BadProposal) ≡ None → b ≡ true
     by true k = refl
     by false k = let z : ◌≡◌ {A = ℕ} 0 1 = cc in absurd (omega arith)
 
-pub drop_answered : (n : ℕ) (t five p : List ℕ) (room : ℕ) (s : List ℕ) → drop_rules n t five p room ≡ answered s → Dropped n t five p s
+pub drop_answered : (n : ℕ) (t five p : List ℕ) (room : ℕ) (s : List ℕ) → drop_rules n t five p room ≡ Ok s → Dropped n t five p s
 unfolding drop_rules
 drop_answered n t five p room s e = by (section_of n) refl e
   where
     by : (o : Option Section) → section_of n ≡ o
         → with_section o (λ x. refusing (file_fault x t five or_else given (not (accepted_bytes t p)) (placeless F.BadProposal)) (dropped (numbers_of p) t)
-        >>= within_room room) ≡ answered s → Dropped n t five p s
-    by none q k = let z : ◌≡◌ {A = ℕ} 0 1 = cc k in absurd (omega arith)
-    by (some x) q k =
+        >>= within_room room) ≡ Ok s → Dropped n t five p s
+    by None q k = let z : ◌≡◌ {A = ℕ} 0 1 = cc k in absurd (omega arith)
+    by (Some x) q k =
         let a = passed (file_fault x t five or_else given (not (accepted_bytes t p)) (placeless F.BadProposal)) (dropped (numbers_of p) t) s room k in
         let b = none_both (file_fault x t five) (given (not (accepted_bytes t p)) (placeless F.BadProposal)) a.0 in
         record { section = x; is_section = q; sound = b.0; good = accepted_numbers t (read_words p) b.1; bytes = a.1 }
 
-pub answered_drop : (n : ℕ) (t five p : List ℕ) (room : ℕ) (ns : List ℕ) (x : Section) → section_of n ≡ some x → file_fault x t five ≡ none
-    → read_words p ≡ some ns → accepts t ns ≡ true → length (dropped ns t) ≤ room → drop_rules n t five p room ≡ answered (dropped ns t)
+pub answered_drop : (n : ℕ) (t five p : List ℕ) (room : ℕ) (ns : List ℕ) (x : Section) → section_of n ≡ Some x → file_fault x t five ≡ None
+    → read_words p ≡ Some ns → accepts t ns ≡ true → length (dropped ns t) ≤ room → drop_rules n t five p room ≡ Ok (dropped ns t)
 unfolding drop_rules
 answered_drop n t five p room ns x q e r a h = rw (q, e, r, a, le-ltb room (length (dropped ns t)) h)
 
 pub record Proposed (n : ℕ) (t five s : List ℕ) : Type 0 where
   pub section : Section
-  pub is_section : section_of n ≡ some section
-  pub sound : file_fault section t five ≡ none
+  pub is_section : section_of n ≡ Some section
+  pub sound : file_fault section t five ≡ None
   pub bytes : s ≡ word_bytes (proposal t)
 
-pub propose_answered : (n : ℕ) (t five : List ℕ) (room : ℕ) (s : List ℕ) → propose n t five room ≡ answered s → Proposed n t five s
+pub propose_answered : (n : ℕ) (t five : List ℕ) (room : ℕ) (s : List ℕ) → propose n t five room ≡ Ok s → Proposed n t five s
 unfolding propose
 propose_answered n t five room s e = by (section_of n) refl e
   where
-    by : (o : Option Section) → section_of n ≡ o → with_section o (λ x. refusing (file_fault x t five) (word_bytes (proposal t)) >>= within_room room) ≡ answered s
+    by : (o : Option Section) → section_of n ≡ o → with_section o (λ x. refusing (file_fault x t five) (word_bytes (proposal t)) >>= within_room room) ≡ Ok s
         → Proposed n t five s
-    by none q k = let z : ◌≡◌ {A = ℕ} 0 1 = cc k in absurd (omega arith)
-    by (some x) q k =
+    by None q k = let z : ◌≡◌ {A = ℕ} 0 1 = cc k in absurd (omega arith)
+    by (Some x) q k =
         let a = passed (file_fault x t five) (word_bytes (proposal t)) s room k in
         record { section = x; is_section = q; sound = a.0; bytes = a.1 }
 
-pub answered_propose : (n : ℕ) (t five : List ℕ) (room : ℕ) (x : Section) → section_of n ≡ some x → file_fault x t five ≡ none
-    → length (word_bytes (proposal t)) ≤ room → propose n t five room ≡ answered (word_bytes (proposal t))
+pub answered_propose : (n : ℕ) (t five : List ℕ) (room : ℕ) (x : Section) → section_of n ≡ Some x → file_fault x t five ≡ None
+    → length (word_bytes (proposal t)) ≤ room → propose n t five room ≡ Ok (word_bytes (proposal t))
 unfolding propose
 answered_propose n t five room x q e h = rw (q, e, le-ltb room (length (word_bytes (proposal t))) h)
 
@@ -118,7 +118,7 @@ module _ (ns : List ℕ) where
   stays l = when named ns l then [] else line_bytes l ∷ []
 
   unfoldable Stay : List ℕ → Type 0
-  Stay t = (n at m pl : ℕ) → first line_fault (logical_lines n at (split "\n" t)) ≡ none
+  Stay t = (n at m pl : ℕ) → first line_fault (logical_lines n at (split "\n" t)) ≡ None
       → map line_bytes (logical_lines m pl (split "\n" (flat_map (rest_of ns) (logical_lines n at (split "\n" t)))))
       ≡ flat_map stays (logical_lines n at (split "\n" t))
 
@@ -136,7 +136,7 @@ module _ (ns : List ℕ) where
     abbrev rest : List ℕ
     rest = flat_map (rest_of ns) others
 
-    stay_line : line_fault own ≡ none → first line_fault others ≡ none → (c : Bool) → named ns own ≡ c
+    stay_line : line_fault own ≡ None → first line_fault others ≡ None → (c : Bool) → named ns own ≡ c
         → map line_bytes (logical_lines m pl (split "\n" (rest_of ns own ++ rest))) ≡ stays own ++ flat_map stays others
     unfolding Stay
     stay_line f h true q = rw q (ih (n + (scan_line t).joins + 1) (at + (scan_line t).end + 1) m pl h)
@@ -157,7 +157,7 @@ module _ (ns : List ℕ) where
       let a = none_both (line_fault (own t ih n at m pl)) (first line_fault (others t ih n at m pl)) h in
       stay_line t ih n at m pl a.0 a.1 (named ns (own t ih n at m pl)) refl)
 
-  pub lines_dropped : (t : List ℕ) → first line_fault (lines t) ≡ none → map line_bytes (lines (dropped ns t)) ≡ flat_map stays (lines t)
+  pub lines_dropped : (t : List ℕ) → first line_fault (lines t) ≡ None → map line_bytes (lines (dropped ns t)) ≡ flat_map stays (lines t)
   unfolding Stay lines dropped rewrite
   lines_dropped t h = line_ind Stay stay_nil stay_more t 1 0 1 0 h
 
@@ -170,8 +170,8 @@ covered_rule : (us : List Rule) (l : Line) → covered_by us l ≡ true → is_s
 covered_rule us l e = by (rule_of l) e
   where
     by : (o : Option Rule) → holds (λ v. any (λ u. covers u v) us) o ≡ true → is_some o ≡ true
-    by none k = k
-    by (some v) k = refl
+    by None k = k
+    by (Some v) k = refl
 
 witnessed_rules : (ns : List ℕ) (kept : List Rule) (ls : List Line) → witnessed ns kept ls ≡ true → (n : ℕ) → any (eqb n) ns ≡ true
     → any (λ (l : Line). eqb l.number n) ls ≡ true → any (is_rule_line n) ls ≡ true
@@ -208,7 +208,7 @@ pub proposal_rises : (t : List ℕ) → length t ≤ 16384 → Rises 1 16385 (pr
 unfolding proposal
 proposal_rises t h = covered_rises 1 16385 [] (lines t) (lines_ascend t) (lines_under t h)
 
-read_numbers_lem : (ns : List ℕ) (n : ℕ) → Rises n 16385 ns → read_words (word_bytes ns) ≡ some ns
+read_numbers_lem : (ns : List ℕ) (n : ℕ) → Rises n 16385 ns → read_words (word_bytes ns) ≡ Some ns
 unfolding word_bytes read_words
 read_numbers_lem [] n r = refl
 read_numbers_lem (k ∷ ns) n r =
@@ -220,35 +220,35 @@ read_numbers_lem (k ∷ ns) n r =
       read_numbers_lem ns (suc k) r.1.1,
     )
 
-pub read_proposal : (t : List ℕ) → length t ≤ 16384 → read_words (word_bytes (proposal t)) ≡ some (proposal t)
+pub read_proposal : (t : List ℕ) → length t ≤ 16384 → read_words (word_bytes (proposal t)) ≡ Some (proposal t)
 read_proposal t h = read_numbers_lem (proposal t) 1 (proposal_rises t h)
 
 -- ## A file that passed its checks
 
-limit_of : (n : ℕ) (x : Section) → section_of n ≡ some x → x.limit ≡ 16384
+limit_of : (n : ℕ) (x : Section) → section_of n ≡ Some x → x.limit ≡ 16384
 limit_of n x e = by (eqb n 1) (eqb n 2) e
   where
-    by : (b c : Bool) → (when b then some S.allow else when c then some S.deny else none) ≡ some x → x.limit ≡ 16384
+    by : (b c : Bool) → (when b then Some S.allow else when c then Some S.deny else None) ≡ Some x → x.limit ≡ 16384
     by true c k = let z : S.allow ≡ x = cc k in sym (ap (λ (y : Section). y.limit) z)
     by false true k = let z : S.deny ≡ x = cc k in sym (ap (λ (y : Section). y.limit) z)
     by false false k = let z : ◌≡◌ {A = ℕ} 0 1 = cc k in absurd (omega arith)
 
-pub text_limit : (n : ℕ) (t five : List ℕ) (x : Section) → section_of n ≡ some x → file_fault x t five ≡ none → length t ≤ 16384
+pub text_limit : (n : ℕ) (t five : List ℕ) (x : Section) → section_of n ≡ Some x → file_fault x t five ≡ None → length t ≤ 16384
 text_limit n t five x q e = by (ltb x.limit (length t)) refl (file_parts x t five e).0
   where
-    by : (b : Bool) → ltb x.limit (length t) ≡ b → given b (refusal F.OverLimit x.order 0) ≡ none → length t ≤ 16384
+    by : (b : Bool) → ltb x.limit (length t) ≡ b → given b (refusal F.OverLimit x.order 0) ≡ None → length t ≤ 16384
     by true p k = let z : ◌≡◌ {A = ℕ} 0 1 = cc k in absurd (omega arith)
     by false p k = omega (arith, ltb-false x.limit (length t) p, limit_of n x q)
 
 -- its lines, one after the other, are the file
 unfoldable Whole : List ℕ → Type 0
-Whole t = (n at : ℕ) → first line_fault (logical_lines n at (split "\n" t)) ≡ none → flat_map (rest_of []) (logical_lines n at (split "\n" t)) ≡ t
+Whole t = (n at : ℕ) → first line_fault (logical_lines n at (split "\n" t)) ≡ None → flat_map (rest_of []) (logical_lines n at (split "\n" t)) ≡ t
 
 whole_nil : Whole []
 unfolding Whole flat_map
 whole_nil n at h = rw (logical_lines_nil n at)
 
-whole_line : (t : List ℕ) (n at : ℕ) → line_fault (line n at (take (scan_line t).end t) (scan_line t).ended) ≡ none
+whole_line : (t : List ℕ) (n at : ℕ) → line_fault (line n at (take (scan_line t).end t) (scan_line t).ended) ≡ None
     → (rest : List ℕ) → rest ≡ drop ((scan_line t).end + 1) t → rest_of [] (line n at (take (scan_line t).end t) (scan_line t).ended) ++ rest ≡ t
 unfolding any
 whole_line t n at f rest e =
@@ -266,7 +266,7 @@ whole_more t k ih n at = rw (logical_lines_cons t n at k) (λ h.
     (flat_map (rest_of []) (logical_lines (n + (scan_line t).joins + 1) (at + (scan_line t).end + 1) (split "\n" (drop ((scan_line t).end + 1) t))))
     (ih (n + (scan_line t).joins + 1) (at + (scan_line t).end + 1) a.1))
 
-pub nothing_dropped : (x : Section) (t five : List ℕ) → file_fault x t five ≡ none → (accepts t [] ≡ true) × (dropped [] t ≡ t)
+pub nothing_dropped : (x : Section) (t five : List ℕ) → file_fault x t five ≡ None → (accepts t [] ≡ true) × (dropped [] t ≡ t)
 unfolding Whole lines dropped rewrite any Sound
 nothing_dropped x t five e = (
   within_accepted t [] (λ m k. absurd (true≢false (sym k))),

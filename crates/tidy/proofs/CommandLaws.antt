@@ -1,13 +1,13 @@
 -- The new file's answers have the same command bytes.
 --   dropped_command == along the lines of the new file the command's bytes are the same
 -- Assumes nothing.
+use Rattle.std.specs.Prelude.{None, Option, Some}
 use Prim.Native.Nat.{ℕ, zero, suc, ◌+◌, ◌-◌, ◌≤◌, ◌<◌}
 use native.Mathlib.Nat.{add-zero}
 use native.Mathlib.Numerals.{add-one}
 use native.Mathlib.Omega.{arith}
 use mathlib.Core.Bool.{Bool, true, false, not, ◌&&◌, ◌||◌}
 use mathlib.Core.List.{List, [], ◌∷◌, ◌++◌, flat_map, append_assoc}
-use mathlib.Core.Option.{Option, none, some, get_or}
 use mathlib.Core.Path.{◌≡◌, refl, sym, ap, ◌∙◌}
 use borrow.Author.Tests.{ltb-true, ltb-false}
 use lib.Dec.{eqb, ltb}
@@ -44,7 +44,7 @@ after_few : (i : ℕ) (s : List ℕ) → length (after_separator i s) ≤ length
 unfolding after_separator
 after_few i s = omega (arith, length-drop (i + 1) s)
 
-command_few : (raw : List ℕ) (u : Rule) → parse_rule raw ≡ some u → length u.command ≤ length raw
+command_few : (raw : List ℕ) (u : Rule) → parse_rule raw ≡ Some u → length u.command ≤ length raw
 command_few raw u e = by (ltb (separator_index false raw) (length raw)) refl
   where
     i : ℕ
@@ -85,17 +85,17 @@ part_there t s x at k c e h = ap (take c) (sym (drop-drop k at t) ∙ ap (drop k
 
 module _ (v : Verdict) (f : File) (found : Rule → Found) (ns old new : List ℕ) where
   abbrev pub SameCommand : Option Answer → Option Answer → Type 0
-  SameCommand none none = Unit {0}
-  SameCommand none (some b) = ⊥
-  SameCommand (some a) none = ⊥
-  SameCommand (some a) (some b) = (a.file ≡ f) × ((b.file ≡ f) × (bytes_at new b.command ≡ bytes_at old a.command))
+  SameCommand None None = Unit {0}
+  SameCommand None (Some b) = ⊥
+  SameCommand (Some a) None = ⊥
+  SameCommand (Some a) (Some b) = (a.file ≡ f) × ((b.file ≡ f) × (bytes_at new b.command ≡ bytes_at old a.command))
 
   same_line : (n at m pl : ℕ) (s x y : List ℕ) (b : Bool) → drop at old ≡ s ++ x → drop pl new ≡ s ++ y
       → SameCommand (line_answer v f found (line n at s b)) (line_answer v f found (line m pl s b))
   unfolding line_answer
   same_line n at m pl s x y b p q = by (is_comment (line n at s b) || is_blank (line n at s b)) (parse_rule s) refl
     where
-      command : (u : Rule) → parse_rule s ≡ some u → bytes_at new (raw_command (line m pl s b) u) ≡ bytes_at old (raw_command (line n at s b) u)
+      command : (u : Rule) → parse_rule s ≡ Some u → bytes_at new (raw_command (line m pl s b) u) ≡ bytes_at old (raw_command (line n at s b) u)
       command u e = sized (is_empty (trimmed u.command))
         where
           few : length u.command ≤ length s
@@ -108,30 +108,30 @@ module _ (v : Verdict) (f : File) (found : Rule → Found) (ns old new : List �
               part_there new s y pl (length s - length u.command) (length u.command) q (omega (arith, few))
               ∙ sym (part_there old s x at (length s - length u.command) (length u.command) p (omega (arith, few)))
 
-      by_found : (u : Rule) → parse_rule s ≡ some u → (z : Found) → SameCommand (rule_answer v f (line n at s b) u z) (rule_answer v f (line m pl s b) u z)
+      by_found : (u : Rule) → parse_rule s ≡ Some u → (z : Found) → SameCommand (rule_answer v f (line n at s b) u z) (rule_answer v f (line m pl s b) u z)
       by_found u e Found.No = tt
       by_found u e Found.Yes = (refl, (refl, command u e))
       by_found u e Found.Ask = (refl, (refl, refl))
 
       by : (c : Bool) (o : Option Rule) → parse_rule s ≡ o
-          → SameCommand (when c then none else (o >>= λ u. rule_answer v f (line n at s b) u (found u)))
-          (when c then none else (o >>= λ u. rule_answer v f (line m pl s b) u (found u)))
+          → SameCommand (when c then None else (o >>= λ u. rule_answer v f (line n at s b) u (found u)))
+          (when c then None else (o >>= λ u. rule_answer v f (line m pl s b) u (found u)))
       by true o e = tt
-      by false none e = tt
-      by false (some u) e = by_found u e (found u)
+      by false None e = tt
+      by false (Some u) e = by_found u e (found u)
 
   same_else : (x y xs ys : Option Answer) → SameCommand x y → SameCommand xs ys → SameCommand (x or_else xs) (y or_else ys)
-  same_else none none xs ys p q = q
-  same_else none (some b) xs ys p q = absurd p
-  same_else (some a) none xs ys p q = absurd p
-  same_else (some a) (some b) xs ys p q = p
+  same_else None None xs ys p q = q
+  same_else None (Some b) xs ys p q = absurd p
+  same_else (Some a) None xs ys p q = absurd p
+  same_else (Some a) (Some b) xs ys p q = p
 
   abbrev answer_of : Line → Option Answer
   answer_of l = line_answer v f found l
 
   unfoldable Commands : List ℕ → Type 0
   Commands t = (n at m pl : ℕ) → drop at old ≡ t → drop pl new ≡ flat_map (rest_of ns) (logical_lines n at (split "\n" t))
-      → first line_fault (logical_lines n at (split "\n" t)) ≡ none
+      → first line_fault (logical_lines n at (split "\n" t)) ≡ None
       → SameCommand (first answer_of (kept_lines ns (logical_lines n at (split "\n" t))))
       (first answer_of (logical_lines m pl (split "\n" (flat_map (rest_of ns) (logical_lines n at (split "\n" t))))))
 
@@ -154,7 +154,7 @@ module _ (v : Verdict) (f : File) (found : Rule → Found) (ns old new : List �
         let same : at + (scan_line t).end + 1 ≡ at + ((scan_line t).end + 1) = omega arith in
         ap (λ (k : ℕ). drop k old) same ∙ (sym (drop-drop ((scan_line t).end + 1) at old) ∙ ap (drop ((scan_line t).end + 1)) p)
 
-    commands_line : (c : Bool) → named ns own ≡ c → drop pl new ≡ rest_of ns own ++ rest → line_fault own ≡ none → first line_fault others ≡ none
+    commands_line : (c : Bool) → named ns own ≡ c → drop pl new ≡ rest_of ns own ++ rest → line_fault own ≡ None → first line_fault others ≡ None
         → SameCommand (first answer_of (when named ns own then kept_lines ns others else own ∷ kept_lines ns others))
         (first answer_of (logical_lines m pl (split "\n" (rest_of ns own ++ rest))))
     unfolding Commands first
@@ -190,7 +190,7 @@ module _ (v : Verdict) (f : File) (found : Rule → Found) (ns old new : List �
       commands_line t ih n at m pl p (named ns (own t ih n at m pl p)) refl d a.0 a.1)
 
 -- the command's bytes are the same along the kept lines and along those of the new file
-pub dropped_command : (v : Verdict) (f : File) (found : Rule → Found) (ns t : List ℕ) → first line_fault (lines t) ≡ none
+pub dropped_command : (v : Verdict) (f : File) (found : Rule → Found) (ns t : List ℕ) → first line_fault (lines t) ≡ None
     → SameCommand v f found ns t (dropped ns t) (first (line_answer v f found) (kept_lines ns (lines t))) (first (line_answer v f found) (lines (dropped ns t)))
 unfolding Commands lines dropped rewrite
 dropped_command v f found ns t h =

@@ -1,10 +1,10 @@
 -- The new file: its lines are the kept lines of the old one, and what decides is the same but for its line.
 --   dropped_search == by the new file the same verdict and file, "the line moves by the lines removed above it"
 -- Assumes nothing.
+use Rattle.std.specs.Prelude.{None, Option, Some}
 use Prim.Native.Nat.{ℕ, zero, suc, ◌+◌, ◌<◌, ◌≤◌}
 use mathlib.Core.Bool.{Bool, true, false, not, ◌&&◌, ◌||◌, true≢false}
 use mathlib.Core.List.{List, [], ◌∷◌, ◌++◌, flat_map, append_assoc}
-use mathlib.Core.Option.{Option, none, some}
 use mathlib.Core.Path.{◌≡◌, refl, sym, ap, ◌∙◌}
 use native.Mathlib.Numerals.{add-one}
 use native.Mathlib.Omega.{arith}
@@ -38,7 +38,7 @@ use Rattle.tidy.proofs.SearchLaws.{kept_lines, accepted_search}
 use Rattle.tidy.proofs.ProposalLaws.{Ascend, ascend_from, Ascending, ascending}
 
 -- a line without a fault has its newline
-sound_ended : (n at : ℕ) (r : List ℕ) (b : Bool) → line_fault (line n at r b) ≡ none → b ≡ true
+sound_ended : (n at : ℕ) (r : List ℕ) (b : Bool) → line_fault (line n at r b) ≡ None → b ≡ true
 unfolding line_fault_by lowest
 sound_ended n at r true e = refl
 sound_ended n at r false e = let z : ◌≡◌ {A = ℕ} 0 1 = cc in absurd (omega arith)
@@ -73,10 +73,10 @@ line_count_joins t n at b = counted false t
 
 -- both answer nothing, or the same but for the line (and the place of the command)
 abbrev pub MovedLine : ℕ → ℕ → Option Answer → Option Answer → Type 0
-MovedLine n m none none = Unit {0}
-MovedLine n m none (some b) = ⊥
-MovedLine n m (some a) none = ⊥
-MovedLine n m (some a) (some b) = (b.verdict ≡ a.verdict) × (b.file ≡ a.file) × (a.line ≡ n) × (b.line ≡ m)
+MovedLine n m None None = Unit {0}
+MovedLine n m None (Some b) = ⊥
+MovedLine n m (Some a) None = ⊥
+MovedLine n m (Some a) (Some b) = (b.verdict ≡ a.verdict) × (b.file ≡ a.file) × (a.line ≡ n) × (b.line ≡ m)
 
 module _ (v : Verdict) (f : File) (found : Rule → Found) where
   moved_line : (n at m pl : ℕ) (s : List ℕ) (b : Bool) → MovedLine n m (line_answer v f found (line n at s b)) (line_answer v f found (line m pl s b))
@@ -89,11 +89,11 @@ module _ (v : Verdict) (f : File) (found : Rule → Found) where
       by_found u Found.Ask = (refl, refl, refl, refl)
 
       by : (c : Bool) (o : Option Rule)
-          → MovedLine n m (when c then none else (o >>= λ u. rule_answer v f (line n at s b) u (found u)))
-          (when c then none else (o >>= λ u. rule_answer v f (line m pl s b) u (found u)))
+          → MovedLine n m (when c then None else (o >>= λ u. rule_answer v f (line n at s b) u (found u)))
+          (when c then None else (o >>= λ u. rule_answer v f (line m pl s b) u (found u)))
       by true o = tt
-      by false none = tt
-      by false (some u) = by_found u (found u)
+      by false None = tt
+      by false (Some u) = by_found u (found u)
 
 -- ## The new file
 
@@ -127,41 +127,41 @@ module _ (v : Verdict) (f : File) (ts : List Table) (r : Request) (s : Section) 
 
   -- the answers of old lines, the first of which has the number k, and of new ones, where d lines were removed before them
   abbrev pub Moved : ℕ → ℕ → List Line → Option Answer → Option Answer → Type 0
-  Moved k d ls none none = Unit {0}
-  Moved k d ls none (some b) = ⊥
-  Moved k d ls (some a) none = ⊥
-  Moved k d ls (some a) (some b) = (b.verdict ≡ a.verdict) × (b.file ≡ a.file) × (k ≤ a.line) × (b.line + (d + removed_above ns a.line ls) ≡ a.line)
+  Moved k d ls None None = Unit {0}
+  Moved k d ls None (Some b) = ⊥
+  Moved k d ls (Some a) None = ⊥
+  Moved k d ls (Some a) (Some b) = (b.verdict ≡ a.verdict) × (b.file ≡ a.file) × (k ≤ a.line) × (b.line + (d + removed_above ns a.line ls) ≡ a.line)
 
   -- after a line that is dropped, and after one that answers nothing
   moved_dropped : (l : Line) (k d j : ℕ) (ls : List Line) → named ns l ≡ true → line_count l ≡ j → l.number + j ≡ k
       → (x y : Option Answer) → l.number < k → Moved k (d + j) ls x y → Moved l.number d (l ∷ ls) x y
   unfolding removed_above
-  moved_dropped l k d j ls q c e none none h m = tt
-  moved_dropped l k d j ls q c e none (some b) h m = absurd m
-  moved_dropped l k d j ls q c e (some a) none h m = absurd m
-  moved_dropped l k d j ls q c e (some a) (some b) h m =
+  moved_dropped l k d j ls q c e None None h m = tt
+  moved_dropped l k d j ls q c e None (Some b) h m = absurd m
+  moved_dropped l k d j ls q c e (Some a) None h m = absurd m
+  moved_dropped l k d j ls q c e (Some a) (Some b) h m =
       (m.0, m.1, omega (arith, m.2), rw (q, lt-ltb l.number a.line (omega (arith, m.2)), c) (omega (arith, m.3)))
 
   moved_kept : (l : Line) (k d : ℕ) (ls : List Line) → named ns l ≡ false → l.number < k
       → (x y : Option Answer) → Moved k d ls x y → Moved l.number d (l ∷ ls) x y
   unfolding removed_above
-  moved_kept l k d ls q h none none m = tt
-  moved_kept l k d ls q h none (some b) m = absurd m
-  moved_kept l k d ls q h (some a) none m = absurd m
-  moved_kept l k d ls q h (some a) (some b) m = (m.0, m.1, omega (arith, m.2), rw q (omega (arith, m.3)))
+  moved_kept l k d ls q h None None m = tt
+  moved_kept l k d ls q h None (Some b) m = absurd m
+  moved_kept l k d ls q h (Some a) None m = absurd m
+  moved_kept l k d ls q h (Some a) (Some b) m = (m.0, m.1, omega (arith, m.2), rw q (omega (arith, m.3)))
 
   -- a kept line, then the others
   moved_first : (l : Line) (n m d k : ℕ) (ls : List Line) → l.number ≡ n → n ≡ m + d → n < k → named ns l ≡ false → Ascend (suc n) ls
       → (x y xs ys : Option Answer) → MovedLine n m x y → Moved k d ls xs ys → Moved n d (l ∷ ls) (x or_else xs) (y or_else ys)
-  moved_first l n m d k ls e g h q a none none xs ys p w = rw (← e) (moved_kept l k d ls q (rw e h) xs ys w)
-  moved_first l n m d k ls e g h q a none (some b) xs ys p w = absurd p
-  moved_first l n m d k ls e g h q a (some c) none xs ys p w = absurd p
-  moved_first l n m d k ls e g h q a (some c) (some b) xs ys p w =
+  moved_first l n m d k ls e g h q a None None xs ys p w = rw (← e) (moved_kept l k d ls q (rw e h) xs ys w)
+  moved_first l n m d k ls e g h q a None (Some b) xs ys p w = absurd p
+  moved_first l n m d k ls e g h q a (Some c) None xs ys p w = absurd p
+  moved_first l n m d k ls e g h q a (Some c) (Some b) xs ys p w =
       (p.0, p.1, omega (arith, p.2), rw (p.2, above_none ns n l ls q a) (omega (arith, p.3, g)))
 
   -- line by line
   Moves : List ℕ → Type 0
-  Moves t = (n at m pl d : ℕ) → n ≡ m + d → first fault_of (logical_lines n at (split "\n" t)) ≡ none
+  Moves t = (n at m pl d : ℕ) → n ≡ m + d → first fault_of (logical_lines n at (split "\n" t)) ≡ None
       → Moved n d (logical_lines n at (split "\n" t)) (first answer_of (kept_lines ns (logical_lines n at (split "\n" t))))
       (first answer_of (logical_lines m pl (split "\n" (flat_map rest_of (logical_lines n at (split "\n" t))))))
 
@@ -185,16 +185,16 @@ module _ (v : Verdict) (f : File) (ts : List Table) (r : Request) (s : Section) 
       new : List ℕ
       new = flat_map rest_of (logical_lines (n + (scan_line t).joins + 1) (at + (scan_line t).end + 1) (split "\n" (drop ((scan_line t).end + 1) t)))
 
-      by : (o : Option Fault) → line_fault l ≡ o → (c : Bool) → named ns l ≡ c → fault_of l or_else first fault_of ls ≡ none
+      by : (o : Option Fault) → line_fault l ≡ o → (c : Bool) → named ns l ≡ c → fault_of l or_else first fault_of ls ≡ None
           → Moved n d (l ∷ ls) (first answer_of (when named ns l then kept_lines ns ls else l ∷ kept_lines ns ls))
           (first answer_of (logical_lines m pl (split "\n" (rest_of l ++ new))))
-      by (some g) p c q h = let z : ◌≡◌ {A = ℕ} 0 1 = cc (rw p at h) in absurd (omega arith)
-      by none p true q h =
+      by (Some g) p c q h = let z : ◌≡◌ {A = ℕ} 0 1 = cc (rw p at h) in absurd (omega arith)
+      by None p true q h =
           rw q
           (moved_dropped l (n + (scan_line t).joins + 1) d (suc (scan_line t).joins) ls q (line_count_joins t n at (scan_line t).ended) (omega arith)
           (first answer_of (kept_lines ns ls)) (first answer_of (logical_lines m pl (split "\n" new))) (omega arith)
           (ih (n + (scan_line t).joins + 1) (at + (scan_line t).end + 1) m pl (d + suc (scan_line t).joins) (omega arith) (rw p at h)))
-      by none p false q h =
+      by None p false q h =
           let b : (scan_line t).ended ≡ true = sound_ended n at (take (scan_line t).end t) (scan_line t).ended p in
           rw (
             q,
@@ -212,13 +212,13 @@ module _ (v : Verdict) (f : File) (ts : List Table) (r : Request) (s : Section) 
           (ih (n + (scan_line t).joins + 1) (at + (scan_line t).end + 1) (m + (scan_line t).joins + 1) (pl + length (take (scan_line t).end t) + 1) d (omega arith)
           (rw p at h)))
 
-  under_lines : (t : List ℕ) → first fault_of (lines t) ≡ none
+  under_lines : (t : List ℕ) → first fault_of (lines t) ≡ None
       → Moved 1 0 (lines t) (first answer_of (kept_lines ns (lines t))) (first answer_of (lines (flat_map rest_of (lines t))))
   unfolding Moves lines
   under_lines t h = line_ind Moves moves_nil moves_more t 1 0 1 0 0 (omega arith) h
 
   -- "Every request then gets the same verdict or ask, file ..; the line moves by the lines removed above it."
-  pub dropped_search : (t : List ℕ) → hosts_fault s t ≡ none → accepts t ns ≡ true
+  pub dropped_search : (t : List ℕ) → hosts_fault s t ≡ None → accepts t ns ≡ true
       → Moved 1 0 (lines t) (first answer_of (lines t)) (first answer_of (lines (dropped ns t)))
   unfolding Moves dropped rewrite hosts_fault
   dropped_search t h a = rw (accepted_search v f ts r t ns a) (under_lines t h)

@@ -4,12 +4,12 @@
 --   file_stays    == the new file passes the checks that the old one passed
 --   again         == after what the tidy program proposes is dropped, it proposes nothing
 -- Assumes nothing.
+use Rattle.std.specs.Prelude.{None, Option, Some}
 use Prim.Native.Nat.{ℕ, zero, suc, ◌+◌, ◌≤◌, ◌<◌}
 use native.Mathlib.Numerals.{add-one}
 use native.Mathlib.Omega.{arith}
 use mathlib.Core.Bool.{Bool, true, false, not, ◌&&◌, ◌||◌, true≢false}
 use mathlib.Core.List.{List, [], ◌∷◌, ◌++◌, flat_map, append_assoc}
-use mathlib.Core.Option.{Option, none, some}
 use mathlib.Core.Path.{◌≡◌, refl, sym, ap, ◌∙◌}
 use borrow.Author.Tests.{le-ltb, ltb-false, not-false}
 use lib.Dec.{eqb, ltb}
@@ -37,7 +37,7 @@ use Rattle.tidy.proofs.CheckLaws.{none_both, file_parts}
 -- ## Lines by their bytes
 
 -- a line without a fault has its newline
-pub sound_ended : (n at : ℕ) (r : List ℕ) (b : Bool) → line_fault (line n at r b) ≡ none → b ≡ true
+pub sound_ended : (n at : ℕ) (r : List ℕ) (b : Bool) → line_fault (line n at r b) ≡ None → b ≡ true
 unfolding line_fault_by lowest
 sound_ended n at r true e = refl
 sound_ended n at r false e = let z : ◌≡◌ {A = ℕ} 0 1 = cc in absurd (omega arith)
@@ -70,24 +70,24 @@ every_both P Q (l ∷ ls) h k = ((h.0, k.0), every_both P Q ls h.1 k.1)
 
 module _ (q : Line → Option Fault) (same : (n at m pl : ℕ) (r : List ℕ) (b : Bool) → q (line n at r b) ≡ q (line m pl r b)) (k : ℕ) where
   abbrev Free : List ℕ → Bool → Type 0
-  Free r b = q (line 0 0 r b) ≡ none
+  Free r b = q (line 0 0 r b) ≡ None
 
-  placed_none : (n : ℕ) (o : Option Fault) → at_place k n o ≡ none → o ≡ none
-  placed_none n none e = refl
-  placed_none n (some f) e = let z : ◌≡◌ {A = ℕ} 0 1 = cc e in absurd (omega arith)
+  placed_none : (n : ℕ) (o : Option Fault) → at_place k n o ≡ None → o ≡ None
+  placed_none n None e = refl
+  placed_none n (Some f) e = let z : ◌≡◌ {A = ℕ} 0 1 = cc e in absurd (omega arith)
 
-  pub first_every : (ls : List Line) → first (λ l. at_place k l.number (q l)) ls ≡ none → Every Free ls
+  pub first_every : (ls : List Line) → first (λ l. at_place k l.number (q l)) ls ≡ None → Every Free ls
   unfolding first
   first_every [] e = tt
   first_every (l ∷ ls) e =
       let a = none_both (at_place k l.number (q l)) (first (λ l. at_place k l.number (q l)) ls) e in
       (same 0 0 l.number l.place l.raw l.ended ∙ placed_none l.number (q l) a.0, first_every ls a.1)
 
-  pub every_first : (ls : List Line) → Every Free ls → first (λ l. at_place k l.number (q l)) ls ≡ none
+  pub every_first : (ls : List Line) → Every Free ls → first (λ l. at_place k l.number (q l)) ls ≡ None
   unfolding first
   every_first [] h = refl
   every_first (l ∷ ls) h =
-      let a : q l ≡ none = same l.number l.place 0 0 l.raw l.ended ∙ h.0 in
+      let a : q l ≡ None = same l.number l.place 0 0 l.raw l.ended ∙ h.0 in
       rw a (every_first ls h.1)
 
 abbrev pub rest_of : List ℕ → Line → List ℕ
@@ -182,38 +182,38 @@ module _ (ns : List ℕ) where
   unfolding line_names
   names_same f p n at m pl r b = refl
 
-  module _ (s : Section) (t : List ℕ) (h : hosts_fault s t ≡ none) where
-    every_sound : Every (λ r b. line_fault (line 0 0 r b) ≡ none) (lines t)
+  module _ (s : Section) (t : List ℕ) (h : hosts_fault s t ≡ None) where
+    every_sound : Every (λ r b. line_fault (line 0 0 r b) ≡ None) (lines t)
     unfolding hosts_fault
     every_sound = first_every line_fault line_same s.order (lines t) h
 
-    pub hosts_stays : hosts_fault s (dropped ns t) ≡ none
+    pub hosts_stays : hosts_fault s (dropped ns t) ≡ None
     unfolding hosts_fault
     hosts_stays =
         every_first line_fault line_same s.order (lines (dropped ns t))
-        (every_kept (λ r b. line_fault (line 0 0 r b) ≡ none) (λ r b. sound_ended 0 0 r b) t every_sound)
+        (every_kept (λ r b. line_fault (line 0 0 r b) ≡ None) (λ r b. sound_ended 0 0 r b) t every_sound)
 
-    pub naming_stays : (f : Fault) (p : List ℕ → Bool) → naming_fault f p s t ≡ none → naming_fault f p s (dropped ns t) ≡ none
+    pub naming_stays : (f : Fault) (p : List ℕ → Bool) → naming_fault f p s t ≡ None → naming_fault f p s (dropped ns t) ≡ None
     unfolding naming_fault
     naming_stays f p e =
         every_first (λ l. given (line_names p l) f) (names_same f p) s.order (lines (dropped ns t))
-        (every_map (λ r b. (line_fault (line 0 0 r b) ≡ none) × (given (line_names p (line 0 0 r b)) f ≡ none))
-        (λ r b. given (line_names p (line 0 0 r b)) f ≡ none) (λ r b x. x.1)
+        (every_map (λ r b. (line_fault (line 0 0 r b) ≡ None) × (given (line_names p (line 0 0 r b)) f ≡ None))
+        (λ r b. given (line_names p (line 0 0 r b)) f ≡ None) (λ r b x. x.1)
         (lines (dropped ns t))
-        (every_kept (λ r b. (line_fault (line 0 0 r b) ≡ none) × (given (line_names p (line 0 0 r b)) f ≡ none)) (λ r b x. sound_ended 0 0 r b x.0) t
-        (every_both (λ r b. line_fault (line 0 0 r b) ≡ none) (λ r b. given (line_names p (line 0 0 r b)) f ≡ none) (lines t) every_sound
+        (every_kept (λ r b. (line_fault (line 0 0 r b) ≡ None) × (given (line_names p (line 0 0 r b)) f ≡ None)) (λ r b x. sound_ended 0 0 r b x.0) t
+        (every_both (λ r b. line_fault (line 0 0 r b) ≡ None) (λ r b. given (line_names p (line 0 0 r b)) f ≡ None) (lines t) every_sound
         (first_every (λ l. given (line_names p l) f) (names_same f p) s.order (lines t) e))))
 
-  limit_stays : (s : Section) (t : List ℕ) → over_limit s t ≡ none → over_limit s (dropped ns t) ≡ none
+  limit_stays : (s : Section) (t : List ℕ) → over_limit s t ≡ None → over_limit s (dropped ns t) ≡ None
   limit_stays s t e = by (ltb s.limit (length t)) refl e
     where
-      by : (b : Bool) → ltb s.limit (length t) ≡ b → given b (refusal F.OverLimit s.order 0) ≡ none → over_limit s (dropped ns t) ≡ none
+      by : (b : Bool) → ltb s.limit (length t) ≡ b → given b (refusal F.OverLimit s.order 0) ≡ None → over_limit s (dropped ns t) ≡ None
       by true q k = let z : ◌≡◌ {A = ℕ} 0 1 = cc k in absurd (omega arith)
       by false q k =
           rw (le-ltb s.limit (length (dropped ns t)) (omega (arith, ltb-false s.limit (length t) q, length_dropped t)))
 
   -- the new file passes the checks that the old one passed
-  pub file_stays : (s : Section) (t five : List ℕ) → file_fault s t five ≡ none → file_fault s (dropped ns t) five ≡ none
+  pub file_stays : (s : Section) (t five : List ℕ) → file_fault s t five ≡ None → file_fault s (dropped ns t) five ≡ None
   unfolding file_fault
   file_stays s t five e =
       let p = file_parts s t five e in
@@ -231,7 +231,7 @@ module _ (ns : List ℕ) where
 -- ## Again
 
 unfoldable Again : List ℕ → Type 0
-Again t = (n at m pl : ℕ) (pre : List ℕ) (seen kept : List Rule) → Below n pre → CoverLess kept seen → first line_fault (logical_lines n at (split "\n" t)) ≡ none
+Again t = (n at m pl : ℕ) (pre : List ℕ) (seen kept : List Rule) → Below n pre → CoverLess kept seen → first line_fault (logical_lines n at (split "\n" t)) ≡ None
     → covered_lines kept (logical_lines m pl (split "\n" (flat_map (rest_of (pre ++ covered_lines seen (logical_lines n at (split "\n" t))))
     (logical_lines n at (split "\n" t))))) ≡ []
 
@@ -266,7 +266,7 @@ module _ (t : List ℕ) (n at m pl : ℕ) (pre : List ℕ) (seen kept : List Rul
   unfolding covered_lines
   regrouped b q = append_assoc pre (when b then n ∷ [] else []) (covered_lines (with_rule (rule_of own) seen) others) ∙ rw q
 
-  later : (b : Bool) → covered_by seen own ≡ b → (m' pl' : ℕ) (kept' : List Rule) → CoverLess kept' (with_rule (rule_of own) seen) → first line_fault others ≡ none
+  later : (b : Bool) → covered_by seen own ≡ b → (m' pl' : ℕ) (kept' : List Rule) → CoverLess kept' (with_rule (rule_of own) seen) → first line_fault others ≡ None
       → covered_lines kept' (logical_lines m' pl' (split "\n" (flat_map (rest_of proposed) others))) ≡ []
   unfolding Again
   later b q m' pl' kept' less h =
@@ -274,7 +274,7 @@ module _ (t : List ℕ) (n at m pl : ℕ) (pre : List ℕ) (seen kept : List Rul
       ∙ ih (n + (scan_line t).joins + 1) (at + (scan_line t).end + 1) m' pl' (pre ++ (when b then n ∷ [] else [])) (with_rule (rule_of own) seen) kept'
       (λ k e. below_more b n n pre (omega arith) p k (omega arith)) less h
 
-  again_line : line_fault own ≡ none → first line_fault others ≡ none → (b : Bool) → covered_by seen own ≡ b
+  again_line : line_fault own ≡ None → first line_fault others ≡ None → (b : Bool) → covered_by seen own ≡ b
       → covered_lines kept (logical_lines m pl (split "\n" (rest_of proposed own ++ flat_map (rest_of proposed) others))) ≡ []
   again_line f h true q =
       let is-named : named proposed own ≡ true = named_covered pre seen own others up (p n (omega arith)) ∙ q in
@@ -312,6 +312,6 @@ again_more t k ih n at m pl pre seen kept p c = rw (logical_lines_cons t n at k)
     again_line t n at m pl pre seen kept p c ih a.0 a.1 (covered_by seen (own t n at m pl pre seen kept p c ih)) refl)
 
 -- "tidying it again proposes nothing"
-pub again : (t : List ℕ) → first line_fault (lines t) ≡ none → proposal (dropped (proposal t) t) ≡ []
+pub again : (t : List ℕ) → first line_fault (lines t) ≡ None → proposal (dropped (proposal t) t) ≡ []
 unfolding Again lines proposal dropped rewrite any
 again t h = line_ind Again again_nil again_more t 1 0 1 0 [] [] [] (λ m e. refl) (λ v e. e) h

@@ -3,13 +3,12 @@
 --   marked_proposal == the marked lines, in order, are those of the proposal
 --   named_by        == after a proposal was read its lines, and they alone, have the mark 2
 -- Assumes nothing.
+use Rattle.std.specs.Prelude.{Err, None, Ok, Option, Some, unwrap_or}
 use Prim.Native.Nat.{ℕ, zero, suc, ◌+◌, ◌*◌, ◌-◌, ◌/◌, ◌%◌, ◌<◌, ◌≤◌}
 use native.Mathlib.Numerals.{add-one}
 use native.Mathlib.Omega.{arith}
 use mathlib.Core.Bool.{Bool, true, false, not, ◌&&◌, ◌||◌, true≢false, or-true}
 use mathlib.Core.List.{List, [], ◌∷◌, ◌++◌, append_assoc, append-nil}
-use mathlib.Core.Option
-use mathlib.Core.Option.{Option, none, some}
 use mathlib.Core.Path.{◌≡◌, refl, sym, ap, ap₂, subst, ◌∙◌}
 use borrow.Author.Tests.{eq-eqb, ne_eqb, eqb-true, eqb-false, lt-ltb, le-ltb, not-true, not-false}
 use lib.Dec.{eqb, ltb}
@@ -25,8 +24,6 @@ use Rattle.text.proofs.Digits.{length_to_digits}
 use Rattle.text.proofs.PasteLaws.{put_more, length_put_at, after_nil}
 use Rattle.section.specs.declared.Fault.TheVariants as F
 use Rattle.section.specs.declared.Refusal.{Refusal}
-use Rattle.section.specs.declared.Written.{Written}
-use Rattle.section.specs.declared.Written.TheVariants as W
 use Rattle.section.specs.Refusal.{placeless, written_of, within_room, lent_after}
 use Rattle.lines.specs.Line.{Line, lines}
 use Rattle.lines.specs.Rule.{Rule}
@@ -216,7 +213,7 @@ module _ (out t : List ℕ) (n : ℕ) (is-n : n ≡ length t) where
     over : ltb (length out) (length t) ≡ true
     over = rw (← is-n) (lt-ltb (length out) n l)
 
-    pub no_room : (r : Refusal) → r ≡ placeless F.NoRoom → W.Refused r ≡ written_of (within_room (length out) t)
+    pub no_room : (r : Refusal) → r ≡ placeless F.NoRoom → Err r ≡ written_of (within_room (length out) t)
     no_room r is-r = rw (over, is-r)
 
     pub no_room_kept : out ≡ lent_after out (within_room (length out) t)
@@ -226,7 +223,7 @@ module _ (out t : List ℕ) (n : ℕ) (is-n : n ≡ length t) where
     fits : ltb (length out) (length t) ≡ false
     fits = rw (← is-n) (le-ltb (length out) n l)
 
-    pub written : W.Count n ≡ written_of (within_room (length out) t)
+    pub written : Ok n ≡ written_of (within_room (length out) t)
     written = rw (fits, is-n)
 
     pub written_kept : (o : List ℕ) → o ≡ after t out → o ≡ lent_after out (within_room (length out) t)
@@ -239,7 +236,7 @@ length_marked marks n e = omega (arith, e, length_words (marked_from marks (leng
 
 module _ (out marks : List ℕ) (n : ℕ) (is-n : n ≡ length (marked_from marks (length marks) 0)) where
   module _ (l : length out < 4 * n) where
-    pub numbers_no_room : (r : Refusal) → r ≡ placeless F.NoRoom → W.Refused r ≡ written_of (within_room (length out) (marked_bytes marks))
+    pub numbers_no_room : (r : Refusal) → r ≡ placeless F.NoRoom → Err r ≡ written_of (within_room (length out) (marked_bytes marks))
     numbers_no_room = no_room out (marked_bytes marks) (4 * n) (length_marked marks n is-n) l
 
     pub numbers_kept : out ≡ lent_after out (within_room (length out) (marked_bytes marks))
@@ -249,7 +246,7 @@ module _ (out marks : List ℕ) (n : ℕ) (is-n : n ≡ length (marked_from mark
     pub numbers_fit_lem : length (marked_bytes marks) ≤ length out
     numbers_fit_lem = omega (arith, length_marked marks n is-n)
 
-    pub numbers_written : W.Count (4 * n) ≡ written_of (within_room (length out) (marked_bytes marks))
+    pub numbers_written : Ok (4 * n) ≡ written_of (within_room (length out) (marked_bytes marks))
     numbers_written = written out (marked_bytes marks) (4 * n) (length_marked marks n is-n) l
 
     pub numbers_held : (o : List ℕ) → o ≡ after (marked_bytes marks) out → o ≡ lent_after out (within_room (length out) (marked_bytes marks))
@@ -318,21 +315,21 @@ all_one p n e = rw e
 pub record Naming (marks₀ p marks : List ℕ) (i : ℕ) : Type 0 where
   pub pre : List ℕ
   pub within : i ≤ length p
-  pub read : read_words p ≡ (read_words (drop i p) >>= λ ns. some (pre ++ ns))
+  pub read : read_words p ≡ (read_words (drop i p) >>= λ ns. Some (pre ++ ns))
   pub names : marks ≡ set_named marks₀ pre
   pub good : all (λ n. not (eqb (get_or marks₀ n 0) 0)) pre ≡ true
   pub long : length marks ≡ length marks₀
 
 -- nothing before these words
-after_nothing : (o : Option (List ℕ)) → o ≡ (o >>= λ ns. some ([] ++ ns))
-after_nothing none = refl
-after_nothing (some ns) = refl
+after_nothing : (o : Option (List ℕ)) → o ≡ (o >>= λ ns. Some ([] ++ ns))
+after_nothing None = refl
+after_nothing (Some ns) = refl
 
 pub naming_start : (marks p : List ℕ) → Naming marks p marks 0
 unfolding set_named all
 naming_start marks p = record { pre = []; within = omega arith; read = after_nothing (read_words p); names = refl; good = refl; long = refl }
 
-read_short : (t : List ℕ) → 0 < length t → length t < 4 → read_words t ≡ none
+read_short : (t : List ℕ) → 0 < length t → length t < 4 → read_words t ≡ None
 unfolding read_words
 read_short [] h k = absurd (omega arith)
 read_short (a ∷ []) h k = refl
@@ -340,7 +337,7 @@ read_short (a ∷ b ∷ []) h k = refl
 read_short (a ∷ b ∷ c ∷ []) h k = refl
 read_short (a ∷ b ∷ c ∷ d ∷ t) h k = absurd (omega arith)
 
-pub read_four : (t : List ℕ) → 4 ≤ length t → read_words t ≡ (read_words (drop 4 t) >>= λ ns. some (from_digits 256 0 (take 4 t) ∷ ns))
+pub read_four : (t : List ℕ) → 4 ≤ length t → read_words t ≡ (read_words (drop 4 t) >>= λ ns. Some (from_digits 256 0 (take 4 t) ∷ ns))
 unfolding read_words
 read_four [] h = absurd (omega arith)
 read_four (a ∷ []) h = absurd (omega arith)
@@ -352,17 +349,17 @@ pub refused_names : (marks₀ p marks : List ℕ) → false ≡ true → marks �
 refused_names marks₀ p marks z = absurd (true≢false (sym z))
 
 module _ (marks₀ p marks : List ℕ) (i : ℕ) (h : Naming marks₀ p marks i) where
-  refused_by_lem : (o : Option (List ℕ)) → read_words (drop i p) ≡ o → holds (all (λ n. not (eqb (get_or marks₀ n 0) 0))) (o >>= λ ns. some (h.pre ++ ns)) ≡ false
+  refused_by_lem : (o : Option (List ℕ)) → read_words (drop i p) ≡ o → holds (all (λ n. not (eqb (get_or marks₀ n 0) 0))) (o >>= λ ns. Some (h.pre ++ ns)) ≡ false
       → false ≡ names_marked marks₀ p
   unfolding names_marked
   refused_by_lem o e f =
-      sym (ap (holds (all (λ n. not (eqb (get_or marks₀ n 0) 0)))) (h.read ∙ ap (λ (x : Option (List ℕ)). x >>= λ ns. some (h.pre ++ ns)) e) ∙ f)
+      sym (ap (holds (all (λ n. not (eqb (get_or marks₀ n 0) 0)))) (h.read ∙ ap (λ (x : Option (List ℕ)). x >>= λ ns. Some (h.pre ++ ns)) e) ∙ f)
 
   pub naming_short : i < length p → length p - i < 4 → false ≡ names_marked marks₀ p
-  naming_short l k = refused_by_lem none (read_short (drop i p) (omega (arith, length-drop i p)) (omega (arith, length-drop i p))) refl
+  naming_short l k = refused_by_lem None (read_short (drop i p) (omega (arith, length-drop i p)) (omega (arith, length-drop i p))) refl
 
   module _ (l : i < length p) (k : 4 ≤ length p - i) (n : ℕ) (is-n : n ≡ from_digits 256 0 (take 4 (take (length p - i) (drop i p)))) where
-    head : read_words (drop i p) ≡ (read_words (drop (i + 4) p) >>= λ ns. some (n ∷ ns))
+    head : read_words (drop i p) ≡ (read_words (drop (i + 4) p) >>= λ ns. Some (n ∷ ns))
     head =
         read_four (drop i p) (omega (arith, length-drop i p))
         ∙ rw (drop-drop 4 i p, ← (take_rest p i), ← is-n)
@@ -377,8 +374,8 @@ module _ (marks₀ p marks : List ℕ) (i : ℕ) (h : Naming marks₀ p marks i)
             cons_false ns = all_head (λ n. not (eqb (get_or marks₀ n 0) 0)) n ns (ap not e)
 
         by : (o : Option (List ℕ)) → read_words (drop (i + 4) p) ≡ o → false ≡ names_marked marks₀ p
-        by none q = refused_by_lem none (head ∙ rw q) refl
-        by (some ns) q = refused_by_lem (some (n ∷ ns)) (head ∙ rw q) (false_all ns)
+        by None q = refused_by_lem None (head ∙ rw q) refl
+        by (Some ns) q = refused_by_lem (Some (n ∷ ns)) (head ∙ rw q) (false_all ns)
 
     here : eqb (get_or marks n 0) 0 ≡ eqb (get_or marks₀ n 0) 0
     here = ap (λ (m : List ℕ). eqb (get_or m n 0) 0) h.names ∙ zero_same marks₀ h.pre h.good n
@@ -393,7 +390,7 @@ module _ (marks₀ p marks : List ℕ) (i : ℕ) (h : Naming marks₀ p marks i)
     naming_more e = record {
       pre = h.pre ++ (n ∷ []);
       within = omega arith;
-      read = h.read ∙ (ap (λ (x : Option (List ℕ)). x >>= λ ns. some (h.pre ++ ns)) head ∙ regrouped (read_words (drop (i + 4) p)));
+      read = h.read ∙ (ap (λ (x : Option (List ℕ)). x >>= λ ns. Some (h.pre ++ ns)) head ∙ regrouped (read_words (drop (i + 4) p)));
       names = ap (λ (m : List ℕ). set m n 2) h.names ∙ sym (set_named_snoc marks₀ h.pre n);
       good = all_two (λ n. not (eqb (get_or marks₀ n 0) 0)) h.pre (n ∷ [])
           ∙ rw h.good (all_one (λ n. not (eqb (get_or marks₀ n 0) 0)) n (ap not (sym here ∙ ne_eqb (get_or marks n 0) 0 e)));
@@ -401,21 +398,21 @@ module _ (marks₀ p marks : List ℕ) (i : ℕ) (h : Naming marks₀ p marks i)
     }
       where
         regrouped : (o : Option (List ℕ))
-            → ((o >>= λ ns. some (n ∷ ns)) >>= λ ns. some (h.pre ++ ns)) ≡ (o >>= λ ns. some ((h.pre ++ (n ∷ [])) ++ ns))
-        regrouped none = refl
-        regrouped (some ns) = ap some (sym (append_assoc h.pre (n ∷ []) ns))
+            → ((o >>= λ ns. Some (n ∷ ns)) >>= λ ns. Some (h.pre ++ ns)) ≡ (o >>= λ ns. Some ((h.pre ++ (n ∷ [])) ++ ns))
+        regrouped None = refl
+        regrouped (Some ns) = ap Some (sym (append_assoc h.pre (n ∷ []) ns))
 
   module _ (l : length p ≤ i) where
-    all_read : read_words p ≡ some h.pre
+    all_read : read_words p ≡ Some h.pre
     unfolding read_words
-    all_read = h.read ∙ (ap (λ (t : List ℕ). read_words t >>= λ ns. some (h.pre ++ ns)) (drop_of_length-le p l) ∙ ap some (append-nil h.pre))
+    all_read = h.read ∙ (ap (λ (t : List ℕ). read_words t >>= λ ns. Some (h.pre ++ ns)) (drop_of_length-le p l) ∙ ap Some (append-nil h.pre))
 
     pub naming_end : true ≡ names_marked marks₀ p
     unfolding names_marked
     naming_end = sym (ap (holds (all (λ n. not (eqb (get_or marks₀ n 0) 0)))) all_read ∙ h.good)
 
     pub naming_names : true ≡ true → marks ≡ set_named marks₀ (numbers_of p)
-    naming_names z = h.names ∙ ap (set_named marks₀) (sym (ap (λ (o : Option (List ℕ)). Option.get_or o []) all_read))
+    naming_names z = h.names ∙ ap (set_named marks₀) (sym (ap (λ (o : Option (List ℕ)). unwrap_or o []) all_read))
 
 -- ## The proposal by its marks
 
@@ -525,8 +522,8 @@ named_by t marks h p e m = by (read_words p) e
     none_two false = refl
 
     by : (o : Option (List ℕ)) → holds (all (λ n. not (eqb (get_or marks n 0) 0))) o ≡ true
-        → eqb (get_or (set_named marks (Option.get_or o [])) m 0) 2 ≡ any (eqb m) (Option.get_or o [])
-    by none k = absurd (true≢false (sym k))
-    by (some ns) k =
+        → eqb (get_or (set_named marks (unwrap_or o [])) m 0) 2 ≡ any (eqb m) (unwrap_or o [])
+    by None k = absurd (true≢false (sym k))
+    by (Some ns) k =
         named_get ns marks k m
         ∙ ap (λ (b : Bool). b || any (eqb m) ns) (ap (λ (x : ℕ). eqb x 2) (h.marks_of m) ∙ none_two (any (eqb m) (proposal t)))

@@ -5,10 +5,10 @@
 --   proposal_most    an accepted proposal names no line but those that the tidy program proposes
 --   accepts_proposed  so a proposal is accepted exactly if it names such lines alone
 -- Assumes nothing.
+use Rattle.std.specs.Prelude.{None, Option, Some}
 use Prim.Native.Nat.{ℕ, suc, ◌+◌, ◌*◌, ◌≤◌, ◌<◌}
 use mathlib.Core.Bool.{Bool, true, false, not, ◌&&◌, ◌||◌, true≢false, or-true}
 use mathlib.Core.List.{List, [], ◌∷◌, ◌++◌, append_assoc}
-use mathlib.Core.Option.{Option, none, some}
 use mathlib.Core.Path.{◌≡◌, refl, sym, ap, ap₂, ◌∙◌}
 use native.Mathlib.Omega.{arith}
 use borrow.Author.Tests.{eq-eqb, ne_eqb, eqb-true}
@@ -89,8 +89,8 @@ CoverLess us vs = (v : Rule) → any (λ u. covers u v) us ≡ true → any (λ 
 
 pub less_both : (o : Option Rule) (us vs : List Rule) → CoverLess us vs → CoverLess (with_rule o us) (with_rule o vs)
 unfolding any
-less_both none us vs h v e = h v e
-less_both (some u) us vs h v e = by (covers u v) e
+less_both None us vs h v e = h v e
+less_both (Some u) us vs h v e = by (covers u v) e
   where
     by : (b : Bool) → (b || any (λ u. covers u v) us) ≡ true → (b || any (λ u. covers u v) vs) ≡ true
     by true k = refl
@@ -98,15 +98,15 @@ less_both (some u) us vs h v e = by (covers u v) e
 
 pub less_right : (o : Option Rule) (us vs : List Rule) → CoverLess us vs → CoverLess us (with_rule o vs)
 unfolding any
-less_right none us vs h v e = h v e
-less_right (some u) us vs h v e = rw (h v e) (or-true (covers u v))
+less_right None us vs h v e = h v e
+less_right (Some u) us vs h v e = rw (h v e) (or-true (covers u v))
 
 pub less_covered : (us vs : List Rule) (l : Line) → CoverLess us vs → covered_by us l ≡ true → covered_by vs l ≡ true
 less_covered us vs l h e = by (rule_of l) e
   where
     by : (o : Option Rule) → holds (λ v. any (λ u. covers u v) us) o ≡ true → holds (λ v. any (λ u. covers u v) vs) o ≡ true
-    by none k = k
-    by (some v) k = h v k
+    by None k = k
+    by (Some v) k = h v k
 
 -- each line of ls that ns names is among ms
 abbrev pub Among : List ℕ → List ℕ → List Line → Type 0
@@ -229,8 +229,8 @@ named_covered pre seen l ls a h =
 through_kept : (o : Option Rule) (seen kept : List Rule) → CoverLess seen kept → holds (λ v. any (λ u. covers u v) kept) o ≡ true
     → CoverLess (with_rule o seen) kept
 unfolding any
-through_kept none seen kept h e v k = absurd (true≢false (sym e))
-through_kept (some u) seen kept h e v k = by (covers u v) refl k
+through_kept None seen kept h e v k = absurd (true≢false (sym e))
+through_kept (Some u) seen kept h e v k = by (covers u v) refl k
   where
     through : (ws : List Rule) → any (λ w. covers w u) ws ≡ true → covers u v ≡ true → any (λ w. covers w v) ws ≡ true
     through [] p q = p
@@ -308,12 +308,12 @@ covered_lines_same us vs h (l ∷ ls) =
     (covered_lines_same (with_rule (rule_of l) us) (with_rule (rule_of l) vs) (more (rule_of l)) ls)
   where
     by : (o : Option Rule) → holds (λ v. any (λ u. covers u v) us) o ≡ holds (λ v. any (λ u. covers u v) vs) o
-    by none = refl
-    by (some v) = h v
+    by None = refl
+    by (Some v) = h v
 
     more : (o : Option Rule) (v : Rule) → any (λ u. covers u v) (with_rule o us) ≡ any (λ u. covers u v) (with_rule o vs)
-    more none v = h v
-    more (some w) v = ap (λ (b : Bool). covers w v || b) (h v)
+    more None v = h v
+    more (Some w) v = ap (λ (b : Bool). covers w v || b) (h v)
 
 -- a rule that is covered covers nothing more
 pub covered_adds : (us : List Rule) (w : Rule) → any (λ u. covers u w) us ≡ true → (v : Rule) → any (λ u. covers u v) (w ∷ us) ≡ any (λ u. covers u v) us
@@ -321,7 +321,7 @@ unfolding any
 covered_adds us w e v = by (covers w v) refl
   where
     by : (b : Bool) → covers w v ≡ b → (covers w v || any (λ u. covers u v) us) ≡ any (λ u. covers u v) us
-    by true q = rw q (sym (through_kept (some w) us us (λ x k. k) e v (rw q)))
+    by true q = rw q (sym (through_kept (Some w) us us (λ x k. k) e v (rw q)))
     by false q = rw q
 
 -- the numbers ns are among ms

@@ -2,13 +2,13 @@
 --   Chain, Hung   == a chain holds these rules; each bucket's chain holds those of the seen rules that are in it
 --   Marking       == the loop's invariant: what is marked, what hangs in the chains, and what is left to do
 -- Assumes nothing.
+use Rattle.std.specs.Prelude.{None, Option, Some}
 use Prim.Native.Nat.{ℕ, zero, suc, ◌+◌, ◌*◌, ◌-◌, ◌<◌, ◌≤◌, ◌/◌}
 use native.Mathlib.Nat.{add-sub_cancel_left}
 use native.Mathlib.Numerals.{add-one}
 use native.Mathlib.Omega.{arith}
 use mathlib.Core.Bool.{Bool, true, false, not, ◌&&◌, ◌||◌, true≢false, or-true}
 use mathlib.Core.List.{List, [], ◌∷◌, ◌++◌, append_assoc, append-nil}
-use mathlib.Core.Option.{Option, none, some}
 use mathlib.Core.Path.{◌≡◌, refl, sym, ap, ap₂, ◌∙◌}
 use borrow.Author.Tests.{eq-eqb, ne_eqb, eqb-true, eqb-false, lt-ltb, le-ltb, le-leb, lt-leb, ltb-true, ltb-false, not-true, not-false}
 use lib.Dec.{eqb, ltb, leb}
@@ -184,7 +184,7 @@ module _ (links : List ℕ) where
 abbrev pub Chain : List ℕ → List ℕ → ℕ → ℕ → List Rule → Type 0
 Chain text links top h [] = h ≡ 0
 Chain text links top h (u ∷ us) =
-    (p : ℕ) × ((h ≡ suc p) × ((p + 4 ≤ top) × ((parse_rule (raw_at text p) ≡ some u)
+    (p : ℕ) × ((h ≡ suc p) × ((p + 4 ≤ top) × ((parse_rule (raw_at text p) ≡ Some u)
     × ((length (join (raw_at text p)) ≤ 2048) × Chain text links p (link_at links (p / 4)) us))))
 
 chain_set : (text links : List ℕ) (top h : ℕ) (us : List Rule) (a x : ℕ) → top / 4 ≤ a → Chain text links top h us
@@ -202,8 +202,8 @@ repeats_cons : (text links t : List ℕ) (k p : ℕ) → suc p ≤ length text
 unfolding repeats
 repeats_cons text links t k p l = let same : suc p - 1 ≡ p = omega arith in rw (le-ltb (length text) (suc p) l, ne_eqb (suc p) 0 (λ q. omega arith), same)
 
-module _ (text links raw : List ℕ) (v : Rule) (is_v : parse_rule raw ≡ some v) where
-  same_at_lem : (p : ℕ) (u : Rule) → parse_rule (raw_at text p) ≡ some u → length (join (raw_at text p)) ≤ 2048 → same_at text p (join raw) ≡ same_lists u v
+module _ (text links raw : List ℕ) (v : Rule) (is_v : parse_rule raw ≡ Some v) where
+  same_at_lem : (p : ℕ) (u : Rule) → parse_rule (raw_at text p) ≡ Some u → length (join (raw_at text p)) ≤ 2048 → same_at text p (join raw) ≡ same_lists u v
   unfolding same_at
   same_at_lem p u r s = rw (le-leb (length (join (raw_at text p))) 2048 s) (same_of (raw_at text p) raw u v r is_v)
 
@@ -240,7 +240,7 @@ any_bucket v (u ∷ us) = by (eqb (bucket_of u) (bucket_of v)) refl (same_lists 
     by false e false f ih = rw f ih
 
 module _ (text links : List ℕ) (i : ℕ) (us : List Rule) (short : length text ≤ 16384) (within : i ≤ length text) (hung : Hung text links i us)
-    (raw : List ℕ) (v : Rule) (is_v : parse_rule raw ≡ some v) where
+    (raw : List ℕ) (v : Rule) (is_v : parse_rule raw ≡ Some v) where
   pub repeat_is : is_repeat text links (join raw) ≡ any (λ u. same_lists u v) us
   unfolding is_repeat Hung
   repeat_is =
@@ -381,10 +381,10 @@ marking_start text l s = record {
     zero_there : (b : ℕ) → b < 2048 → ◌≡◌ {A = ℕ} (get_or (replicate 6144 0) (4096 + b) 0) 0
     zero_there b k = get_or-replicate {A = ℕ} 6144 (4096 + b) 0 0 (omega arith)
 
-rule_some : (raw : List ℕ) (v : Rule) → rule_of (line 0 0 raw true) ≡ some v → parse_rule raw ≡ some v
+rule_some : (raw : List ℕ) (v : Rule) → rule_of (line 0 0 raw true) ≡ Some v → parse_rule raw ≡ Some v
 rule_some raw v e = by (is_comment (line 0 0 raw true) || is_blank (line 0 0 raw true)) e
   where
-    by : (b : Bool) → (when b then none else parse_rule raw) ≡ some v → parse_rule raw ≡ some v
+    by : (b : Bool) → (when b then None else parse_rule raw) ≡ Some v → parse_rule raw ≡ Some v
     by true k = let z : ◌≡◌ {A = ℕ} 0 1 = cc in absurd (omega arith)
     by false k = k
 
@@ -415,7 +415,7 @@ module _ (text marks links : List ℕ) (all : Bool) (i n : ℕ) (h : Marking tex
     fits = at_short text i n h.at l r is-r
 
     -- no rule
-    skipped : rule_of (line 0 0 raw true) ≡ none → Marking text marks links all (r.end + 1) (n + r.joins + 1)
+    skipped : rule_of (line 0 0 raw true) ≡ None → Marking text marks links all (r.end + 1) (n + r.joins + 1)
     skipped e = record {
       seen = h.seen;
       done = h.done ++ [];
@@ -428,8 +428,8 @@ module _ (text marks links : List ℕ) (all : Bool) (i n : ℕ) (h : Marking tex
       all_is = h.all_is;
     }
 
-    module _ (v : Rule) (e : rule_of (line 0 0 raw true) ≡ some v) where
-      is_v : parse_rule raw ≡ some v
+    module _ (v : Rule) (e : rule_of (line 0 0 raw true) ≡ Some v) where
+      is_v : parse_rule raw ≡ Some v
       is_v = rule_some raw v e
 
       covered_is : covered_by h.seen (line n i raw r.ended) ≡ any (λ u. covers u v) h.seen
@@ -521,8 +521,8 @@ module _ (text marks links : List ℕ) (all : Bool) (i n : ℕ) (h : Marking tex
               → Marking text (when is_some o then (when all then set marks n 1 else rule_marks text links n (join raw) marks) else marks)
               (when is_some o then (when all then links else rule_links text links i (join raw)) else links)
               (when is_some o then (when all then true else rule_all text links (join raw)) else all) (r.end + 1) (n + r.joins + 1)
-          by none e = skipped e
-          by (some v) e = ruled v e
+          by None e = skipped e
+          by (Some v) e = ruled v e
 
       pub marking_step : Marking text m k a (r.end + 1) (n + (r.joins + 1))
       marking_step = let same : n + (r.joins + 1) ≡ n + r.joins + 1 = omega arith in rw same stepped

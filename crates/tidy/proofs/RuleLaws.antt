@@ -2,11 +2,11 @@
 --   rule_parts  == the lists of a rule are the words of the parts of the joined line
 --   bucket_same == rules with the same lists are in one bucket
 -- Assumes nothing.
+use Rattle.std.specs.Prelude.{None, Option, Some, unwrap_or}
 use Prim.Native.Nat.{ℕ, suc, ◌+◌, ◌*◌, ◌%◌, ◌-◌, ◌<◌, ◌≤◌}
 use native.Mathlib.Omega.{arith}
 use mathlib.Core.Bool.{Bool, true, false, not, ◌&&◌, ◌||◌, true≢false}
 use mathlib.Core.List.{List, [], ◌∷◌}
-use mathlib.Core.Option.{Option, none, some, get_or}
 use mathlib.Core.Path.{◌≡◌, refl, sym, ap, ap₂, ◌∙◌}
 use borrow.Author.Tests.{eqb-true, ltb-true, ltb-false}
 use lib.Dec.{eqb, ltb}
@@ -26,7 +26,7 @@ use Rattle.tidy.specs.Code.{daemons_part, clients_part, same_text, all_text, pri
 
 -- ## The parts
 
-before_some : (s : List ℕ) (p : List ℕ × List ℕ) → split_separator false s ≡ some p
+before_some : (s : List ℕ) (p : List ℕ × List ℕ) → split_separator false s ≡ Some p
     → (p.0 ≡ daemons_part s) × (p.1 ≡ after_separator (separator_index false s) s)
 unfolding daemons_part after_separator
 before_some s p e = by (ltb (separator_index false s) (length s)) refl
@@ -41,7 +41,7 @@ before_some s p e = by (ltb (separator_index false s) (length s)) refl
         let q = split_separator_none s (separator_index false s) refl (ltb-false (separator_index false s) (length s) l) in
         let z : ◌≡◌ {A = ℕ} 0 1 = cc (sym e ∙ q) in absurd (omega arith)
 
-before_none : (s : List ℕ) → split_separator false s ≡ none → s ≡ daemons_part s
+before_none : (s : List ℕ) → split_separator false s ≡ None → s ≡ daemons_part s
 unfolding daemons_part
 before_none s e = by (ltb (separator_index false s) (length s)) refl
   where
@@ -53,25 +53,25 @@ before_none s e = by (ltb (separator_index false s) (length s)) refl
 
 -- the rule of a line that is parted at its first separator
 abbrev rule_by : List ℕ × List ℕ → Option (List ℕ × List ℕ) → Rule
-rule_by p o = let q : List ℕ × List ℕ = get_or o (p.1, []) in record { daemons = elements p.0; clients = elements q.0; command = q.1 }
+rule_by p o = let q : List ℕ × List ℕ = unwrap_or o (p.1, []) in record { daemons = elements p.0; clients = elements q.0; command = q.1 }
 
-rest_words : (s : List ℕ) (o : Option (List ℕ × List ℕ)) → split_separator false s ≡ o → elements (get_or o (s, [])).0 ≡ words (daemons_part (join s))
-rest_words s none e = elements_words s ∙ ap words (before_none (join s) (split_separator_join false s ∙ ap join_parts e))
-rest_words s (some q) e = elements_words q.0 ∙ ap words (before_some (join s) (join q.0, join q.1) (split_separator_join false s ∙ ap join_parts e)).0
+rest_words : (s : List ℕ) (o : Option (List ℕ × List ℕ)) → split_separator false s ≡ o → elements (unwrap_or o (s, [])).0 ≡ words (daemons_part (join s))
+rest_words s None e = elements_words s ∙ ap words (before_none (join s) (split_separator_join false s ∙ ap join_parts e))
+rest_words s (Some q) e = elements_words q.0 ∙ ap words (before_some (join s) (join q.0, join q.1) (split_separator_join false s ∙ ap join_parts e)).0
 
 clients_rest : (t r : List ℕ) → r ≡ after_separator (separator_index false t) t → daemons_part r ≡ clients_part t
 unfolding daemons_part clients_part
 clients_rest t r e = rw e
 
-pub rule_parts : (raw : List ℕ) (u : Rule) → parse_rule raw ≡ some u → (u.daemons ≡ words (daemons_part (join raw)))
+pub rule_parts : (raw : List ℕ) (u : Rule) → parse_rule raw ≡ Some u → (u.daemons ≡ words (daemons_part (join raw)))
     × (u.clients ≡ words (clients_part (join raw)))
 unfolding parse_rule
 rule_parts raw u e = by (split_separator false raw) refl e
   where
-    by : (o : Option (List ℕ × List ℕ)) → split_separator false raw ≡ o → (o >>= λ p. some (rule_by p (split_separator false p.1))) ≡ some u
+    by : (o : Option (List ℕ × List ℕ)) → split_separator false raw ≡ o → (o >>= λ p. Some (rule_by p (split_separator false p.1))) ≡ Some u
         → (u.daemons ≡ words (daemons_part (join raw))) × (u.clients ≡ words (clients_part (join raw)))
-    by none q k = let z : ◌≡◌ {A = ℕ} 0 1 = cc k in absurd (omega arith)
-    by (some p) q k =
+    by None q k = let z : ◌≡◌ {A = ℕ} 0 1 = cc k in absurd (omega arith)
+    by (Some p) q k =
         let is-u : rule_by p (split_separator false p.1) ≡ u = cc k in
         let h = before_some (join raw) (join p.0, join p.1) (split_separator_join false raw ∙ ap join_parts q) in (
           sym (ap (λ (x : Rule). x.daemons) is-u) ∙ (elements_words p.0 ∙ ap words h.0),
@@ -79,11 +79,11 @@ rule_parts raw u e = by (split_separator false raw) refl e
               ∙ ap words (clients_rest (join raw) (join p.1) h.1)),
         )
 
-pub same_of : (a b : List ℕ) (u v : Rule) → parse_rule a ≡ some u → parse_rule b ≡ some v → same_text (join a) (join b) ≡ same_lists u v
+pub same_of : (a b : List ℕ) (u v : Rule) → parse_rule a ≡ Some u → parse_rule b ≡ Some v → same_text (join a) (join b) ≡ same_lists u v
 unfolding same_text
 same_of a b u v e f = let x = rule_parts a u e in let y = rule_parts b v f in rw (x.0, x.1, y.0, y.1)
 
-pub all_of : (a : List ℕ) (u : Rule) → parse_rule a ≡ some u → all_text (join a) ≡ matches_all u
+pub all_of : (a : List ℕ) (u : Rule) → parse_rule a ≡ Some u → all_text (join a) ≡ matches_all u
 unfolding all_text
 all_of a u e = let x = rule_parts a u e in rw (x.0, x.1)
 
@@ -117,7 +117,7 @@ print_words_lem h (x ∷ t) = by (among " \t," x) (print_words_lem h t) (print_w
     by true e f = e
     by false e f = f ∙ sym (print_head h x (split " \t," t))
 
-pub bucket_of_lem : (a : List ℕ) (u : Rule) → parse_rule a ≡ some u → bucket_text (join a) ≡ bucket_of u
+pub bucket_of_lem : (a : List ℕ) (u : Rule) → parse_rule a ≡ Some u → bucket_text (join a) ≡ bucket_of u
 unfolding bucket_text bucket_of
 bucket_of_lem a u e =
     let x = rule_parts a u e in

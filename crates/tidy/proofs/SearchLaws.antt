@@ -4,10 +4,10 @@
 --   search_kept      the first answer along the lines is that along the kept lines
 --   accepted_search  the same for an accepted proposal
 -- Assumes nothing.
+use Rattle.std.specs.Prelude.{None, Option, Some}
 use Prim.Native.Nat.{ℕ, ◌+◌}
 use mathlib.Core.Bool.{Bool, true, false, not, ◌&&◌, ◌||◌, true≢false}
 use mathlib.Core.List.{List, [], ◌∷◌, ◌++◌}
-use mathlib.Core.Option.{Option, none, some}
 use mathlib.Core.Path.{◌≡◌, refl, sym, ap, ◌∙◌}
 use native.Mathlib.Omega.{arith}
 use borrow.Author.Tests.{not-true}
@@ -142,31 +142,31 @@ module _ (m : Matcher) (r : Request) (blind : CaseBlind m r) where
 
   module _ (v : Verdict) (f : File) where
     -- a line answers by its rule
-    line_none : (l : Line) → rule_of l ≡ none → line_answer v f (rule_found m r) l ≡ none
+    line_none : (l : Line) → rule_of l ≡ None → line_answer v f (rule_found m r) l ≡ None
     unfolding line_answer
     line_none l e = by (is_comment l || is_blank l) (parse_rule l.raw) e
       where
-        by : (b : Bool) (o : Option Rule) → (when b then none else o) ≡ none → (when b then none else (o >>= λ u. rule_answer v f l u (rule_found m r u))) ≡ none
+        by : (b : Bool) (o : Option Rule) → (when b then None else o) ≡ None → (when b then None else (o >>= λ u. rule_answer v f l u (rule_found m r u))) ≡ None
         by true o k = refl
-        by false none k = refl
-        by false (some u) k = let z : ◌≡◌ {A = ℕ} 0 1 = cc in absurd (omega arith)
+        by false None k = refl
+        by false (Some u) k = let z : ◌≡◌ {A = ℕ} 0 1 = cc in absurd (omega arith)
 
-    line_rule : (l : Line) (u : Rule) → rule_of l ≡ some u → line_answer v f (rule_found m r) l ≡ rule_answer v f l u (rule_found m r u)
+    line_rule : (l : Line) (u : Rule) → rule_of l ≡ Some u → line_answer v f (rule_found m r) l ≡ rule_answer v f l u (rule_found m r u)
     unfolding line_answer
     line_rule l u e = by (is_comment l || is_blank l) (parse_rule l.raw) e
       where
-        by : (b : Bool) (o : Option Rule) → (when b then none else o) ≡ some u
-            → (when b then none else (o >>= λ w. rule_answer v f l w (rule_found m r w))) ≡ rule_answer v f l u (rule_found m r u)
+        by : (b : Bool) (o : Option Rule) → (when b then None else o) ≡ Some u
+            → (when b then None else (o >>= λ w. rule_answer v f l w (rule_found m r w))) ≡ rule_answer v f l u (rule_found m r u)
         by true o k = let z : ◌≡◌ {A = ℕ} 0 1 = cc in absurd (omega arith)
-        by false none k = let z : ◌≡◌ {A = ℕ} 0 1 = cc in absurd (omega arith)
-        by false (some w) k = let same : w ≡ u = cc k in ap (λ (x : Rule). rule_answer v f l x (rule_found m r x)) same
+        by false None k = let z : ◌≡◌ {A = ℕ} 0 1 = cc in absurd (omega arith)
+        by false (Some w) k = let same : w ≡ u = cc k in ap (λ (x : Rule). rule_answer v f l x (rule_found m r x)) same
 
-    covered_line : (kept : List Rule) (l : Line) → Missed kept → covered_by kept l ≡ true → line_answer v f (rule_found m r) l ≡ none
+    covered_line : (kept : List Rule) (l : Line) → Missed kept → covered_by kept l ≡ true → line_answer v f (rule_found m r) l ≡ None
     covered_line kept l h e = by (rule_of l) refl e
       where
-        by : (o : Option Rule) → rule_of l ≡ o → holds (λ w. any (λ u. covers u w) kept) o ≡ true → line_answer v f (rule_found m r) l ≡ none
-        by none q k = absurd (true≢false (sym k))
-        by (some u) q k = line_rule l u q ∙ ap (rule_answer v f l u) (missed_any kept u h k)
+        by : (o : Option Rule) → rule_of l ≡ o → holds (λ w. any (λ u. covers u w) kept) o ≡ true → line_answer v f (rule_found m r) l ≡ None
+        by None q k = absurd (true≢false (sym k))
+        by (Some u) q k = line_rule l u q ∙ ap (rule_answer v f l u) (missed_any kept u h k)
 
     pub search_kept : (ns : List ℕ) (kept : List Rule) (ls : List Line) → Missed kept → witnessed ns kept ls ≡ true
         → first (line_answer v f (rule_found m r)) ls ≡ first (line_answer v f (rule_found m r)) (kept_lines ns ls)
@@ -178,17 +178,17 @@ module _ (m : Matcher) (r : Request) (blind : CaseBlind m r) where
             → ((us : List Rule) → Missed us → witnessed ns us ls ≡ true
             → first (line_answer v f (rule_found m r)) ls ≡ first (line_answer v f (rule_found m r)) (kept_lines ns ls))
             → o or_else first (line_answer v f (rule_found m r)) ls ≡ o or_else first (line_answer v f (rule_found m r)) (kept_lines ns ls)
-        on (some a) q k ih = refl
-        on none q k ih = rule (rule_of l) refl
+        on (Some a) q k ih = refl
+        on None q k ih = rule (rule_of l) refl
           where
-            found : (u : Rule) (x : Found) → rule_found m r u ≡ x → rule_answer v f l u x ≡ none → rule_found m r u ≡ Found.No
+            found : (u : Rule) (x : Found) → rule_found m r u ≡ x → rule_answer v f l u x ≡ None → rule_found m r u ≡ Found.No
             found u Found.No p z = p
             found u Found.Yes p z = let y : ◌≡◌ {A = ℕ} 0 1 = cc in absurd (omega arith)
             found u Found.Ask p z = let y : ◌≡◌ {A = ℕ} 0 1 = cc in absurd (omega arith)
 
             rule : (o : Option Rule) → rule_of l ≡ o → first (line_answer v f (rule_found m r)) ls ≡ first (line_answer v f (rule_found m r)) (kept_lines ns ls)
-            rule none p = ih kept h (rw p at k)
-            rule (some u) p = ih (u ∷ kept) (found u (rule_found m r u) refl (sym (line_rule l u p) ∙ q), h) (rw p at k)
+            rule None p = ih kept h (rw p at k)
+            rule (Some u) p = ih (u ∷ kept) (found u (rule_found m r u) refl (sym (line_rule l u p) ∙ q), h) (rw p at k)
 
         by : (b : Bool) → (when b then covered_by kept l && witnessed ns kept ls else witnessed ns (with_rule (rule_of l) kept) ls) ≡ true
             → (witnessed ns kept ls ≡ true → first (line_answer v f (rule_found m r)) ls ≡ first (line_answer v f (rule_found m r)) (kept_lines ns ls))

@@ -3,16 +3,16 @@
 --   search_allow, search_deny == the search, where one file is tidied
 --   decide_allow, decide_deny == the call with tables, where one file is tidied; refusals are the same
 -- Assumes nothing.
+use Rattle.std.specs.Prelude.{Err, None, Ok, Option, Some, unwrap_or}
 use Prim.Native.Nat.{ℕ, zero, suc, ◌+◌, ◌≤◌, ◌<◌}
 use native.Mathlib.Omega.{arith}
 use mathlib.Core.Bool.{Bool, true, false, not, ◌&&◌, ◌||◌}
 use mathlib.Core.List.{List, [], ◌∷◌, ◌++◌}
-use mathlib.Core.Option.{Option, none, some, get_or}
 use mathlib.Core.Path.{◌≡◌, refl, sym, ap, ap₂, ◌∙◌}
 use Rattle.text.specs.Basics.{when◌then◌else◌, ◌>>=◌, ◌or_else◌, first}
 use Rattle.section.specs.declared.Fault.TheVariants as F
 use Rattle.section.specs.declared.Refusal.{Refusal}
-use Rattle.section.specs.Refusal.{Outcome, refused, answered, ◌before◌, fitting}
+use Rattle.section.specs.Refusal.{Outcome, ◌before◌, fitting}
 use Rattle.section.specs.Section as S
 use Rattle.section.specs.Section.{part, bytes_at, over_limit}
 use Rattle.lines.specs.Line.{Line, lines, is_comment, is_blank}
@@ -57,29 +57,29 @@ in_deny Deny k = k
 
 -- ## Answers of a file
 
-found_file : (v : Verdict) (f : File) (l : Line) (u : Rule) (x : Found) (a : Answer) → rule_answer v f l u x ≡ some a → a.file ≡ f
+found_file : (v : Verdict) (f : File) (l : Line) (u : Rule) (x : Found) (a : Answer) → rule_answer v f l u x ≡ Some a → a.file ≡ f
 found_file v f l u Found.No a e = let z : ◌≡◌ {A = ℕ} 0 1 = cc e in absurd (omega arith)
 found_file v f l u Found.Yes a e = let z : f ≡ a.file = cc e in sym z
 found_file v f l u Found.Ask a e = let z : f ≡ a.file = cc e in sym z
 
-line_file : (v : Verdict) (f : File) (found : Rule → Found) (l : Line) (a : Answer) → line_answer v f found l ≡ some a → a.file ≡ f
+line_file : (v : Verdict) (f : File) (found : Rule → Found) (l : Line) (a : Answer) → line_answer v f found l ≡ Some a → a.file ≡ f
 unfolding line_answer
 line_file v f found l a = by (is_comment l || is_blank l) (parse_rule l.raw)
   where
-    by : (c : Bool) (o : Option Rule) → (when c then none else (o >>= λ u. rule_answer v f l u (found u))) ≡ some a → a.file ≡ f
+    by : (c : Bool) (o : Option Rule) → (when c then None else (o >>= λ u. rule_answer v f l u (found u))) ≡ Some a → a.file ≡ f
     by true o e = let z : ◌≡◌ {A = ℕ} 0 1 = cc e in absurd (omega arith)
-    by false none e = let z : ◌≡◌ {A = ℕ} 0 1 = cc e in absurd (omega arith)
-    by false (some u) e = found_file v f l u (found u) a e
+    by false None e = let z : ◌≡◌ {A = ℕ} 0 1 = cc e in absurd (omega arith)
+    by false (Some u) e = found_file v f l u (found u) a e
 
-first_file : (v : Verdict) (f : File) (found : Rule → Found) (ls : List Line) (a : Answer) → first (line_answer v f found) ls ≡ some a → a.file ≡ f
+first_file : (v : Verdict) (f : File) (found : Rule → Found) (ls : List Line) (a : Answer) → first (line_answer v f found) ls ≡ Some a → a.file ≡ f
 unfolding first
 first_file v f found [] a e = let z : ◌≡◌ {A = ℕ} 0 1 = cc e in absurd (omega arith)
 first_file v f found (l ∷ ls) a e = by (line_answer v f found l) refl e (first_file v f found ls a)
   where
-    by : (o : Option Answer) → line_answer v f found l ≡ o → o or_else first (line_answer v f found) ls ≡ some a
-        → (first (line_answer v f found) ls ≡ some a → a.file ≡ f) → a.file ≡ f
-    by none q k ih = ih k
-    by (some b) q k ih = line_file v f found l a (q ∙ k)
+    by : (o : Option Answer) → line_answer v f found l ≡ o → o or_else first (line_answer v f found) ls ≡ Some a
+        → (first (line_answer v f found) ls ≡ Some a → a.file ≡ f) → a.file ≡ f
+    by None q k ih = ih k
+    by (Some b) q k ih = line_file v f found l a (q ∙ k)
 
 -- ## The search
 
@@ -87,7 +87,7 @@ module _ (ts : List Table) (r : Request) (ns : List ℕ) where
   abbrev found : Rule → Found
   found = rule_found (match_of ts) r
 
-  module _ (allow deny : List ℕ) (sound : hosts_fault S.allow allow ≡ none) (ok : accepts allow ns ≡ true) where
+  module _ (allow deny : List ℕ) (sound : hosts_fault S.allow allow ≡ None) (ok : accepts allow ns ≡ true) where
     abbrev MovedAllow : Answer → Answer → Type 0
     MovedAllow a b = SameVerdict allow deny (dropped ns allow) deny (in_allow a.file (removed_above ns a.line (lines allow))) a b
 
@@ -97,20 +97,20 @@ module _ (ts : List Table) (r : Request) (ns : List ℕ) where
     allow_commands = rw (accepted_search Granted Allow ts r allow ns ok) (dropped_command Granted Allow found ns allow (hosts_sound S.allow allow sound))
 
     others : (z : Option Answer) → first (line_answer Denied Deny found) (lines deny) ≡ z
-        → MovedAllow (get_or z (answer Granted Neither 0 (part 0 0))) (get_or z (answer Granted Neither 0 (part 0 0)))
-    others none e = record { verdict = refl; file = refl; command = refl; line = omega arith }
-    others (some c) e =
+        → MovedAllow (unwrap_or z (answer Granted Neither 0 (part 0 0))) (unwrap_or z (answer Granted Neither 0 (part 0 0)))
+    others None e = record { verdict = refl; file = refl; command = refl; line = omega arith }
+    others (Some c) e =
         let is-deny = first_file Denied Deny found (lines deny) c e in
         record { verdict = refl; file = refl; command = rw is-deny; line = rw is-deny (omega arith) }
 
     by_answers : (x y : Option Answer) → Moved Granted Allow ts r S.allow ns 1 0 (lines allow) x y
         → SameCommand Granted Allow found ns allow (dropped ns allow) x y
-        → MovedAllow (get_or (x or_else first (line_answer Denied Deny found) (lines deny)) (answer Granted Neither 0 (part 0 0)))
-        (get_or (y or_else first (line_answer Denied Deny found) (lines deny)) (answer Granted Neither 0 (part 0 0)))
-    by_answers none none m c = others (first (line_answer Denied Deny found) (lines deny)) refl
-    by_answers none (some b) m c = absurd m
-    by_answers (some a) none m c = absurd m
-    by_answers (some a) (some b) m c = record {
+        → MovedAllow (unwrap_or (x or_else first (line_answer Denied Deny found) (lines deny)) (answer Granted Neither 0 (part 0 0)))
+        (unwrap_or (y or_else first (line_answer Denied Deny found) (lines deny)) (answer Granted Neither 0 (part 0 0)))
+    by_answers None None m c = others (first (line_answer Denied Deny found) (lines deny)) refl
+    by_answers None (Some b) m c = absurd m
+    by_answers (Some a) None m c = absurd m
+    by_answers (Some a) (Some b) m c = record {
       verdict = m.0;
       file = m.1;
       command = rw (c.0, c.1.0) c.1.1;
@@ -123,7 +123,7 @@ module _ (ts : List Table) (r : Request) (ns : List ℕ) where
         by_answers (first (line_answer Granted Allow found) (lines allow)) (first (line_answer Granted Allow found) (lines (dropped ns allow)))
         (dropped_search Granted Allow ts r S.allow ns allow sound ok) allow_commands
 
-  module _ (allow deny : List ℕ) (sound : hosts_fault S.deny deny ≡ none) (ok : accepts deny ns ≡ true) where
+  module _ (allow deny : List ℕ) (sound : hosts_fault S.deny deny ≡ None) (ok : accepts deny ns ≡ true) where
     abbrev MovedDeny : Answer → Answer → Type 0
     MovedDeny a b = SameVerdict allow deny allow (dropped ns deny) (in_deny a.file (removed_above ns a.line (lines deny))) a b
 
@@ -133,11 +133,11 @@ module _ (ts : List Table) (r : Request) (ns : List ℕ) where
     deny_commands = rw (accepted_search Denied Deny ts r deny ns ok) (dropped_command Denied Deny found ns deny (hosts_sound S.deny deny sound))
 
     by_deny : (x y : Option Answer) → Moved Denied Deny ts r S.deny ns 1 0 (lines deny) x y → SameCommand Denied Deny found ns deny (dropped ns deny) x y
-        → MovedDeny (get_or x (answer Granted Neither 0 (part 0 0))) (get_or y (answer Granted Neither 0 (part 0 0)))
-    by_deny none none m c = record { verdict = refl; file = refl; command = refl; line = omega arith }
-    by_deny none (some b) m c = absurd m
-    by_deny (some a) none m c = absurd m
-    by_deny (some a) (some b) m c = record {
+        → MovedDeny (unwrap_or x (answer Granted Neither 0 (part 0 0))) (unwrap_or y (answer Granted Neither 0 (part 0 0)))
+    by_deny None None m c = record { verdict = refl; file = refl; command = refl; line = omega arith }
+    by_deny None (Some b) m c = absurd m
+    by_deny (Some a) None m c = absurd m
+    by_deny (Some a) (Some b) m c = record {
       verdict = m.0;
       file = m.1;
       command = rw (c.0, c.1.0) c.1.1;
@@ -145,12 +145,12 @@ module _ (ts : List Table) (r : Request) (ns : List ℕ) where
     }
 
     by_allow : (z : Option Answer) → first (line_answer Granted Allow found) (lines allow) ≡ z
-        → MovedDeny (get_or (z or_else first (line_answer Denied Deny found) (lines deny)) (answer Granted Neither 0 (part 0 0)))
-        (get_or (z or_else first (line_answer Denied Deny found) (lines (dropped ns deny))) (answer Granted Neither 0 (part 0 0)))
-    by_allow none e =
+        → MovedDeny (unwrap_or (z or_else first (line_answer Denied Deny found) (lines deny)) (answer Granted Neither 0 (part 0 0)))
+        (unwrap_or (z or_else first (line_answer Denied Deny found) (lines (dropped ns deny))) (answer Granted Neither 0 (part 0 0)))
+    by_allow None e =
         by_deny (first (line_answer Denied Deny found) (lines deny)) (first (line_answer Denied Deny found) (lines (dropped ns deny)))
         (dropped_search Denied Deny ts r S.deny ns deny sound ok) deny_commands
-    by_allow (some a) e =
+    by_allow (Some a) e =
         let is-allow = first_file Granted Allow found (lines allow) a e in
         record { verdict = refl; file = refl; command = rw is-allow; line = rw is-allow (omega arith) }
 
@@ -162,24 +162,24 @@ module _ (ts : List Table) (r : Request) (ns : List ℕ) where
 
 -- refused alike, or answered by answers of which p holds
 abbrev pub Alike : (Answer → Answer → Type 0) → Outcome Answer → Outcome Answer → Type 0
-Alike p (refused g) (refused h) = g ≡ h
-Alike p (refused g) (answered b) = ⊥
-Alike p (answered a) (refused h) = ⊥
-Alike p (answered a) (answered b) = p a b
+Alike p (Err g) (Err h) = g ≡ h
+Alike p (Err g) (Ok b) = ⊥
+Alike p (Ok a) (Err h) = ⊥
+Alike p (Ok a) (Ok b) = p a b
 
 alike_fitting : (p : Answer → Answer → Type 0) (f g : Request → Answer) → ((r : Request) → p (f r) (g r)) → (o : Option Request)
-    → Alike p (fitting well_formed o (λ r. answered (f r))) (fitting well_formed o (λ r. answered (g r)))
-alike_fitting p f g h none = refl
-alike_fitting p f g h (some r) = by (well_formed r)
+    → Alike p (fitting well_formed o (λ r. Ok (f r))) (fitting well_formed o (λ r. Ok (g r)))
+alike_fitting p f g h None = refl
+alike_fitting p f g h (Some r) = by (well_formed r)
   where
-    by : (b : Bool) → Alike p (when b then answered (f r) else refused (Rattle.section.specs.Refusal.placeless F.BadRequest))
-        (when b then answered (g r) else refused (Rattle.section.specs.Refusal.placeless F.BadRequest))
+    by : (b : Bool) → Alike p (when b then Ok (f r) else Err (Rattle.section.specs.Refusal.placeless F.BadRequest))
+        (when b then Ok (g r) else Err (Rattle.section.specs.Refusal.placeless F.BadRequest))
     by true = h r
     by false = refl
 
 alike_before : (p : Answer → Answer → Type 0) (c d : Option Refusal) (x y : Outcome Answer) → d ≡ c → Alike p x y → Alike p (c before x) (d before y)
-alike_before p none d x y e h = rw e h
-alike_before p (some g) d x y e h = rw e refl
+alike_before p None d x y e h = rw e h
+alike_before p (Some g) d x y e h = rw e refl
 
 abbrev checks : List ℕ → List ℕ → List ℕ → Option Refusal
 checks allow deny five =
@@ -187,26 +187,26 @@ checks allow deny five =
     or_else hosts_fault S.allow allow or_else hosts_fault S.deny deny or_else tables_fault allow deny five
 
 -- what is left of them where the allow file, or the deny file, passes its own
-without_allow : (allow deny five : List ℕ) → file_fault S.allow allow five ≡ none
+without_allow : (allow deny five : List ℕ) → file_fault S.allow allow five ≡ None
     → checks allow deny five
-    ≡ ((((none or_else over_limit S.deny deny) or_else none) or_else none) or_else hosts_fault S.deny deny)
-    or_else (((((none or_else missing_fault (tables_of five) S.deny deny) or_else none) or_else none) or_else depth_fault (tables_of five) S.deny deny) or_else none)
+    ≡ ((((None or_else over_limit S.deny deny) or_else None) or_else None) or_else hosts_fault S.deny deny)
+    or_else (((((None or_else missing_fault (tables_of five) S.deny deny) or_else None) or_else None) or_else depth_fault (tables_of five) S.deny deny) or_else None)
 unfolding tables_fault
 without_allow allow deny five e =
     let p = file_parts S.allow allow five e in
     rw (p.0, p.1.0, p.1.1.0, p.1.1.1.0, p.1.1.1.1.0, p.1.1.1.1.1.0, p.1.1.1.1.1.1)
 
-without_deny : (allow deny five : List ℕ) → file_fault S.deny deny five ≡ none
+without_deny : (allow deny five : List ℕ) → file_fault S.deny deny five ≡ None
     → checks allow deny five
-    ≡ ((((over_limit S.allow allow or_else none) or_else none) or_else hosts_fault S.allow allow) or_else none)
-    or_else (((((missing_fault (tables_of five) S.allow allow or_else none) or_else none) or_else depth_fault (tables_of five) S.allow allow) or_else none) or_else none)
+    ≡ ((((over_limit S.allow allow or_else None) or_else None) or_else hosts_fault S.allow allow) or_else None)
+    or_else (((((missing_fault (tables_of five) S.allow allow or_else None) or_else None) or_else depth_fault (tables_of five) S.allow allow) or_else None) or_else None)
 unfolding tables_fault
 without_deny allow deny five e =
     let p = file_parts S.deny deny five e in
     rw (p.0, p.1.0, p.1.1.0, p.1.1.1.0, p.1.1.1.1.0, p.1.1.1.1.1.0, p.1.1.1.1.1.1)
 
 module _ (allow deny five ns : List ℕ) (o : Option Request) where
-  pub decide_allow : file_fault S.allow allow five ≡ none → accepts allow ns ≡ true
+  pub decide_allow : file_fault S.allow allow five ≡ None → accepts allow ns ≡ true
       → Alike (λ a b. SameVerdict allow deny (dropped ns allow) deny (in_allow a.file (removed_above ns a.line (lines allow))) a b)
       (decide_tables allow deny five o) (decide_tables (dropped ns allow) deny five o)
   unfolding decide_tables
@@ -219,7 +219,7 @@ module _ (allow deny five ns : List ℕ) (o : Option Request) where
       (λ r. search (match_of (tables_of five)) allow deny (held r)) (λ r. search (match_of (tables_of five)) (dropped ns allow) deny (held r))
       (λ r. search_allow (tables_of five) (held r) ns allow deny (file_parts S.allow allow five e).1.1.0 ok) o)
 
-  pub decide_deny : file_fault S.deny deny five ≡ none → accepts deny ns ≡ true
+  pub decide_deny : file_fault S.deny deny five ≡ None → accepts deny ns ≡ true
       → Alike (λ a b. SameVerdict allow deny allow (dropped ns deny) (in_deny a.file (removed_above ns a.line (lines deny))) a b)
       (decide_tables allow deny five o) (decide_tables allow (dropped ns deny) five o)
   unfolding decide_tables

@@ -9,9 +9,8 @@
 --   Marked marks ns          == the lines ns, and they alone, are marked
 --   kept_bytes marks ls       == the bytes of the lines that are not named
 -- Assumes nothing: these are definitions.
-use Rattle.std.specs.Prelude.{ℕ, zero, suc, ◌+◌, ◌-◌, ◌*◌, ◌%◌, ◌≤◌, ◌<◌, ◌/◌, Bool, true, false, not, ◌&&◌, ◌||◌, ◌≡◌, eqb, ltb, leb, length, take, drop, get_or, set}
+use Rattle.std.specs.Prelude.{ℕ, zero, suc, ◌+◌, ◌-◌, ◌*◌, ◌%◌, ◌≤◌, ◌<◌, ◌/◌, Bool, true, false, not, ◌&&◌, ◌||◌, ◌≡◌, eqb, ltb, leb, length, take, drop, get_or, set, Err, None, Ok, Option, Result, Some}
 use mathlib.Core.List.{List, [], ◌∷◌, ◌++◌, flat_map}
-use Rattle.std.proofs.Math.Option.{Option, none, some}
 use Rattle.text.specs.Basics.{when◌then◌else◌, ◌or_else◌, given, holds, is_some, any, all, first}
 use Rattle.text.specs.Text.{lower, split}
 use Rattle.text.specs.Words.{word_bytes, read_words}
@@ -29,36 +28,32 @@ use Rattle.lines.specs.Scan.{scan_line}
 use Rattle.tables.specs.Table.{tables_frame}
 use Rattle.rules.specs.Check.{line_fault}
 use Rattle.rules.specs.Code.{contents_fault}
-use Rattle.rules.specs.declared.hosts_file.Pass.{Pass}
-use Rattle.rules.specs.declared.hosts_file.Pass.TheVariants as P
-use Rattle.tidy.specs.declared.Checked.{Checked}
-use Rattle.tidy.specs.declared.Checked.TheVariants as C
 use Rattle.tidy.specs.Tidy.{same_list, all_alone, rule_of, dropped, accepted_bytes, numbers_of}
 
 -- ## The checks
 
-abbrev pub checked_of : Option Refusal → Checked
-checked_of none = C.Sound
-checked_of (some r) = C.Refused r
+abbrev pub checked_of : Option Refusal → Result Unit Refusal
+checked_of None = Ok tt
+checked_of (Some r) = Err r
 
 unfoldable pub texts_fault : List ℕ → List ℕ → List ℕ → Option Refusal
 texts_fault allow deny five = over_limit S.allow allow or_else over_limit S.deny deny or_else tables_frame five or_else contents_fault allow deny five
 
 unfoldable pub section_fault : ℕ → List ℕ → List ℕ → Option Refusal
 section_fault n t five =
-    when eqb n 1 then texts_fault t [] five else when eqb n 2 then texts_fault [] t five else some (placeless F.BadRequest)
+    when eqb n 1 then texts_fault t [] five else when eqb n 2 then texts_fault [] t five else Some (placeless F.BadRequest)
 
-abbrev pub checked_by : Pass → Checked
-checked_by (P.Faulty f) = C.Refused f
-checked_by P.Unmatched = C.Sound
-checked_by (P.Matched a) = C.Sound
+abbrev pub checked_by : Result (Option Answer) Refusal → Result Unit Refusal
+checked_by (Err f) = Err f
+checked_by (Ok None) = Ok tt
+checked_by (Ok (Some a)) = Ok tt
 
 -- the new file, of a text that passed its checks
 unfoldable pub drop_sound : List ℕ → List ℕ → ℕ → Outcome (List ℕ)
 drop_sound t p room = refusing (given (not (accepted_bytes t p)) (placeless F.BadProposal)) (dropped (numbers_of p) t) >>= within_room room
 
 unfoldable pub Sound : List ℕ → Type 0
-Sound t = first line_fault (lines t) ≡ none
+Sound t = first line_fault (lines t) ≡ None
 
 -- ## A rule
 

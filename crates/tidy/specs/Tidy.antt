@@ -8,14 +8,13 @@
 --   file_fault s t five == the refusal of the text t of section s, and of the section five
 --   propose, drop_rules == the calls
 -- Assumes nothing: these are definitions.
-use Rattle.std.specs.Prelude.{ℕ, ◌+◌, Bool, true, false, not, ◌&&◌, ◌||◌, List, [], ◌∷◌, ◌++◌, eqb, ltb}
-use Rattle.std.proofs.Math.Option.{Option, none, some, get_or}
+use Rattle.std.specs.Prelude.{ℕ, ◌+◌, Bool, true, false, not, ◌&&◌, ◌||◌, List, [], ◌∷◌, ◌++◌, eqb, ltb, Err, None, Option, Some, unwrap_or}
 use Rattle.text.specs.Basics.{when◌then◌else◌, ◌or_else◌, given, holds, any, all}
 use Rattle.text.specs.Text.{equal_fold, is_word}
 use Rattle.text.specs.Words.{word_bytes, read_words}
 use Rattle.section.specs.declared.Fault.TheVariants as F
 use Rattle.section.specs.declared.Refusal.{Refusal}
-use Rattle.section.specs.Refusal.{Outcome, refused, ◌>>=◌, placeless, refusing, within_room}
+use Rattle.section.specs.Refusal.{Outcome, ◌>>=◌, placeless, refusing, within_room}
 use Rattle.section.specs.Section as S
 use Rattle.section.specs.Section.{Section, over_limit}
 use Rattle.lines.specs.Line.{Line, lines, is_comment, is_blank}
@@ -27,7 +26,7 @@ use Rattle.rules.specs.Check.{hosts_fault, missing_fault, depth_fault}
 -- ## Rules that never fire
 
 abbrev pub rule_of : Line → Option Rule
-rule_of l = when is_comment l || is_blank l then none else parse_rule l.raw
+rule_of l = when is_comment l || is_blank l then None else parse_rule l.raw
 
 -- "the same elements and EXCEPTs in the same order .., ignoring case"
 unfoldable pub same_list : List (List ℕ) → List (List ℕ) → Bool
@@ -60,8 +59,8 @@ covered_by us l = holds (λ v. any (λ u. covers u v) us) (rule_of l)
 
 -- the rule of a line before the others
 abbrev pub with_rule : Option Rule → List Rule → List Rule
-with_rule none us = us
-with_rule (some u) us = u ∷ us
+with_rule None us = us
+with_rule (Some u) us = u ∷ us
 
 -- ## The checker
 
@@ -110,12 +109,12 @@ removed_above ns n (l ∷ ls) = (when named ns l && ltb l.number n then line_cou
 
 -- "Given a file and the tables": the section that a caller's number names
 abbrev pub section_of : ℕ → Option Section
-section_of n = when eqb n (S.allow).order then some S.allow else when eqb n (S.deny).order then some S.deny else none
+section_of n = when eqb n (S.allow).order then Some S.allow else when eqb n (S.deny).order then Some S.deny else None
 
 -- 13 where it names neither of the two
 abbrev pub with_section : Option Section → (Section → Outcome (List ℕ)) → Outcome (List ℕ)
-with_section none f = refused (placeless F.BadRequest)
-with_section (some s) f = f s
+with_section None f = Err (placeless F.BadRequest)
+with_section (Some s) f = f s
 
 -- "the file's own checks", and those of the tables, as in a verdict by that text and the section five
 unfoldable pub file_fault : Section → List ℕ → List ℕ → Option Refusal
@@ -133,7 +132,7 @@ abbrev pub accepted_bytes : List ℕ → List ℕ → Bool
 accepted_bytes t p = holds (accepts t) (read_words p)
 
 abbrev pub numbers_of : List ℕ → List ℕ
-numbers_of p = get_or (read_words p) []
+numbers_of p = unwrap_or (read_words p) []
 
 -- "20, line 0, for a proposal not accepted, after the file's own checks; then 14"
 unfoldable pub drop_rules : ℕ → List ℕ → List ℕ → List ℕ → ℕ → Outcome (List ℕ)

@@ -7,7 +7,7 @@ ghost use Rattle.lines.specs.Line.{lines};
 ghost use Rattle.tidy.specs.Code.{size_here, kept_here, kept_bytes, Sound};
 
 use lines::line;
-use section::{Fault, Written};
+use section::Fault;
 
 // How many bytes of a line of so many stay.
 fn kept_size(marks: &[u8; 16385], n: usize, size: usize) -> usize
@@ -71,7 +71,7 @@ fn put_kept(out: &mut [u8], text: &[u8], marks: &[u8; 16385])
 }
 
 // Writes the lines that are not named, where there is room.
-pub(crate) fn write_kept(out: &mut [u8], text: &[u8], marks: &[u8; 16385]) -> Written
+pub(crate) fn write_kept(out: &mut [u8], text: &[u8], marks: &[u8; 16385]) -> Result<usize, Refusal>
     requires { (length text.now ≤ 16384) × Sound text.now }
     ensures answer { result ≡ written_of (within_room (length out.old) (kept_bytes marks.now (lines text.now))) }
     ensures holds { out.new
@@ -79,8 +79,8 @@ pub(crate) fn write_kept(out: &mut [u8], text: &[u8], marks: &[u8; 16385]) -> Wr
 {
     let n = kept_len(text, marks);
     if out.len() < n {
-        return Written::Refused(section::placeless(Fault::NoRoom));
+        return Err(section::placeless(Fault::NoRoom));
     }
     put_kept(out, text, marks);
-    Written::Count(n)
+    Ok(n)
 }

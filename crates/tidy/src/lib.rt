@@ -22,68 +22,61 @@ ghost use Rattle.tidy.specs.Code.{checked_of, checked_by, texts_fault, section_f
 use crate::kept::write_kept;
 use crate::numbers::{name_lines, write_numbers};
 use crate::repeats::covered_lines;
-use rules::hosts_file::Pass;
 use rules::naming::check_contents;
 use rules::search::are_sound;
-use section::{Fault, Refusal, Written};
+use section::Fault;
+use section::Refusal;
 use tables::entry::Framing;
 
-// What checks find.
-#[derive(Clone, Copy)]
-pub enum Checked {
-    Refused(Refusal),
-    Sound,
-}
-
 // A pass that looks for nothing, as a check.
-fn check_by(pass: Pass) -> Checked
+fn check_by(pass: Result<Option<Answer>, Refusal>) -> Result<(), Refusal>
     ensures { result ≡ checked_by pass }
 {
     match pass {
-        Pass::Faulty(f) => Checked::Refused(f),
-        Pass::Unmatched => Checked::Sound,
-        Pass::Matched(_) => Checked::Sound,
+        Err(f) => Err(f),
+        Ok(None) => Ok(()),
+        Ok(Some(_)) => Ok(()),
     }
 }
 
 // The checks of the contents of two texts and of a section five whose frame is sound; what is sound is read once.
-fn check_whole(allow: &[u8], deny: &[u8], tables: &[u8]) -> Checked
+fn check_whole(allow: &[u8], deny: &[u8], tables: &[u8]) -> Result<(), Refusal>
     requires { tables_in tables.now ≡ tables_of tables.now }
     ensures { result ≡ checked_of (contents_fault allow.now deny.now tables.now) }
 {
     if are_sound(allow, deny, tables) {
-        return Checked::Sound;
+        return Ok(());
     }
     check_by(check_contents(allow, deny, tables))
 }
 
 // The checks of two texts within their limits and a section five: its frame, then the contents.
-fn check_framed(allow: &[u8], deny: &[u8], tables: &[u8]) -> Checked
+fn check_framed(allow: &[u8], deny: &[u8], tables: &[u8]) -> Result<(), Refusal>
     ensures { result
         ≡ checked_of (tables_frame tables.now or_else contents_fault allow.now deny.now tables.now) }
 {
     match tables::entry::frame(tables) {
-        Framing::Cut => Checked::Refused(section::Tables::refusal(Fault::CutShort, 0)),
-        Framing::Trailing => Checked::Refused(section::placeless(Fault::TrailingBytes)),
+        Framing::Cut => Err(section::Tables::refusal(Fault::CutShort, 0)),
+        Framing::Trailing => Err(section::placeless(Fault::TrailingBytes)),
         Framing::Sound => check_whole(allow, deny, tables),
     }
 }
 
 // The checks of two texts and a section five.
-fn check_texts(allow: &[u8], deny: &[u8], tables: &[u8]) -> Checked
+fn check_texts(allow: &[u8], deny: &[u8], tables: &[u8]) -> Result<(), Refusal>
     ensures { result ≡ checked_of (texts_fault allow.now deny.now tables.now) }
 {
     if section::Allow::over(allow.len()) {
-        return Checked::Refused(section::Allow::refusal(Fault::OverLimit, 0));
+        return Err(section::Allow::refusal(Fault::OverLimit, 0));
     }
     if section::Deny::over(deny.len()) {
-        return Checked::Refused(section::Deny::refusal(Fault::OverLimit, 0));
+        return Err(section::Deny::refusal(Fault::OverLimit, 0));
     }
     check_framed(allow, deny, tables)
 }
 
 // The checks of the text of a section, and of a section five.
-fn check_file(text: &[u8], tables: &[u8], section: u32) -> Checked
+fn check_file(text: &[u8], tables: &[u8], section: u32) -> Result<(), Refusal>
     ensures { result ≡ checked_of (section_fault section text.now tables.now) }
 {
     if section == 1 {
@@ -92,13 +85,13 @@ fn check_file(text: &[u8], tables: &[u8], section: u32) -> Checked
     if section == 2 {
         return check_texts(&text[..0], text, tables);
     }
-    Checked::Refused(section::placeless(Fault::BadRequest))
+    Err(section::placeless(Fault::BadRequest))
 }
 
 // The numbers of the lines to drop of a text that passed its checks. The marks are in a frame of its own, so that they do not stand on the
 // stack while the text is checked.
 #[inline(never)]
-fn propose_sound(out: &mut [u8], text: &[u8]) -> Written
+fn propose_sound(out: &mut [u8], text: &[u8]) -> Result<usize, Refusal>
     requires { (length text.now ≤ 16384) × Sound text.now }
     ensures answer { result ≡ written_of (within_room (length out.old) (word_bytes (proposal text.now))) }
     ensures holds { out.new
@@ -109,20 +102,20 @@ fn propose_sound(out: &mut [u8], text: &[u8]) -> Written
 }
 
 // Writes the numbers of the lines to drop, four bytes each, most significant first; a refusal leaves out as it was.
-pub fn propose(out: &mut [u8], text: &[u8], tables: &[u8], section: u32) -> Written
+pub fn propose(out: &mut [u8], text: &[u8], tables: &[u8], section: u32) -> Result<usize, Refusal>
     ensures answer { result ≡ written_of (proposeOf section text.now tables.now (length out.old)) }
     ensures holds { out.new
         ≡ lent_after out.old (proposeOf section text.now tables.now (length out.old)) }
 {
     match check_file(text, tables, section) {
-        Checked::Refused(refusal) => Written::Refused(refusal),
-        Checked::Sound => propose_sound(out, text),
+        Err(refusal) => Err(refusal),
+        Ok(()) => propose_sound(out, text),
     }
 }
 
 // The same of a text that passed its checks.
 #[inline(never)]
-fn drop_sound(out: &mut [u8], text: &[u8], proposal: &[u8]) -> Written
+fn drop_sound(out: &mut [u8], text: &[u8], proposal: &[u8]) -> Result<usize, Refusal>
     requires { (length text.now ≤ 16384) × Sound text.now }
     ensures answer { result ≡ written_of (drop_sound text.now proposal.now (length out.old)) }
     ensures holds { out.new
@@ -132,7 +125,7 @@ fn drop_sound(out: &mut [u8], text: &[u8], proposal: &[u8]) -> Written
     if name_lines(&mut marks, proposal) {
         return write_kept(out, text, &marks);
     }
-    Written::Refused(section::placeless(Fault::BadProposal))
+    Err(section::placeless(Fault::BadProposal))
 }
 
 // Writes the text without the lines that a proposal names, if it is accepted; a refusal leaves out as it was.
@@ -142,7 +135,7 @@ pub fn drop_rules(
     tables: &[u8],
     section: u32,
     proposal: &[u8],
-) -> Written
+) -> Result<usize, Refusal>
     ensures answer { result
         ≡ written_of (drop_rules section text.now tables.now proposal.now (length out.old)) }
     ensures holds { out.new
@@ -150,7 +143,7 @@ pub fn drop_rules(
         (drop_rules section text.now tables.now proposal.now (length out.old)) }
 {
     match check_file(text, tables, section) {
-        Checked::Refused(refusal) => Written::Refused(refusal),
-        Checked::Sound => drop_sound(out, text, proposal),
+        Err(refusal) => Err(refusal),
+        Ok(()) => drop_sound(out, text, proposal),
     }
 }

@@ -9,7 +9,7 @@ ghost use Rattle.section.specs.Refusal.{written_of, within_room, lent_after};
 ghost use Rattle.tidy.specs.Tidy.{numbers_of};
 ghost use Rattle.tidy.specs.Code.{marked_here, marked_from, marked_bytes, names_marked, set_named};
 
-use section::{Fault, Written};
+use section::Fault;
 
 // How many numbers line n adds.
 fn mark_count(marks: &[u8], n: usize) -> usize
@@ -80,17 +80,17 @@ fn put_numbers(out: &mut [u8], marks: &[u8])
 }
 
 // Writes the numbers of the marked lines, where there is room.
-pub(crate) fn write_numbers(out: &mut [u8], marks: &[u8; 16385]) -> Written
+pub(crate) fn write_numbers(out: &mut [u8], marks: &[u8; 16385]) -> Result<usize, Refusal>
     ensures answer { result ≡ written_of (within_room (length out.old) (marked_bytes marks.now)) }
     ensures holds { out.new
         ≡ lent_after out.old (within_room (length out.old) (marked_bytes marks.now)) }
 {
     let n = 4 * count_marks(marks);
     if out.len() < n {
-        return Written::Refused(section::placeless(Fault::NoRoom));
+        return Err(section::placeless(Fault::NoRoom));
     }
     put_numbers(out, marks);
-    Written::Count(n)
+    Ok(n)
 }
 
 // The number that s begins with.

@@ -1,12 +1,12 @@
 -- Laws of the notes of any number of tables: the loop that marks the tables that name a marked one, and the one over the depths.
 -- Assumes nothing.
+use Rattle.std.specs.Prelude.{None, Option, Some}
 use Prim.Native.Nat.{ℕ, zero, suc, ◌+◌, ◌-◌, ◌/◌, ◌%◌, ◌≤◌, ◌<◌}
 use native.Mathlib.Nat.{mod-lt}
 use native.Mathlib.Omega.{arith}
 use native.Mathlib.Numerals.{add-one}
 use mathlib.Core.Bool.{Bool, true, false, ◌&&◌, ◌||◌, and-false, or-false}
 use mathlib.Core.List.{List, [], ◌∷◌}
-use mathlib.Core.Option.{Option, none, some}
 use mathlib.Core.Path.{◌≡◌, refl, sym, ap, ap₂, ◌∙◌}
 use lib.Dec.{eqb, ltb}
 use lib.ListN.{length, drop, get_or, set, replicate, get_or-replicate, length-set, get_or-eq_default}
@@ -143,16 +143,16 @@ module _ (t : List ℕ) (p : ℕ → Bool) (n : ℕ) (rest notes : List ℕ) (i 
 -- ## The recursion over the depth
 
 -- a name's place is that of a table
-pub place_below : (ts : List Table) (n : List ℕ) (i : ℕ) → place_named ts n ≡ some i → i < length ts
+pub place_below : (ts : List Table) (n : List ℕ) (i : ℕ) → place_named ts n ≡ Some i → i < length ts
 unfolding place_named
 place_below [] n i e = let z : ◌≡◌ {A = ℕ} 0 1 = cc in absurd (omega arith)
 place_below (t ∷ ts) n i e = by (equal_fold n t.name) (place_named ts n) refl (place_below ts n) e
   where
-    by : (b : Bool) (o : Option ℕ) → place_named ts n ≡ o → ((k : ℕ) → place_named ts n ≡ some k → k < length ts)
-        → (when b then some 0 else (o >>= λ k. some (suc k))) ≡ some i → i < suc (length ts)
+    by : (b : Bool) (o : Option ℕ) → place_named ts n ≡ o → ((k : ℕ) → place_named ts n ≡ Some k → k < length ts)
+        → (when b then Some 0 else (o >>= λ k. Some (suc k))) ≡ Some i → i < suc (length ts)
     by true o f ih e = let z : 0 ≡ i = some_same 0 i e in omega arith
-    by false none f ih e = absurd (none_some e)
-    by false (some k) f ih e = let z : suc k ≡ i = some_same (suc k) i e in omega (arith, ih k f)
+    by false None f ih e = absurd (none_some e)
+    by false (Some k) f ih e = let z : suc k ≡ i = some_same (suc k) i e in omega (arith, ih k f)
 
 module _ (ts : List Table) (p q : ℕ → Bool) (same : (i : ℕ) → i < length ts → p i ≡ q i) where
   name_same : (n : List ℕ) → name_leads ts p n ≡ name_leads ts q n
@@ -160,16 +160,16 @@ module _ (ts : List Table) (p q : ℕ → Bool) (same : (i : ℕ) → i < length
   name_same n = by (place_named ts n) refl
     where
       by : (o : Option ℕ) → place_named ts n ≡ o → holds p o ≡ holds q o
-      by none e = refl
-      by (some i) e = same i (place_below ts n i e)
+      by None e = refl
+      by (Some i) e = same i (place_below ts n i e)
 
   word_same : (w : List ℕ) → word_leads ts p w ≡ word_leads ts q w
   unfolding word_leads
   word_same w = by (table_name w)
     where
       by : (o : Option (List ℕ)) → holds (name_leads ts p) o ≡ holds (name_leads ts q) o
-      by none = refl
-      by (some n) = name_same n
+      by None = refl
+      by (Some n) = name_same n
 
   pub text_same : (t : List ℕ) → text_leads ts p t ≡ text_leads ts q t
   unfolding text_leads
@@ -181,8 +181,8 @@ entries_few zero t = omega arith
 entries_few (suc k) t = by (read_table t) (entries_few k)
   where
     by : (o : Option (Table × List ℕ)) → ((u : List ℕ) → length (entries k u) ≤ k) → length (followed (entries k) o) ≤ suc k
-    by none ih = omega arith
-    by (some x) ih = omega (arith, ih x.1)
+    by None ih = omega arith
+    by (Some x) ih = omega (arith, ih x.1)
 
 module _ (t : List ℕ) where
   tables_few : get_or t 0 0 < 256 → get_or t 1 0 < 256 → length (tables_in t) < 65536

@@ -3,11 +3,11 @@
 --   first_level               == what the texts by themselves tell is what is told where no table that they name may be entered
 --   lift_right, level_stays   == one depth more, and where no table leads on
 -- Assumes nothing.
+use Rattle.std.specs.Prelude.{None, Option, Some}
 use Prim.Native.Nat.{ℕ, zero, suc, ◌+◌, ◌-◌, ◌*◌, ◌^◌, ◌≤◌, ◌<◌}
 use native.Mathlib.Omega.{arith}
 use mathlib.Core.Bool.{Bool, true, false, not, ◌&&◌, ◌||◌, true≢false, or-false, and-or_distrib_right}
 use mathlib.Core.List.{List, [], ◌∷◌}
-use mathlib.Core.Option.{Option, none, some}
 use mathlib.Core.Path.{◌≡◌, refl, sym, ap, ap₂, subst, ◌∙◌}
 use lib.Dec.{eqb, ltb}
 use lib.ListN.{length, drop, get_or, set, length-set}
@@ -93,16 +93,16 @@ module _ (ts : List Table) (few : length ts ≤ 64) (p : ℕ → Bool) where
   name_leads_bits n = by (place_named ts n) refl
     where
       by : (o : Option ℕ) → place_named ts n ≡ o → any_below (λ j. holds (eqb j) o && p j) 64 ≡ holds p o
-      by none e = any_below_none 64
-      by (some k) e = any_below_one p k 64 (let l : k < length ts = place_below ts n k e in omega arith)
+      by None e = any_below_none 64
+      by (Some k) e = any_below_one p k 64 (let l : k < length ts = place_below ts n k e in omega arith)
 
   word_leads_bits : (w : List ℕ) → any_below (λ j. word_names ts w j && p j) 64 ≡ word_leads ts p w
   unfolding word_names word_leads
   word_leads_bits w = by (table_name w)
     where
       by : (o : Option (List ℕ)) → any_below (λ j. holds (λ n. is_named ts n j) o && p j) 64 ≡ holds (name_leads ts p) o
-      by none = any_below_none 64
-      by (some n) = name_leads_bits n
+      by None = any_below_none 64
+      by (Some n) = name_leads_bits n
 
   words_lead_bits : (ws : List (List ℕ)) → any_below (λ j. words_name ts ws j && p j) 64 ≡ any (word_leads ts p) ws
   unfolding words_name any
@@ -124,16 +124,16 @@ module _ (ts : List Table) (few : length ts ≤ 64) (p : ℕ → Bool) where
 
 -- a number of the table at a place, 0 where there is none
 abbrev number_at : (ℕ → ℕ) → Option ℕ → ℕ
-number_at c none = 0
-number_at c (some i) = c i
+number_at c None = 0
+number_at c (Some i) = c i
 
 lead_place : (ts : List Table) (p : ℕ → Bool) (w : List ℕ) → word_leads ts p w ≡ holds p (word_place ts w)
 unfolding word_leads name_leads word_place
 lead_place ts p w = by (table_name w)
   where
     by : (o : Option (List ℕ)) → holds (λ n. holds p (place_named ts n)) o ≡ holds p (o >>= place_named ts)
-    by none = refl
-    by (some n) = refl
+    by None = refl
+    by (Some n) = refl
 
 module _ (ts : List Table) (h : Endpoint) (d : ℕ) where
   name_matches : (n : List ℕ) → in_table ts (suc d) n h ≡ holds (matches_at ts h d) (place_named ts n)
@@ -141,8 +141,8 @@ module _ (ts : List Table) (h : Endpoint) (d : ℕ) where
   name_matches n = by (place_named ts n) refl
     where
       by : (o : Option ℕ) → place_named ts n ≡ o → any (word_matches ts h d) (patterns_of (table_named ts n)) ≡ holds (matches_at ts h d) o
-      by none e = rw (named_none ts n e)
-      by (some i) e = rw ((named_place ts n i no_table e).named, patterns_words (table_at ts i))
+      by None e = rw (named_none ts n e)
+      by (Some i) e = rw ((named_place ts n i no_table e).named, patterns_words (table_at ts i))
 
   name_tried : (n : List ℕ) → tried_in ts (suc d) n h ≡ number_at (tried_at ts h d) (place_named ts n)
   unfolding tried_in tried_at sum_until
@@ -150,18 +150,18 @@ module _ (ts : List Table) (h : Endpoint) (d : ℕ) where
     where
       by : (o : Option ℕ) → place_named ts n ≡ o
           → sum_until (word_matches ts h d) (word_count ts h d) (patterns_of (table_named ts n)) ≡ number_at (tried_at ts h d) o
-      by none e = rw (named_none ts n e)
-      by (some i) e = rw ((named_place ts n i no_table e).named, patterns_words (table_at ts i))
+      by None e = rw (named_none ts n e)
+      by (Some i) e = rw ((named_place ts n i no_table e).named, patterns_words (table_at ts i))
 
   word_matches_lem : (w : List ℕ) → word_matches ts h d w ≡ (is_own h w || holds (λ n. in_table ts d n h) (table_name w))
   unfolding pattern_with table_name host_matches
   word_matches_lem w = by (first_among "/" w) (given (is_table_name (drop 1 w)) (drop 1 w))
     where
       by : (b : Bool) (o : Option (List ℕ))
-          → holds (λ f. f h) (when b then ((when b then o else none) >>= λ n. some (in_table ts d n)) else host_pattern w)
-          ≡ (not b && matches_pattern (host_pattern w) h || holds (λ n. in_table ts d n h) (when b then o else none))
-      by true none = refl
-      by true (some n) = refl
+          → holds (λ f. f h) (when b then ((when b then o else None) >>= λ n. Some (in_table ts d n)) else host_pattern w)
+          ≡ (not b && matches_pattern (host_pattern w) h || holds (λ n. in_table ts d n h) (when b then o else None))
+      by true None = refl
+      by true (Some n) = refl
       by false o = sym (or-false (matches_pattern (host_pattern w) h))
 
 module _ (ts : List Table) (h : Endpoint) (d : ℕ) (w : List ℕ) where
@@ -170,29 +170,29 @@ module _ (ts : List Table) (h : Endpoint) (d : ℕ) (w : List ℕ) where
   word_at = word_matches_lem ts h (suc d) w ∙ ap (λ (b : Bool). is_own h w || b) (by (table_name w))
     where
       by : (o : Option (List ℕ)) → holds (λ n. in_table ts (suc d) n h) o ≡ holds (matches_at ts h d) (o >>= place_named ts)
-      by none = refl
-      by (some n) = name_matches ts h d n
+      by None = refl
+      by (Some n) = name_matches ts h d n
 
   count_at_lem : word_count ts h (suc d) w ≡ 1 + number_at (tried_at ts h d) (word_place ts w)
   unfolding word_place
   count_at_lem = by (table_name w)
     where
       by : (o : Option (List ℕ)) → looked_with (λ n. tried_in ts (suc d) n h) o ≡ 1 + number_at (tried_at ts h d) (o >>= place_named ts)
-      by none = refl
-      by (some n) = ap (λ (x : ℕ). 1 + x) (name_tried ts h d n)
+      by None = refl
+      by (Some n) = ap (λ (x : ℕ). 1 + x) (name_tried ts h d n)
 
 -- ## What notes tell of a place, of a name
 
 module _ (ts : List Table) (few : length ts ≤ 64) (h : Endpoint) (k d : ℕ) (notes : List ℕ) (level : HostLevel ts h k d notes) where
-  marked_right : (o : Option ℕ) → ((i : ℕ) → o ≡ some i → i < length ts) → holds (marked_at k notes) o ≡ holds (matches_at ts h d) o
+  marked_right : (o : Option ℕ) → ((i : ℕ) → o ≡ Some i → i < length ts) → holds (marked_at k notes) o ≡ holds (matches_at ts h d) o
   unfolding Marks
-  marked_right none within = refl
-  marked_right (some i) within = let l : i < length ts = within i refl in rw (lt-ltb i 64 (omega arith)) (level.level_bits i l)
+  marked_right None within = refl
+  marked_right (Some i) within = let l : i < length ts = within i refl in rw (lt-ltb i 64 (omega arith)) (level.level_bits i l)
 
-  counted_right : (o : Option ℕ) → ((i : ℕ) → o ≡ some i → i < length ts) → placed_count k notes o ≡ capped (number_at (tried_at ts h d) o)
+  counted_right : (o : Option ℕ) → ((i : ℕ) → o ≡ Some i → i < length ts) → placed_count k notes o ≡ capped (number_at (tried_at ts h d) o)
   unfolding capped
-  counted_right none within = refl
-  counted_right (some i) within = let l : i < length ts = within i refl in rw (lt-ltb i 64 (omega arith)) (level.level_tried i l)
+  counted_right None within = refl
+  counted_right (Some i) within = let l : i < length ts = within i refl in rw (lt-ltb i 64 (omega arith)) (level.level_tried i l)
 
   pub noted_match_lem : (n : List ℕ) → holds (marked_at k notes) (place_named ts n) ≡ in_table ts (suc d) n h
   noted_match_lem n = marked_right (place_named ts n) (place_below ts n) ∙ sym (name_matches ts h d n)
@@ -208,16 +208,16 @@ module _ (ts : List Table) (h : Endpoint) where
   word_alone w = word_matches_lem ts h 0 w ∙ by (is_own h w) (table_name w)
     where
       by : (b : Bool) (o : Option (List ℕ)) → (b || holds (λ (n : List ℕ). false) o) ≡ b
-      by b none = or-false b
-      by b (some n) = or-false b
+      by b None = or-false b
+      by b (Some n) = or-false b
 
   count_alone : (w : List ℕ) → word_count ts h 0 w ≡ 1
   unfolding tried_in
   count_alone w = by (table_name w)
     where
       by : (o : Option (List ℕ)) → looked_with (λ n. tried_in ts 0 n h) o ≡ 1
-      by none = refl
-      by (some n) = refl
+      by None = refl
+      by (Some n) = refl
 
   module _ (k : ℕ) (notes : List ℕ) (own : OwnOf ts h k notes) where
     own_level : HostLevel ts h k 0 notes
@@ -250,8 +250,8 @@ module _ (ts : List Table) (h : Endpoint) where
     word_stays w e = word_matches_lem ts h (suc d) w ∙ ap (λ (b : Bool). is_own h w || b) (by (table_name w) e) ∙ sym (word_matches_lem ts h d w)
       where
         by : (o : Option (List ℕ)) → holds (name_leads ts (past_at ts d)) o ≡ false → holds (λ n. in_table ts (suc d) n h) o ≡ holds (λ n. in_table ts d n h) o
-        by none f = refl
-        by (some n) f = (stays n f).stays_match
+        by None f = refl
+        by (Some n) f = (stays n f).stays_match
 
     count_stays : (w : List ℕ) → word_leads ts (past_at ts d) w ≡ false → word_count ts h (suc d) w ≡ word_count ts h d w
     unfolding word_leads
@@ -259,8 +259,8 @@ module _ (ts : List Table) (h : Endpoint) where
       where
         by : (o : Option (List ℕ)) → holds (name_leads ts (past_at ts d)) o ≡ false
             → looked_with (λ n. tried_in ts (suc d) n h) o ≡ looked_with (λ n. tried_in ts d n h) o
-        by none f = refl
-        by (some n) f = ap (λ (x : ℕ). 1 + x) (stays n f).stays_tried
+        by None f = refl
+        by (Some n) f = ap (λ (x : ℕ). 1 + x) (stays n f).stays_tried
 
     match_at_stays : (i : ℕ) → past_at ts (suc d) i ≡ false → matches_at ts h (suc d) i ≡ matches_at ts h d i
     unfolding past_at text_leads matches_at
@@ -278,17 +278,17 @@ module _ (ts : List Table) (h : Endpoint) where
   name_stays zero n e = by (place_named ts n) refl e
     where
       by : (o : Option ℕ) → place_named ts n ≡ o → holds (λ (i : ℕ). true) o ≡ false → Stays 0 n
-      by none q f = record { stays_match = name_matches ts h 0 n ∙ rw q; stays_tried = name_tried ts h 0 n ∙ rw q }
-      by (some i) q f = absurd (true≢false f)
+      by None q f = record { stays_match = name_matches ts h 0 n ∙ rw q; stays_tried = name_tried ts h 0 n ∙ rw q }
+      by (Some i) q f = absurd (true≢false f)
   name_stays (suc d) n e = by (place_named ts n) refl e (name_stays d)
     where
       by : (o : Option ℕ) → place_named ts n ≡ o → holds (past_at ts (suc d)) o ≡ false
           → ((m : List ℕ) → name_leads ts (past_at ts d) m ≡ false → Stays d m) → Stays (suc d) n
-      by none q f ih = record {
+      by None q f ih = record {
         stays_match = name_matches ts h (suc d) n ∙ rw q (sym (name_matches ts h d n ∙ rw q));
         stays_tried = name_tried ts h (suc d) n ∙ rw q (sym (name_tried ts h d n ∙ rw q));
       }
-      by (some i) q f ih = record {
+      by (Some i) q f ih = record {
         stays_match = name_matches ts h (suc d) n ∙ rw q (match_at_stays d ih i f ∙ sym (name_matches ts h d n ∙ rw q));
         stays_tried = name_tried ts h (suc d) n ∙ rw q (tried_at_stays d ih i f ∙ sym (name_tried ts h d n ∙ rw q));
       }
@@ -330,13 +330,13 @@ module _ (ts : List Table) (few : length ts ≤ 64) (names : List ℕ) (is-names
       ∙ any_or (is_own h) (word_leads ts (matches_at ts h d)) (words (table_at ts i).text))
 
 -- a word's place is that of a table
-word_below : (ts : List Table) (w : List ℕ) (i : ℕ) → word_place ts w ≡ some i → i < length ts
+word_below : (ts : List Table) (w : List ℕ) (i : ℕ) → word_place ts w ≡ Some i → i < length ts
 unfolding word_place
 word_below ts w i e = by (table_name w) e
   where
-    by : (o : Option (List ℕ)) → (o >>= place_named ts) ≡ some i → i < length ts
-    by none f = absurd (none_some f)
-    by (some n) f = place_below ts n i f
+    by : (o : Option (List ℕ)) → (o >>= place_named ts) ≡ Some i → i < length ts
+    by None f = absurd (none_some f)
+    by (Some n) f = place_below ts n i f
 
 -- what is tried in one table
 module _ (ts : List Table) (few : length ts ≤ 64) (h : Endpoint) (k d : ℕ) (first below : List ℕ) (own : OwnOf ts h k first) (level : HostLevel ts h k d below)
@@ -435,8 +435,8 @@ no_leads ts t = any_same (word_leads ts (λ i. false)) (λ w. false) word_leads_
     word_leads_none w = lead_place ts (λ i. false) w ∙ by (word_place ts w)
       where
         by : (o : Option ℕ) → holds (λ (i : ℕ). false) o ≡ false
-        by none = refl
-        by (some i) = refl
+        by None = refl
+        by (Some i) = refl
 
 module _ (ts : List Table) (notes : List ℕ) (e : get_or notes 2 0 ≡ 0) where
   host_stays : (h : Endpoint) (k d : ℕ) → ((i : ℕ) → i < length ts → past_at ts (suc d) i ≡ false) → HostLevel ts h k d notes → HostLevel ts h k (suc d) notes

@@ -1,12 +1,12 @@
 -- Laws of names that notes tell, shaped as the calls and tests of the code hand their facts over.
 --   noted_place_lem == notes that tell the names of all tables find the place that place_named finds
 -- Assumes nothing.
+use Rattle.std.specs.Prelude.{None, Option, Some}
 use Prim.Native.Nat.{ℕ, zero, suc, ◌+◌, ◌-◌, ◌*◌, ◌%◌, ◌≤◌, ◌<◌}
 use native.Mathlib.Numerals.{add-one}
 use native.Mathlib.Omega.{arith}
 use mathlib.Core.Bool.{Bool, true, false, ◌&&◌, ◌||◌, true≢false, and-false}
 use mathlib.Core.List.{List, [], ◌∷◌, map}
-use mathlib.Core.Option.{Option, none, some}
 use mathlib.Core.Path.{◌≡◌, refl, sym, ap, ap₂, ◌∙◌, subst}
 use borrow.Author.Tests.{eqb-true, eqb-false, ltb-true, ltb-false, leb-true, leb-false, eq-eqb, ne_eqb, le-leb, lt-leb}
 use lib.Dec.{eqb, ltb, leb}
@@ -17,8 +17,6 @@ use Rattle.text.specs.Text.{lower, equal, equal_fold}
 use Rattle.text.proofs.BasicLaws.{or_false as or_none}
 use Rattle.text.proofs.ScanLaws.{eq_of_equal, equal_fold_lengths, take_rest}
 use Rattle.tables.specs.declared.entry.EntrySpan.{EntrySpan}
-use Rattle.tables.specs.declared.entry.Place.{Place}
-use Rattle.tables.specs.declared.entry.Place.TheVariants as Place
 use Rattle.tables.specs.Table.{Table, table, read_table}
 use Rattle.tables.specs.Code.{table_count, tables_in, entries, entry_span, entry_table, after_entry, place_named, place_of, shifted}
 use Rattle.tables.proofs.EntryLaws.{table_count_none, Whole, read_whole, read_count, Entry, entry_of}
@@ -105,7 +103,7 @@ module _ (t n : List ℕ) (b : ℕ) where
 
 -- the name of a whole entry
 module _ (s : List ℕ) (span : EntrySpan) (is-span : span ≡ entry_span s) (whole : span.cut ≡ false) where
-  entry_read : read_table s ≡ some (entry_table s, after_entry s)
+  entry_read : read_table s ≡ Some (entry_table s, after_entry s)
   entry_read = (entry_of s span is-span whole).read
 
   -- what is at a byte is what the entry there tells
@@ -268,9 +266,9 @@ module _ (t : List ℕ) (n : ℕ) (rest : List ℕ) (i : ℕ) (notes : List ℕ)
 
 -- ## Names found
 
-shifted_more : (i : ℕ) (o : Option ℕ) → shifted (suc i) o ≡ shifted i (o >>= λ k. some (suc k))
-shifted_more i none = refl
-shifted_more i (some k) = let z : suc i + k ≡ i + suc k = omega arith in ap some z
+shifted_more : (i : ℕ) (o : Option ℕ) → shifted (suc i) o ≡ shifted i (o >>= λ k. Some (suc k))
+shifted_more i None = refl
+shifted_more i (Some k) = let z : suc i + k ≡ i + suc k = omega arith in ap Some z
 
 module _ (t notes n : List ℕ) (h : NamesNoted t notes) where
   hit_here : (i : ℕ) → i < length (tables_in t) → is_hit t notes n i ≡ equal_fold n (get_or (tables_in t) i no_table).name
@@ -287,7 +285,7 @@ module _ (t notes n : List ℕ) (h : NamesNoted t notes) where
   unfolding is_named_at
   hit_past i l m = rw (h.names_past i l m) (and-false (eqb (get_or notes (131 + i) 0) (hash_of n)))
 
-  none_past : (k i : ℕ) → k + i ≤ 64 → length (tables_in t) ≤ i → hashed_from t notes n k i ≡ none
+  none_past : (k i : ℕ) → k + i ≤ 64 → length (tables_in t) ≤ i → hashed_from t notes n k i ≡ None
   unfolding hashed_from
   none_past zero i s l = refl
   none_past (suc k) i s l = rw (hit_past i l (omega arith)) (none_past k (suc i) (omega arith) (omega arith))
@@ -311,16 +309,16 @@ module _ (t notes n : List ℕ) (h : NamesNoted t notes) where
           (told (equal_fold n (get_or (tables_in t) i no_table).name))
         where
           told : (b : Bool)
-              → (when b then some i else hashed_from t notes n k (suc i))
-              ≡ shifted i (when b then some 0 else (place_named (drop (suc i) (tables_in t)) n >>= λ m. some (suc m)))
-          told true = let z : i ≡ i + 0 = omega arith in ap some z
+              → (when b then Some i else hashed_from t notes n k (suc i))
+              ≡ shifted i (when b then Some 0 else (place_named (drop (suc i) (tables_in t)) n >>= λ m. Some (suc m)))
+          told true = let z : i ≡ i + 0 = omega arith in ap Some z
           told false = ih ∙ shifted_more i (place_named (drop (suc i) (tables_in t)) n)
 
   pub noted_place_lem : noted_place t notes n ≡ place_named (tables_in t) n
   unfolding noted_place
   noted_place_lem = rw (eq-eqb (length notes) 259 h.names_long) (found_from 64 0 refl ∙ sym (shifted_none (place_named (tables_in t) n)))
 
-  pub named_place_is : (p : Place) → p ≡ place_of (noted_place t notes n) → p ≡ place_of (place_named (tables_in t) n)
+  pub named_place_is : (p : Option ℕ) → p ≡ place_of (noted_place t notes n) → p ≡ place_of (place_named (tables_in t) n)
   named_place_is p is-p = is-p ∙ ap place_of noted_place_lem
 
 -- notes of another length tell no names
@@ -328,7 +326,7 @@ pub other_place : (t notes n : List ℕ) → (length notes ≡ 259 → ⊥) → 
 unfolding noted_place
 other_place t notes n d = rw (ne_eqb (length notes) 259 d)
 
-pub other_found : (t notes n : List ℕ) → (length notes ≡ 259 → ⊥) → (p : Place) → p ≡ place_of (place_named (tables_in t) n) → p ≡ place_of (noted_place t notes n)
+pub other_found : (t notes n : List ℕ) → (length notes ≡ 259 → ⊥) → (p : Option ℕ) → p ≡ place_of (place_named (tables_in t) n) → p ≡ place_of (noted_place t notes n)
 other_found t notes n d p is-p = is-p ∙ ap place_of (sym (other_place t notes n d))
 
 -- ## Places skipped
@@ -421,22 +419,22 @@ module _ (t notes n : List ℕ) (sought : ℕ) (is-sought : sought ≡ hash_of n
   }
 
 module _ (t notes n : List ℕ) (sought i : ℕ) (s : Seeking t notes n sought i) where
-  pub seeking_end : 64 ≤ i → Place.Missing ≡ place_of (noted_place t notes n)
+  pub seeking_end : 64 ≤ i → None ≡ place_of (noted_place t notes n)
   unfolding hashed_from
   seeking_end l =
       let z : 64 - i ≡ 0 = omega arith in
-      let e : noted_place t notes n ≡ none = s.seeking_left ∙ rw z in
+      let e : noted_place t notes n ≡ None = s.seeking_left ∙ rw z in
       sym (ap place_of e)
 
   module _ (more : i < 64) (x : Bool) (is_x : x ≡ is_named_at t n (get_or notes (195 + i) 0)) where
-    here_left : noted_place t notes n ≡ (when x then some i else hashed_from t notes n (64 - suc i) (suc i))
+    here_left : noted_place t notes n ≡ (when x then Some i else hashed_from t notes n (64 - suc i) (suc i))
     unfolding hashed_from
     here_left =
         let z : 64 - i ≡ suc (64 - suc i) = omega arith in
         s.seeking_left ∙ rw (z, eq-eqb (get_or notes (131 + i) 0) (hash_of n) (s.seeking_here more ∙ s.seeking_hash), ← is_x)
 
-    pub seeking_found : x ≡ true → Place.At i ≡ place_of (noted_place t notes n)
-    seeking_found e = let z : noted_place t notes n ≡ some i = here_left ∙ rw e in sym (ap place_of z)
+    pub seeking_found : x ≡ true → Some i ≡ place_of (noted_place t notes n)
+    seeking_found e = let z : noted_place t notes n ≡ Some i = here_left ∙ rw e in sym (ap place_of z)
 
     pub seeking_more : x ≡ false → (r : ℕ) → Skipped notes sought (i + 1) r → (r < 64 → get_or notes (131 + r) 0 ≡ sought) → Seeking t notes n sought r
     seeking_more e r k f = record {

@@ -1,10 +1,10 @@
 -- Laws of notes: what their words say of a place, and of a name.
 -- Assumes nothing.
+use Rattle.std.specs.Prelude.{None, Option, Some}
 use Prim.Native.Nat.{ℕ, ◌+◌, ◌-◌, ◌*◌, ◌/◌, ◌%◌, ◌≤◌, ◌<◌}
 use native.Mathlib.Omega.{arith}
 use mathlib.Core.Bool.{Bool, true, false, true≢false, and-false}
 use mathlib.Core.List.{List, [], ◌∷◌}
-use mathlib.Core.Option.{Option, none, some}
 use mathlib.Core.Path.{◌≡◌, refl, sym, ap, ap₂, ◌∙◌}
 use lib.Dec.{ltb}
 use lib.ListN.{length, take, drop, get_or, get_or-eq_default}
@@ -15,8 +15,6 @@ use Rattle.text.proofs.ScanLaws.{take_rest}
 use Rattle.tables.specs.Table.{Table, is_table_name, table_name}
 use Rattle.tables.specs.Code.{place_named, place_of, first_word, after_word}
 use Rattle.tables.proofs.WordLaws.{words_none, words_more}
-use Rattle.tables.specs.declared.entry.Place.{Place}
-use Rattle.tables.specs.declared.entry.Place.TheVariants as Place
 use Rattle.views.specs.declared.Naming.{Naming}
 use Rattle.views.specs.declared.Naming.TheVariants as Naming
 use Rattle.views.specs.declared.Reference.{Reference}
@@ -76,28 +74,28 @@ abbrev reference : Naming → Bool → ℕ → Reference
 reference n m t = record { naming = n; matches = m; tried = t }
 
 pub no_match : (k : ℕ) (o : Option ℕ) → holds (marked_at k []) o ≡ false
-no_match k none = refl
-no_match k (some i) = sym (marked_outside [] i k (omega arith))
+no_match k None = refl
+no_match k (Some i) = sym (marked_outside [] i k (omega arith))
 
 pub no_count : (k : ℕ) (o : Option ℕ) → placed_count k [] o ≡ 0
-no_count k none = refl
-no_count k (some i) = let l : length {A = ℕ} [] ≤ 3 + 64 * k + i = omega arith in by (ltb i 64) (get_or [] (3 + 64 * k + i) 0) (get_or-eq_default [] 0 l)
+no_count k None = refl
+no_count k (Some i) = let l : length {A = ℕ} [] ≤ 3 + 64 * k + i = omega arith in by (ltb i 64) (get_or [] (3 + 64 * k + i) 0) (get_or-eq_default [] 0 l)
   where
     by : (b : Bool) (x : ℕ) → x ≡ 0 → (when b then x else 0) ≡ 0
     by true x e = e
     by false x e = refl
 
-pub place_none : (o : Option ℕ) → Place.Missing ≡ place_of o → o ≡ none
-place_none none e = refl
-place_none (some i) e = let z : ◌≡◌ {A = ℕ} 0 1 = cc in absurd (omega arith)
+pub place_none : (o : Option ℕ) → None ≡ place_of o → o ≡ None
+place_none None e = refl
+place_none (Some i) e = let z : ◌≡◌ {A = ℕ} 0 1 = cc in absurd (omega arith)
 
-abbrev place_in : Place → ℕ
-place_in Place.Missing = 0
-place_in (Place.At i) = i
+abbrev place_in : Option ℕ → ℕ
+place_in None = 0
+place_in (Some i) = i
 
-pub place_some : (i : ℕ) (o : Option ℕ) → Place.At i ≡ place_of o → o ≡ some i
-place_some i none e = let z : ◌≡◌ {A = ℕ} 0 1 = cc in absurd (omega arith)
-place_some i (some k) e = ap some (sym (ap place_in e))
+pub place_some : (i : ℕ) (o : Option ℕ) → Some i ≡ place_of o → o ≡ Some i
+place_some i None e = let z : ◌≡◌ {A = ℕ} 0 1 = cc in absurd (omega arith)
+place_some i (Some k) e = ap Some (sym (ap place_in e))
 
 pub full_notes : (l : List ℕ) → (length l ≡ 0 → ⊥) → is_empty l ≡ false
 full_notes [] h = absurd (h refl)
@@ -121,33 +119,33 @@ module _ (k : ℕ) (t : List ℕ) (notes n : List ℕ) where
     unfolding reference_of naming_of noted_match noted_tried
     judged o e = rw (full_notes notes full, e)
 
-    pub look_missing : (p : Place) → p ≡ place_of (noted_place t notes n) → p ≡ Place.Missing → reference Naming.Missing false 0 ≡ reference_of k t notes n
-    look_missing p is-p e = sym (judged none (place_none (noted_place t notes n) (sym e ∙ is-p)))
+    pub look_missing : (p : Option ℕ) → p ≡ place_of (noted_place t notes n) → p ≡ None → reference Naming.Missing false 0 ≡ reference_of k t notes n
+    look_missing p is-p e = sym (judged None (place_none (noted_place t notes n) (sym e ∙ is-p)))
 
-    pub look_found : (p : Place) → p ≡ place_of (noted_place t notes n) → (i : ℕ) → p ≡ Place.At i → (x : Naming) → x ≡ naming_at notes i
+    pub look_found : (p : Option ℕ) → p ≡ place_of (noted_place t notes n) → (i : ℕ) → p ≡ Some i → (x : Naming) → x ≡ naming_at notes i
         → (m : Bool) → m ≡ marked_at k notes i → (c : ℕ) → c ≡ counted_at k notes i → reference x m c ≡ reference_of k t notes n
     look_found p is-p i e x is_x m is_m c is_c =
         ap₂ (λ (y : Naming) (b : Bool). reference y b c) is_x is_m ∙ ap (reference (naming_at notes i) (marked_at k notes i)) is_c
-        ∙ sym (judged (some i) (place_some i (noted_place t notes n) (sym e ∙ is-p)))
+        ∙ sym (judged (Some i) (place_some i (noted_place t notes n) (sym e ∙ is-p)))
 
 -- ## Of a text
 
 -- a pattern that names a table holds its name after the slash
-pub named_word : (w : List ℕ) (x : Bool) → x ≡ is_some (table_name w) → x ≡ true → table_name w ≡ some (take (length w - 1) (drop 1 w))
+pub named_word : (w : List ℕ) (x : Bool) → x ≡ is_some (table_name w) → x ≡ true → table_name w ≡ Some (take (length w - 1) (drop 1 w))
 unfolding table_name
 named_word w x is_x e = rw (take_rest w 1) (by (first_among "/" w) (is_table_name (drop 1 w)) (sym is_x ∙ e))
   where
-    by : (a b : Bool) → is_some (when a then given b (drop 1 w) else none) ≡ true → (when a then given b (drop 1 w) else none) ≡ some (drop 1 w)
+    by : (a b : Bool) → is_some (when a then given b (drop 1 w) else None) ≡ true → (when a then given b (drop 1 w) else None) ≡ Some (drop 1 w)
     by true true e = refl
     by true false e = absurd (true≢false (sym e))
     by false b e = absurd (true≢false (sym e))
 
-pub unnamed_word : (w : List ℕ) (x : Bool) → x ≡ is_some (table_name w) → x ≡ false → table_name w ≡ none
+pub unnamed_word : (w : List ℕ) (x : Bool) → x ≡ is_some (table_name w) → x ≡ false → table_name w ≡ None
 unnamed_word w x is_x e = by (table_name w) (sym is_x ∙ e)
   where
-    by : (o : Option (List ℕ)) → is_some o ≡ false → o ≡ none
-    by none e = refl
-    by (some n) e = absurd (true≢false e)
+    by : (o : Option (List ℕ)) → is_some o ≡ false → o ≡ None
+    by None e = refl
+    by (Some n) e = absurd (true≢false e)
 
 pub named_full : (w : List ℕ) (x : Bool) → x ≡ is_some (table_name w) → x ≡ true → 1 ≤ length w
 unfolding table_name
@@ -155,12 +153,12 @@ named_full [] x is_x e = absurd (true≢false (sym e ∙ is_x))
 named_full (b ∷ w) x is_x e = omega arith
 
 module _ (ts : List Table) (p : ℕ → Bool) where
-  module _ (n : List ℕ) (q : Place) (is-q : q ≡ place_of (place_named ts n)) where
-    pub leads_missing : q ≡ Place.Missing → false ≡ name_leads ts p n
+  module _ (n : List ℕ) (q : Option ℕ) (is-q : q ≡ place_of (place_named ts n)) where
+    pub leads_missing : q ≡ None → false ≡ name_leads ts p n
     unfolding name_leads
     leads_missing f = rw (place_none (place_named ts n) (sym f ∙ is-q))
 
-    pub leads_found : (i : ℕ) → q ≡ Place.At i → (r : Bool) → r ≡ p i → r ≡ name_leads ts p n
+    pub leads_found : (i : ℕ) → q ≡ Some i → (r : Bool) → r ≡ p i → r ≡ name_leads ts p n
     unfolding name_leads
     leads_found i f r is-r = is-r ∙ rw (place_some i (place_named ts n) (sym f ∙ is-q))
 

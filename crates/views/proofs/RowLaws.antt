@@ -1,10 +1,10 @@
 -- Laws of the rows of tables: what a pattern, a text and all texts name, and what they match.
 -- Assumes nothing.
+use Rattle.std.specs.Prelude.{None, Option, Some}
 use Prim.Native.Nat.{ℕ, zero, suc, ◌+◌, ◌-◌, ◌*◌, ◌^◌, ◌≤◌, ◌<◌}
 use native.Mathlib.Omega.{arith}
 use mathlib.Core.Bool.{Bool, true, false, not, ◌&&◌, ◌||◌, or-false, or_assoc, true≢false}
 use mathlib.Core.List.{List, [], ◌∷◌}
-use mathlib.Core.Option.{Option, none, some}
 use mathlib.Core.Path.{◌≡◌, refl, sym, ap, subst, ◌∙◌}
 use lib.Bits.{bit_or}
 use lib.Dec.{eqb, ltb}
@@ -21,8 +21,6 @@ use Rattle.tables.specs.Table.{Table, table_name}
 use Rattle.tables.specs.Code.{table_count, tables_in, entry_span, entry_table, after_entry, place_named, place_of, words, first_word, after_word}
 use Rattle.tables.specs.Code.{text_checked, words_checked, CleanWords, CleanTexts}
 use Rattle.tables.specs.declared.entry.EntrySpan.{EntrySpan}
-use Rattle.tables.specs.declared.entry.Place.{Place}
-use Rattle.tables.specs.declared.entry.Place.TheVariants as Place
 use Rattle.tables.proofs.EntryLaws.{Reached, reached_start, reached_cut, reached_end, reached_more, count_all}
 use Rattle.tables.proofs.WordLaws.{words_none, words_more, rest_shorter}
 use Rattle.tables.proofs.CheckLaws.{clean_none, clean_more, clean_plain, clean_named}
@@ -36,12 +34,12 @@ use Rattle.views.proofs.DeepLaws.{table_here, place_here, place_below}
 
 -- ## A pattern
 
-module _ (ts : List Table) (n : List ℕ) (q : Place) (is-q : q ≡ place_of (place_named ts n)) where
-  pub bit_missing : q ≡ Place.Missing → Marks 0 64 (is_named ts n)
+module _ (ts : List Table) (n : List ℕ) (q : Option ℕ) (is-q : q ≡ place_of (place_named ts n)) where
+  pub bit_missing : q ≡ None → Marks 0 64 (is_named ts n)
   unfolding Marks is_named
   bit_missing f j h = bit_none j ∙ rw (place_none (place_named ts n) (sym f ∙ is-q))
 
-  pub bit_placed : (i : ℕ) → q ≡ Place.At i → (b : ℕ) → Marks b 64 (λ k. eqb k i) → Marks b 64 (is_named ts n)
+  pub bit_placed : (i : ℕ) → q ≡ Some i → (b : ℕ) → Marks b 64 (λ k. eqb k i) → Marks b 64 (is_named ts n)
   unfolding Marks is_named
   bit_placed i f b is_b j h = is_b j h ∙ rw (place_some i (place_named ts n) (sym f ∙ is-q))
 
@@ -96,13 +94,13 @@ clean_bit ts w b small is_b e = by (table_name w) refl
         sym (any_below_same (λ j. bit_at j b) p 64 (λ j l. is_b j l ∙ same j l))
         ∙ not_back (any_below (λ j. bit_at j b) 64) (ap not (sym (zero_bits 64 b small)) ∙ e)
 
-    at : (n : List ℕ) → table_name w ≡ some n → (o : Option ℕ) → place_named ts n ≡ o → words_checked ts (w ∷ []) ≡ text_checked false false
-    at n f none g = absurd (true≢false (sym (some_named (λ j. false) (λ j l. rw (f, g))) ∙ none_below 64))
-    at n f (some i) g = clean_named ts w n i f g
+    at : (n : List ℕ) → table_name w ≡ Some n → (o : Option ℕ) → place_named ts n ≡ o → words_checked ts (w ∷ []) ≡ text_checked false false
+    at n f None g = absurd (true≢false (sym (some_named (λ j. false) (λ j l. rw (f, g))) ∙ none_below 64))
+    at n f (Some i) g = clean_named ts w n i f g
 
     by : (o : Option (List ℕ)) → table_name w ≡ o → words_checked ts (w ∷ []) ≡ text_checked false false
-    by none f = absurd (true≢false (sym (some_named (λ j. false) (λ j l. rw f)) ∙ none_below 64))
-    by (some n) f = at n f (place_named ts n) refl
+    by None f = absurd (true≢false (sym (some_named (λ j. false) (λ j l. rw f)) ∙ none_below 64))
+    by (Some n) f = at n f (place_named ts n) refl
 
 module _ (ts : List Table) (client server : Endpoint) (w : List ℕ) (x : Bool) (is_x : x ≡ first_among "/" w) where
   pub row_slash : x ≡ true → (b : ℕ) → b < 2 ^ 64 → Marks b 64 (word_names ts w)
@@ -118,7 +116,7 @@ module _ (ts : List Table) (client server : Endpoint) (w : List ℕ) (x : Bool) 
   }
 
   module _ (e : x ≡ false) where
-    plain_name : table_name w ≡ none
+    plain_name : table_name w ≡ None
     unfolding table_name
     plain_name = rw (← is_x, e)
 
@@ -491,16 +489,16 @@ module _ (ts : List Table) (j : ℕ) (h : length ts ≤ j) where
   none_named n = by (place_named ts n) refl
     where
       by : (o : Option ℕ) → place_named ts n ≡ o → holds (eqb j) o ≡ false
-      by none e = refl
-      by (some i) e = ne_eqb j i (λ z. let l : i < length ts = place_below ts n i e in omega arith)
+      by None e = refl
+      by (Some i) e = ne_eqb j i (λ z. let l : i < length ts = place_below ts n i e in omega arith)
 
   none_by_word : (w : List ℕ) → word_names ts w j ≡ false
   unfolding word_names
   none_by_word w = by (table_name w)
     where
       by : (o : Option (List ℕ)) → holds (λ n. is_named ts n j) o ≡ false
-      by none = refl
-      by (some n) = none_named n
+      by None = refl
+      by (Some n) = none_named n
 
   pub none_by_words : (ws : List (List ℕ)) → words_name ts ws j ≡ false
   unfolding words_name any

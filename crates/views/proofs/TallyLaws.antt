@@ -2,11 +2,11 @@
 --   Tallying, Both == the loop over the words, for one host and for both
 --   Raising        == the loop over the tables
 -- Assumes nothing.
+use Rattle.std.specs.Prelude.{None, Option, Some}
 use Prim.Native.Nat.{ℕ, zero, suc, ◌+◌, ◌-◌, ◌*◌, ◌^◌, ◌≤◌, ◌<◌}
 use native.Mathlib.Omega.{arith}
 use mathlib.Core.Bool.{Bool, true, false, ◌&&◌}
 use mathlib.Core.List.{List, [], ◌∷◌}
-use mathlib.Core.Option.{Option, none, some}
 use mathlib.Core.Path.{◌≡◌, refl, sym, ap, ap₂, subst, ◌∙◌}
 use lib.Dec.{eqb}
 use lib.ListN.{length, take, drop, get_or, set, replicate, length-set}
@@ -20,8 +20,6 @@ use Rattle.tables.specs.Code.{table_count, tables_in, entry_span, entry_table, a
 use Rattle.tables.specs.declared.entry.EntrySpan.{EntrySpan}
 use Rattle.tables.proofs.EntryLaws.{Reached, reached_start, reached_cut, reached_end, reached_more, count_all}
 use Rattle.tables.proofs.WordLaws.{words_none, words_more}
-use Rattle.tables.specs.declared.entry.Place.{Place}
-use Rattle.tables.specs.declared.entry.Place.TheVariants as Place
 use Rattle.views.specs.declared.level.Tally.{Tally}
 use Rattle.views.specs.declared.level.Counts.{Counts}
 use Rattle.views.specs.View.{bit_at, table_at, marked_at, counted_at, placed_count}
@@ -33,11 +31,11 @@ use Rattle.views.proofs.CountLaws.{capped_lt, capped_small, capped_then, within_
 -- ## The place that a word names
 
 module _ (ts : List Table) (w : List ℕ) (x : Bool) (is_x : x ≡ is_some (table_name w)) where
-  pub placed_none : x ≡ false → Place.Missing ≡ place_of (word_place ts w)
+  pub placed_none : x ≡ false → None ≡ place_of (word_place ts w)
   unfolding word_place
   placed_none e = sym (rw (unnamed_word w x is_x e))
 
-  pub placed_named : x ≡ true → (p : Place) → p ≡ place_of (place_named ts (take (length w - 1) (drop 1 w))) → p ≡ place_of (word_place ts w)
+  pub placed_named : x ≡ true → (p : Option ℕ) → p ≡ place_of (place_named ts (take (length w - 1) (drop 1 w))) → p ≡ place_of (word_place ts w)
   unfolding word_place
   placed_named e p is-p = is-p ∙ sym (rw (named_word w x is_x e))
 
@@ -63,14 +61,14 @@ module _ (m : Bool) (c : ℕ) (t : Tally) where
     unfolding tallied
     tally_miss e = ap (tally (t.left - 1)) sum_is ∙ sym (rw (ne_eqb t.left 0 more, e))
 
-module _ (k : ℕ) (notes : List ℕ) (p : Place) (t r : Tally) where
-  pub tally_nowhere : p ≡ Place.Missing → r ≡ tallied false 0 t → r ≡ tallied (marked_by k notes p) (counted_by k notes p) t
-  tally_nowhere e is-r = is-r ∙ sym (ap (λ (q : Place). tallied (marked_by k notes q) (counted_by k notes q) t) e)
+module _ (k : ℕ) (notes : List ℕ) (p : Option ℕ) (t r : Tally) where
+  pub tally_nowhere : p ≡ None → r ≡ tallied false 0 t → r ≡ tallied (marked_by k notes p) (counted_by k notes p) t
+  tally_nowhere e is-r = is-r ∙ sym (ap (λ (q : Option ℕ). tallied (marked_by k notes q) (counted_by k notes q) t) e)
 
-  pub tally_there : (i : ℕ) → p ≡ Place.At i → (x : Bool) → x ≡ marked_at k notes i → (y : ℕ) → y ≡ counted_at k notes i → r ≡ tallied x y t
+  pub tally_there : (i : ℕ) → p ≡ Some i → (x : Bool) → x ≡ marked_at k notes i → (y : ℕ) → y ≡ counted_at k notes i → r ≡ tallied x y t
       → r ≡ tallied (marked_by k notes p) (counted_by k notes p) t
   tally_there i e x is_x y is_y is-r =
-      is-r ∙ ap₂ (λ (b : Bool) (n : ℕ). tallied b n t) is_x is_y ∙ sym (ap (λ (q : Place). tallied (marked_by k notes q) (counted_by k notes q) t) e)
+      is-r ∙ ap₂ (λ (b : Bool) (n : ℕ). tallied b n t) is_x is_y ∙ sym (ap (λ (q : Option ℕ). tallied (marked_by k notes q) (counted_by k notes q) t) e)
 
 -- ## The loop over the words
 
@@ -106,15 +104,15 @@ module _ (k : ℕ) (ts : List Table) (notes : List ℕ) (n : ℕ) (text : List �
   unfolding sum_within
   tallying_done e = tallying_all (rw e)
 
-  module _ (w next : List ℕ) (more : words rest ≡ w ∷ words next) (p : Place) (is-p : p ≡ place_of (word_place ts w)) (r : Tally)
+  module _ (w next : List ℕ) (more : words rest ≡ w ∷ words next) (p : Option ℕ) (is-p : p ≡ place_of (word_place ts w)) (r : Tally)
       (is-r : r ≡ tallied (marked_by k notes p) (counted_by k notes p) t) where
     told : r ≡ tallied (ends k ts notes w) (placed_count k notes (word_place ts w)) t
-    told = is-r ∙ ap (λ (q : Place). tallied (marked_by k notes q) (counted_by k notes q) t) is-p ∙ by (word_place ts w)
+    told = is-r ∙ ap (λ (q : Option ℕ). tallied (marked_by k notes q) (counted_by k notes q) t) is-p ∙ by (word_place ts w)
       where
         by : (o : Option ℕ)
             → tallied (marked_by k notes (place_of o)) (counted_by k notes (place_of o)) t ≡ tallied (holds (marked_at k notes) o) (placed_count k notes o) t
-        by none = refl
-        by (some i) = refl
+        by None = refl
+        by (Some i) = refl
 
     tallying_more : Tallying k ts notes n text r next
     unfolding tallied sum_within
@@ -173,7 +171,7 @@ module _ (ts : List Table) (notes : List ℕ) (client server : ℕ) (text : List
       ap₂ counts (tallying_done 0 ts notes client text c rest so_far.both_client (eqb-true c.left 0 b.0))
       (tallying_done 1 ts notes server text s rest so_far.both_server (eqb-true s.left 0 b.1))
 
-  pub both_more : (length w ≡ 0 → ⊥) → (p : Place) → p ≡ place_of (word_place ts w) → (d : Tally) → d ≡ tallied (marked_by 0 notes p) (counted_by 0 notes p) c
+  pub both_more : (length w ≡ 0 → ⊥) → (p : Option ℕ) → p ≡ place_of (word_place ts w) → (d : Tally) → d ≡ tallied (marked_by 0 notes p) (counted_by 0 notes p) c
       → (r : Tally) → r ≡ tallied (marked_by 1 notes p) (counted_by 1 notes p) s → (next : List ℕ) → next ≡ after_word rest
       → Both ts notes client server text d r next
   both_more full p is-p d is_d r is-r next is-next =

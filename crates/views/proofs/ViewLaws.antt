@@ -6,11 +6,11 @@
 --   naming_right               == what such notes say of a name
 --   names_only; unjudged, unmatched == what notes of two words say; what no notes say
 -- Assumes nothing.
+use Rattle.std.specs.Prelude.{None, Option, Some}
 use Prim.Native.Nat.{ℕ, zero, suc, ◌+◌, ◌/◌, ◌%◌, ◌≤◌, ◌<◌}
 use native.Mathlib.Omega.{arith}
 use mathlib.Core.Bool.{Bool, true, false, not, true≢false}
 use mathlib.Core.List.{List, [], ◌∷◌}
-use mathlib.Core.Option.{Option, none, some}
 use mathlib.Core.Path.{◌≡◌, refl, sym, ap, ◌∙◌}
 use lib.ListN.{length}
 use Rattle.text.specs.Basics.{when◌then◌else◌, ◌or_else◌, given, is_some, holds, any}
@@ -70,46 +70,46 @@ view_notes t client server notes is_v i l =
 unfoldable pub Closed : List Table → Type 0
 Closed ts = (i : ℕ) → i < length ts → any (λ w. holds (is_missing ts) (table_name w)) (patterns (table_at ts i)) ≡ false
 
-first_none : (p : List Table → Table → Bool) (n : ℕ) (before ts : List Table) → first_table p n before ts ≡ none → (i : ℕ) → i < length ts
+first_none : (p : List Table → Table → Bool) (n : ℕ) (before ts : List Table) → first_table p n before ts ≡ None → (i : ℕ) → i < length ts
     → (b : List Table) × (p b (table_at ts i) ≡ false)
 unfolding first_table
 first_none p n before [] e i h = absurd (omega arith)
 first_none p n before (t ∷ ts) e i h = by (p before t) refl e (first_none p (n + 1) (t ∷ before) ts) i h
   where
-    by : (b : Bool) → p before t ≡ b → (given b n or_else first_table p (n + 1) (t ∷ before) ts) ≡ none
-        → (first_table p (n + 1) (t ∷ before) ts ≡ none → (k : ℕ) → k < length ts → (c : List Table) × (p c (table_at ts k) ≡ false))
+    by : (b : Bool) → p before t ≡ b → (given b n or_else first_table p (n + 1) (t ∷ before) ts) ≡ None
+        → (first_table p (n + 1) (t ∷ before) ts ≡ None → (k : ℕ) → k < length ts → (c : List Table) × (p c (table_at ts k) ≡ false))
         → (k : ℕ) → k < suc (length ts) → (c : List Table) × (p c (table_at (t ∷ ts) k) ≡ false)
     by true f g ih k l = absurd (none_some (sym g))
     by false f g ih zero l = (before, f)
     by false f g ih (suc k) l = ih g k (omega arith)
 
 -- "15 for a table name missing": where that is not told of the tables, none names a missing one
-pub closed : (ts : List Table) → table_name_fault ts ≡ none → Closed ts
+pub closed : (ts : List Table) → table_name_fault ts ≡ None → Closed ts
 unfolding Closed tables_checked is_misnamed
 closed ts e i h =
-    let f : first_table (is_misnamed ts) 1 [] ts ≡ none = first_numbered (is_misnamed ts) ts ∙ ap numbered (names_zero ts e) in
+    let f : first_table (is_misnamed ts) 1 [] ts ≡ None = first_numbered (is_misnamed ts) ts ∙ ap numbered (names_zero ts e) in
     let q : (b : List Table) × (is_misnamed ts b (table_at ts i) ≡ false) = first_none (is_misnamed ts) 1 [] ts f i h in
     (or_none (not (is_missing q.0 (table_at ts i).name)) (any (λ w. holds (is_missing ts) (table_name w)) (patterns (table_at ts i))) q.1).1
 
 module _ (ts : List Table) (sound : Closed ts) where
   -- a name that is not missing has a place
-  placed : (n : List ℕ) → is_missing ts n ≡ false → (i : ℕ) × (place_named ts n ≡ some i)
+  placed : (n : List ℕ) → is_missing ts n ≡ false → (i : ℕ) × (place_named ts n ≡ Some i)
   placed n e = by (place_named ts n) (sym (missing_place ts n) ∙ e)
     where
-      by : (o : Option ℕ) → not (is_some o) ≡ false → (i : ℕ) × (o ≡ some i)
-      by none f = absurd (true≢false f)
-      by (some i) f = (i, refl)
+      by : (o : Option ℕ) → not (is_some o) ≡ false → (i : ℕ) × (o ≡ Some i)
+      by None f = absurd (true≢false f)
+      by (Some i) f = (i, refl)
 
-  word_past : (d : ℕ) → ((n : List ℕ) (i : ℕ) → place_named ts n ≡ some i → past_at ts d i ≡ leads_past ts d n)
+  word_past : (d : ℕ) → ((n : List ℕ) (i : ℕ) → place_named ts n ≡ Some i → past_at ts d i ≡ leads_past ts d n)
       → (w : List ℕ) → holds (is_missing ts) (table_name w) ≡ false → word_leads ts (past_at ts d) w ≡ holds (leads_past ts d) (table_name w)
   unfolding word_leads name_leads
   word_past d ih w f = by (table_name w) f
     where
       by : (o : Option (List ℕ)) → holds (is_missing ts) o ≡ false → holds (name_leads ts (past_at ts d)) o ≡ holds (leads_past ts d) o
-      by none f = refl
-      by (some n) f = let p : (i : ℕ) × (place_named ts n ≡ some i) = placed n f in rw p.1 (ih n p.0 p.1)
+      by None f = refl
+      by (Some n) f = let p : (i : ℕ) × (place_named ts n ≡ Some i) = placed n f in rw p.1 (ih n p.0 p.1)
 
-  past_right : (d : ℕ) (n : List ℕ) (i : ℕ) → place_named ts n ≡ some i → past_at ts d i ≡ leads_past ts d n
+  past_right : (d : ℕ) (n : List ℕ) (i : ℕ) → place_named ts n ≡ Some i → past_at ts d i ≡ leads_past ts d n
   unfolding Closed past_at leads_past text_leads
   past_right zero n i e = refl
   past_right (suc d) n i e =
@@ -118,7 +118,7 @@ module _ (ts : List Table) (sound : Closed ts) where
       (word_past d (past_right d)) (patterns (table_at ts i)) (sound i (place_below ts n i e)))
 
   module _ (notes : List ℕ) (deep : Deep ts 4 notes) where
-    pub deep_right : (n : List ℕ) (i : ℕ) → place_named ts n ≡ some i → is_deep notes i ≡ leads_past ts 4 n
+    pub deep_right : (n : List ℕ) (i : ℕ) → place_named ts n ≡ Some i → is_deep notes i ≡ leads_past ts 4 n
     unfolding Deep
     deep_right n i e = deep i (place_below ts n i e) ∙ past_right 4 n i e
 
@@ -130,8 +130,8 @@ module _ (ts : List Table) (sound : Closed ts) where
       where
         by : (o : Option ℕ) → place_named ts n ≡ o
             → placed_naming notes o ≡ (when not (is_some o) then Naming.Missing else when leads_past ts 4 n then Naming.Deep else Naming.Sound)
-        by none e = refl
-        by (some i) e = ap (λ (b : Bool). when b then Naming.Deep else Naming.Sound) (deep_right n i e)
+        by None e = refl
+        by (Some i) e = ap (λ (b : Bool). when b then Naming.Deep else Naming.Sound) (deep_right n i e)
 
 -- ## Where depth is not judged, and where nothing is
 
@@ -142,8 +142,8 @@ module _ (t : List ℕ) (n : List ℕ) where
   names_only = rw (missing_place (tables_in t) n, other_place t (0 ∷ 0 ∷ []) n (λ e. omega arith)) (by (place_named (tables_in t) n))
     where
       by : (o : Option ℕ) → placed_naming (0 ∷ 0 ∷ []) o ≡ (when not (is_some o) then Naming.Missing else Naming.Sound)
-      by none = refl
-      by (some i) = ap (λ (b : Bool). when b then Naming.Deep else Naming.Sound) (sym (deep_outside (0 ∷ 0 ∷ []) i (i / 64 + 2) refl (omega arith)))
+      by None = refl
+      by (Some i) = ap (λ (b : Bool). when b then Naming.Deep else Naming.Sound) (sym (deep_outside (0 ∷ 0 ∷ []) i (i / 64 + 2) refl (omega arith)))
 
   -- no notes say that a table may be named and matches nothing
   pub unjudged : naming_of t [] n ≡ Naming.Sound

@@ -4,15 +4,12 @@
 --   Level ts c s d notes        == notes of all tables for a client and a server
 --   sum_within n p f ws          == the sum of f along the first n words, up to the first of which p holds
 -- Assumes nothing: these are definitions.
-use Rattle.std.specs.Prelude.{ℕ, zero, suc, ◌+◌, ◌-◌, ◌*◌, ◌<◌, Bool, true, false, List, [], ◌∷◌, ◌≡◌, length, get_or, eqb}
-use Rattle.std.proofs.Math.Option.{Option}
+use Rattle.std.specs.Prelude.{ℕ, zero, suc, ◌+◌, ◌-◌, ◌*◌, ◌<◌, Bool, true, false, List, [], ◌∷◌, ◌≡◌, length, get_or, eqb, None, Option, Some}
 use Rattle.text.specs.Basics.{when◌then◌else◌, ◌>>=◌, holds, any, sum_until}
 use Rattle.patterns.specs.Host.{Endpoint}
 use Rattle.tables.specs.Table.{Table, table_name, pattern_with, in_table}
 use Rattle.tables.specs.Tried.{looked_with, tried_in, capped}
 use Rattle.tables.specs.Code.{tables_in, words, place_named, CleanTexts}
-use Rattle.tables.specs.declared.entry.Place.{Place}
-use Rattle.tables.specs.declared.entry.Place.TheVariants as Place
 use Rattle.views.specs.Names.{NamesNoted}
 use Rattle.views.specs.declared.Viewing.{Viewing}
 use Rattle.views.specs.declared.level.Tally.{Tally}
@@ -82,13 +79,13 @@ sum_within (suc k) p f [] = 0
 sum_within (suc k) p f (w ∷ ws) = f w + (when p w then 0 else sum_within k p f ws)
 
 -- what notes say of the table at a place
-abbrev pub marked_by : ℕ → List ℕ → Place → Bool
-marked_by k notes Place.Missing = false
-marked_by k notes (Place.At i) = marked_at k notes i
+abbrev pub marked_by : ℕ → List ℕ → Option ℕ → Bool
+marked_by k notes None = false
+marked_by k notes (Some i) = marked_at k notes i
 
-abbrev pub counted_by : ℕ → List ℕ → Place → ℕ
-counted_by k notes Place.Missing = 0
-counted_by k notes (Place.At i) = counted_at k notes i
+abbrev pub counted_by : ℕ → List ℕ → Option ℕ → ℕ
+counted_by k notes None = 0
+counted_by k notes (Some i) = counted_at k notes i
 
 -- what is tried of the first n words of a text, where notes tell of the tables that it names
 unfoldable pub text_tried : ℕ → List Table → List ℕ → ℕ → List (List ℕ) → ℕ

@@ -4,8 +4,7 @@
 --   noted_place t notes n  == the place of the first table of that name, by the notes where they tell names
 -- In notes of 259 words each table has, from the word 131 on, the number of its name, and from the word 195 on the byte that it stands at.
 -- Assumes nothing: these are definitions.
-use Rattle.std.specs.Prelude.{ℕ, zero, suc, ◌+◌, ◌*◌, ◌%◌, ◌≤◌, ◌<◌, Bool, true, false, ◌&&◌, ◌||◌, List, [], ◌∷◌, ◌≡◌, length, take, drop, get_or, eqb, leb}
-use Rattle.std.proofs.Math.Option.{Option, none, some}
+use Rattle.std.specs.Prelude.{ℕ, zero, suc, ◌+◌, ◌*◌, ◌%◌, ◌≤◌, ◌<◌, Bool, true, false, ◌&&◌, ◌||◌, List, [], ◌∷◌, ◌≡◌, length, take, drop, get_or, eqb, leb, None, Option, Some}
 use Rattle.text.specs.Basics.{when◌then◌else◌}
 use Rattle.text.specs.Text.{lower, equal_fold}
 use Rattle.tables.specs.Table.{Table, table}
@@ -31,8 +30,8 @@ is_hit t notes n i = eqb (get_or notes (131 + i) 0) (hash_of n) && is_named_at t
 
 -- the first such place of k from i on
 unfoldable pub hashed_from : List ℕ → List ℕ → List ℕ → ℕ → ℕ → Option ℕ
-hashed_from t notes n zero i = none
-hashed_from t notes n (suc k) i = when is_hit t notes n i then some i else hashed_from t notes n k (suc i)
+hashed_from t notes n zero i = None
+hashed_from t notes n (suc k) i = when is_hit t notes n i then Some i else hashed_from t notes n k (suc i)
 
 unfoldable pub noted_place : List ℕ → List ℕ → List ℕ → Option ℕ
 noted_place t notes n = when eqb (length notes) 259 then hashed_from t notes n 64 0 else place_named (tables_in t) n

@@ -8,8 +8,7 @@
 -- stand the counts of what is tried, 64 for the client, 64 for the server, and what tells their names. Where there are no notes at all, names are
 -- not judged and nothing matches.
 -- Assumes nothing: these are definitions.
-use Rattle.std.specs.Prelude.{ℕ, zero, suc, ◌+◌, ◌*◌, ◌/◌, ◌%◌, ◌^◌, ◌<◌, Bool, true, false, not, ◌&&◌, ◌||◌, List, [], ◌≡◌, length, get_or, eqb, ltb}
-use Rattle.std.proofs.Math.Option.{Option, none, some}
+use Rattle.std.specs.Prelude.{ℕ, zero, suc, ◌+◌, ◌*◌, ◌/◌, ◌%◌, ◌^◌, ◌<◌, Bool, true, false, not, ◌&&◌, ◌||◌, List, [], ◌≡◌, length, get_or, eqb, ltb, None, Option, Some}
 use Rattle.std.specs.Int.Bits.{bit_or}
 use Rattle.text.specs.Basics.{when◌then◌else◌, holds, is_empty, any, sum_until}
 use Rattle.text.specs.Text.{first_among}
@@ -131,8 +130,8 @@ abbrev pub counted_at : ℕ → List ℕ → ℕ → ℕ
 counted_at k notes i = when ltb i 64 then get_or notes (3 + 64 * k + i) 0 else 0
 
 abbrev pub placed_count : ℕ → List ℕ → Option ℕ → ℕ
-placed_count k notes none = 0
-placed_count k notes (some i) = counted_at k notes i
+placed_count k notes None = 0
+placed_count k notes (Some i) = counted_at k notes i
 
 -- ## Notes
 
@@ -153,8 +152,8 @@ abbrev pub naming_at : List ℕ → ℕ → Naming
 naming_at notes i = when is_deep notes i then Naming.Deep else Naming.Sound
 
 abbrev pub placed_naming : List ℕ → Option ℕ → Naming
-placed_naming notes none = Naming.Missing
-placed_naming notes (some i) = naming_at notes i
+placed_naming notes None = Naming.Missing
+placed_naming notes (Some i) = naming_at notes i
 
 unfoldable pub naming_of : List ℕ → List ℕ → List ℕ → Naming
 naming_of t notes n = when is_empty notes then Naming.Sound else placed_naming notes (noted_place t notes n)

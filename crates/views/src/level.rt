@@ -11,7 +11,11 @@ ghost use Rattle.views.specs.Level.{word_place, marked_by, counted_by, tallied, 
 
 use super::names::find_named;
 use super::{counted_at, has_bit, is_marked, step};
-use tables::entry::{Place, after_count, after_entry, entry_span, entry_text, table_count};
+use tables::entry::after_count;
+use tables::entry::after_entry;
+use tables::entry::entry_span;
+use tables::entry::entry_text;
+use tables::entry::table_count;
 use tables::word::{after_word, names_table, word, word_span};
 
 // How many words of a text are left to try for a host, and what was tried.
@@ -39,14 +43,14 @@ fn add(a: u64, b: u64) -> u64
 }
 
 // The place of the table that the pattern w names.
-fn word_place(tables: &[u8], named: &[u64; 259], w: &[u8]) -> Place
+fn word_place(tables: &[u8], named: &[u64; 259], w: &[u8]) -> Option<usize>
     requires { NamesNoted tables.now named.now }
     ensures { result ≡ place_of (word_place (tables_in tables.now) w.now) }
 {
     if names_table(w) {
         return find_named(tables, named, &w[1..]);
     }
-    Place::Missing
+    None
 }
 
 // A tally after one more word; matches, tried: what is told of the table that it names.
@@ -70,12 +74,12 @@ fn tally_word(t: Tally, matches: bool, tried: u64) -> Tally
 }
 
 // The same, of the table at that place, by the notes.
-fn tally_place(t: Tally, notes: &[u64; 131], k: usize, place: Place) -> Tally
+fn tally_place(t: Tally, notes: &[u64; 131], k: usize, place: Option<usize>) -> Tally
     ensures { result ≡ tallied (marked_by k notes.now place) (counted_by k notes.now place) t }
 {
     match place {
-        Place::Missing => tally_word(t, false, 0),
-        Place::At(i) => tally_word(t, is_marked(notes, k, i), counted_at(notes, k, i)),
+        None => tally_word(t, false, 0),
+        Some(i) => tally_word(t, is_marked(notes, k, i), counted_at(notes, k, i)),
     }
 }
 

@@ -19,7 +19,12 @@ ghost use Rattle.views.specs.View.{naming_at, marked_at, counted_at, reference_o
 use names::{find_named, find_noted, note_names, put_told};
 use patterns::Host;
 use patterns::pattern::host_read;
-use tables::entry::{Place, after_count, after_entry, entry_span, entry_text, find, table_count};
+use tables::entry::after_count;
+use tables::entry::after_entry;
+use tables::entry::entry_span;
+use tables::entry::entry_text;
+use tables::entry::find;
+use tables::entry::table_count;
 use tables::word::{after_word, has_slash, names_table, word, word_span};
 use text::equal_fold;
 
@@ -103,8 +108,8 @@ fn named_bit(tables: &[u8], named: &[u64; 259], name: &[u8]) -> u64
     ensures { Marks result 64 (is_named (tables_in tables.now) name.now) }
 {
     match find_named(tables, named, name) {
-        Place::Missing => 0,
-        Place::At(i) => bit(i),
+        None => 0,
+        Some(i) => bit(i),
     }
 }
 
@@ -373,12 +378,12 @@ pub fn look_up(tables: &[u8], notes: &[u64], k: usize, name: &[u8]) -> Reference
         };
     }
     match find_noted(tables, notes, name) {
-        Place::Missing => Reference {
+        None => Reference {
             naming: Naming::Missing,
             matches: false,
             tried: 0,
         },
-        Place::At(i) => Reference {
+        Some(i) => Reference {
             naming: naming_at(notes, i),
             matches: is_marked(notes, k, i),
             tried: counted_at(notes, k, i),
@@ -391,8 +396,8 @@ fn name_leads(tables: &[u8], name: &[u8], below: &[u64]) -> bool
     ensures { result ≡ name_leads (tables_in tables.now) (is_deep below.now) name.now }
 {
     match find(tables, name) {
-        Place::Missing => false,
-        Place::At(i) => is_deep(below, i),
+        None => false,
+        Some(i) => is_deep(below, i),
     }
 }
 

@@ -7,7 +7,12 @@ ghost use Rattle.std.specs.Prelude.{◌≡◌, ◌+◌, ◌≤◌, ◌<◌, eqb,
 ghost use Rattle.tables.specs.Code.{tables_in, place_named, place_of};
 ghost use Rattle.views.specs.Names.{hash_of, is_named_at, near_by, Skipped, noted_place, NamesNoted, Told};
 
-use tables::entry::{Place, after_count, after_entry, entry_name, entry_span, find, table_count};
+use tables::entry::after_count;
+use tables::entry::after_entry;
+use tables::entry::entry_name;
+use tables::entry::entry_span;
+use tables::entry::find;
+use tables::entry::table_count;
 use text::{equal_fold, lower};
 
 // A number of a name, the same whatever its case.
@@ -115,7 +120,7 @@ fn next_place(notes: &[u64], sought: u64, start: usize) -> usize
 }
 
 // The place of the first table so named, by notes that tell the names of tables; else by going over them.
-pub fn find_noted(tables: &[u8], notes: &[u64], name: &[u8]) -> Place
+pub fn find_noted(tables: &[u8], notes: &[u64], name: &[u8]) -> Option<usize>
     ensures { result ≡ place_of (noted_place tables.now notes.now name.now) }
 {
     if notes.len() != 259 {
@@ -125,15 +130,15 @@ pub fn find_noted(tables: &[u8], notes: &[u64], name: &[u8]) -> Place
     let mut i = next_place(notes, sought, 0);
     while i < 64 {
         if is_named_at(tables, notes[195 + i] as usize, name) {
-            return Place::At(i);
+            return Some(i);
         }
         i = next_place(notes, sought, i + 1);
     }
-    Place::Missing
+    None
 }
 
 // The same, by notes that tell the names of all tables.
-pub fn find_named(tables: &[u8], notes: &[u64; 259], name: &[u8]) -> Place
+pub fn find_named(tables: &[u8], notes: &[u64; 259], name: &[u8]) -> Option<usize>
     requires { NamesNoted tables.now notes.now }
     ensures { result ≡ place_of (place_named (tables_in tables.now) name.now) }
 {

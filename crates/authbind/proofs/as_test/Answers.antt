@@ -4,8 +4,8 @@ use Rattle.text.proofs.Search.{outright}
 use Rattle.authbind.proofs.StepLaws.{is_test, is_test_count}
 use Rattle.authbind.proofs.as_test.Goals as goal
 
-pub returns-in-Refused : goal.returns-in-Refused
-returns-in-Refused c = outright (search (is_test, rules))
+pub returns-in-Err : goal.returns-in-Err
+returns-in-Err c = outright (search (is_test, rules))
 
-pub returns-in-Count : goal.returns-in-Count
-returns-in-Count c = outright (search (is_test_count, rules))
+pub returns-in-Ok : goal.returns-in-Ok
+returns-in-Ok c = outright (search (is_test_count, rules))

@@ -4,8 +4,8 @@ use Rattle.text.proofs.Search.{outright}
 use Rattle.byuid.proofs.TextLaws.{check_retired, check_sound}
 use Rattle.byuid.proofs.check.Goals as goal
 
-pub returns-in-Retired : goal.returns-in-Retired
-returns-in-Retired c = outright (search (check_retired, rules))
+pub returns-in-Err : goal.returns-in-Err
+returns-in-Err c = outright (search (check_retired, rules))
 
-pub returns-in-Sound : goal.returns-in-Sound
-returns-in-Sound c = outright (search (check_sound, rules))
+pub returns-in-Ok : goal.returns-in-Ok
+returns-in-Ok c = outright (search (check_sound, rules))

@@ -7,8 +7,8 @@ use Rattle.byuid.proofs.decide.Goals as goal
 pub returns-then-over : goal.returns-then-over
 returns-then-over c = outright (search (over_limit_lem, rules))
 
-pub returns-in-Retired : goal.returns-in-Retired
-returns-in-Retired c = outright (search (decide_retired, rules))
+pub returns-in-Err : goal.returns-in-Err
+returns-in-Err c = outright (search (decide_retired, rules))
 
-pub returns-in-Sound : goal.returns-in-Sound
-returns-in-Sound c = outright (search (decide_answer, rules))
+pub returns-in-Ok : goal.returns-in-Ok
+returns-in-Ok c = outright (search (decide_answer, rules))

@@ -6,8 +6,8 @@ use Rattle.byuid.proofs.walk_lines.Goals as goal
 pub loop-at-init : goal.loop-at-init
 loop-at-init c = outright (search (walking_start, rules))
 
-pub returns-in-Retired : goal.returns-in-Retired
-returns-in-Retired c = outright (search (walking_retired, rules))
+pub returns-in-None : goal.returns-in-None
+returns-in-None c = outright (search (walking_retired, rules))
 
 pub loop-at-preserved : goal.loop-at-preserved
 loop-at-preserved c = outright (search (walking_on, rules))

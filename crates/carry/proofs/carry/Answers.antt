@@ -13,8 +13,8 @@ returns-then-uid-eq0 c = let both = carry_root _ _ _ _ _ c.over.ensures
     c.note_ports.ensures.answer (search rules) c.if-uid-eq0.true _ c.placeless.ensures in
     record { answer = both.0; lower = both.1.0; upper = both.1.1 }
 
-pub returns-in-Refused : goal.returns-in-Refused
-returns-in-Refused c = let both = carry_bad _ _ _ _ _ c.over.ensures
+pub returns-in-Err : goal.returns-in-Err
+returns-in-Err c = let both = carry_bad _ _ _ _ _ c.over.ensures
     c.if-over.false _ c.note_ports.ensures.answer _
     (search rules) in record { answer = both.0; lower = both.1.0; upper = both.1.1 }
 

@@ -10,8 +10,8 @@ returns-then-out-n c = record { answer = search (all_no_room, rules); holds = se
 pub put_answers-requires : goal.put_answers-requires
 put_answers-requires c = outright (search (all_fitting, rules))
 
-pub returns-in-Unparted : goal.returns-in-Unparted
-returns-in-Unparted c = record { answer = search (all_unparted, rules); holds = search (unparted_untouched, rules) }
+pub returns-in-None : goal.returns-in-None
+returns-in-None c = record { answer = search (all_unparted, rules); holds = search (unparted_untouched, rules) }
 
 pub returns-else-out-n : goal.returns-else-out-n
 returns-else-out-n c = record { answer = search (all_count, rules); holds = search (all_text_lem, rules) }

@@ -7,8 +7,8 @@ use Rattle.index.proofs.write_index.Goals as goal
 pub write_parts-requires : goal.write_parts-requires
 write_parts-requires c = outright (search (unpack_is, rules))
 
-pub returns-in-Refused : goal.returns-in-Refused
-returns-in-Refused c = record { answer = search (write_refused, rules); holds = search (write_untouched, rules) }
+pub returns-in-Err : goal.returns-in-Err
+returns-in-Err c = record { answer = search (write_refused, rules); holds = search (write_untouched, rules) }
 
-pub returns-in-Parts : goal.returns-in-Parts
-returns-in-Parts c = record { answer = search (write_answer, rules); holds = search (write_holds, rules) }
+pub returns-in-Ok : goal.returns-in-Ok
+returns-in-Ok c = record { answer = search (write_answer, rules); holds = search (write_holds, rules) }

@@ -5,8 +5,8 @@ use borrow.Author.Rules.{rules}
 use Rattle.text.proofs.Search.{outright}
 use Rattle.portacl.proofs.check.Goals as goal
 
-pub returns-in-Bad : goal.returns-in-Bad
-returns-in-Bad c = outright (search (check_bad, rules))
+pub returns-in-Err : goal.returns-in-Err
+returns-in-Err c = outright (search (check_bad, rules))
 
-pub returns-in-Sound : goal.returns-in-Sound
-returns-in-Sound c = outright (search (check_sound, rules))
+pub returns-in-Ok : goal.returns-in-Ok
+returns-in-Ok c = outright (search (check_sound, rules))

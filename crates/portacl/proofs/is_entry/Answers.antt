@@ -4,8 +4,8 @@ use Rattle.text.proofs.Search.{outright}
 use Rattle.portacl.proofs.DecideLaws.{entry_none, entry_some}
 use Rattle.portacl.proofs.is_entry.Goals as goal
 
-pub returns-in-Nothing : goal.returns-in-Nothing
-returns-in-Nothing c = outright (search (entry_none, rules))
+pub returns-in-None : goal.returns-in-None
+returns-in-None c = outright (search (entry_none, rules))
 
-pub returns-in-Value : goal.returns-in-Value
-returns-in-Value c = outright (search (entry_some, rules))
+pub returns-in-Some : goal.returns-in-Some
+returns-in-Some c = outright (search (entry_some, rules))

@@ -11,8 +11,8 @@ returns-then-text-eq0 c =
 pub loop-at-init : goal.loop-at-init
 loop-at-init c = outright (search (noting_start, rules))
 
-pub returns-in-Nothing : goal.returns-in-Nothing
-returns-in-Nothing c =
+pub returns-in-None : goal.returns-in-None
+returns-in-None c =
     record { answer = search (noting_bad, rules); over_tcp = search (noting_bad_tcp, rules); over_udp = search (noting_bad_udp, rules) }
 
 pub loop-at-preserved : goal.loop-at-preserved

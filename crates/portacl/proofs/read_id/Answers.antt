@@ -16,12 +16,12 @@ returns-then-colon-s c = let a = c.args in
 pub slice_bounds-read_decimal-end : goal.slice_bounds-read_decimal-end
 slice_bounds-read_decimal-end c = sym (length-take-le _ _ (search rules))
 
-pub returns-in-Nothing : goal.returns-in-Nothing
+pub returns-in-None : goal.returns-in-None
 unfolding id_data
-returns-in-Nothing c = let a = c.args in
+returns-in-None c = let a = c.args in
     search (number_first_none 4294967295 (protocol_data a.group), rules)
 
-pub returns-in-Value : goal.returns-in-Value
+pub returns-in-Some : goal.returns-in-Some
 unfolding id_data
-returns-in-Value c = let a = c.args in
+returns-in-Some c = let a = c.args in
     search (number_first_some 4294967295 (protocol_data a.group), rules)

@@ -6,10 +6,10 @@ use borrow.Author.Rules.{rules}
 use Rattle.text.proofs.Search.{outright}
 use Rattle.portacl.proofs.read_port.Goals as goal
 
-pub returns-in-Nothing : goal.returns-in-Nothing
+pub returns-in-None : goal.returns-in-None
 unfolding port_data
-returns-in-Nothing c = outright (search (number_none, rules))
+returns-in-None c = outright (search (number_none, rules))
 
-pub returns-in-Value : goal.returns-in-Value
+pub returns-in-Some : goal.returns-in-Some
 unfolding port_data
-returns-in-Value c = outright (search (number_some, rules))
+returns-in-Some c = outright (search (number_some, rules))

@@ -9,8 +9,8 @@ returns-then-text-eq0 c = outright (search (walk_empty, rules))
 pub loop-at-init : goal.loop-at-init
 loop-at-init c = outright (search (walking_start, rules))
 
-pub returns-in-Nothing : goal.returns-in-Nothing
-returns-in-Nothing c = outright (search (walking_bad, rules))
+pub returns-in-None : goal.returns-in-None
+returns-in-None c = outright (search (walking_bad, rules))
 
 pub loop-at-preserved : goal.loop-at-preserved
 loop-at-preserved c = outright (search (walking_on, rules))

@@ -5,17 +5,17 @@ use borrow.Author.Rules.{rules}
 use Rattle.text.proofs.Search.{outright}
 use Rattle.rules.proofs.combine.Goals as goal
 
-pub returns-in-Faulty : goal.returns-in-Faulty
-returns-in-Faulty c = outright (search (on_faulty, rules))
+pub returns-in-Err : goal.returns-in-Err
+returns-in-Err c = outright (search (on_faulty, rules))
 
-pub returns-in-Unmatched : goal.returns-in-Unmatched
-returns-in-Unmatched c = outright (search (on_unmatched, rules))
+pub returns-in-Ok-None : goal.returns-in-Ok-None
+returns-in-Ok-None c = outright (search (on_unmatched, rules))
 
-pub returns-in-Faulty-rest : goal.returns-in-Faulty-rest
-returns-in-Faulty-rest c = outright (search (on_then_faulty, rules))
+pub returns-in-Err-rest : goal.returns-in-Err-rest
+returns-in-Err-rest c = outright (search (on_then_faulty, rules))
 
-pub returns-in-Unmatched-rest : goal.returns-in-Unmatched-rest
-returns-in-Unmatched-rest c = outright (search (on_then_unmatched, rules))
+pub returns-in-Ok-None-rest : goal.returns-in-Ok-None-rest
+returns-in-Ok-None-rest c = outright (search (on_then_unmatched, rules))
 
-pub returns-in-Matched-rest : goal.returns-in-Matched-rest
-returns-in-Matched-rest c = outright (search (on_then_matched, rules))
+pub returns-in-Ok-Some-rest : goal.returns-in-Ok-Some-rest
+returns-in-Ok-Some-rest c = outright (search (on_then_matched, rules))

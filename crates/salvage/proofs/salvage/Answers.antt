@@ -7,13 +7,13 @@ use Rattle.salvage.proofs.salvage.Goals as goal
 pub salvage_parts-requires : goal.salvage_parts-requires
 salvage_parts-requires c = outright (search (call_small, rules))
 
-pub returns-in-Refused : goal.returns-in-Refused
-returns-in-Refused c = let both = call_refused _ _ _ _ c.frame.ensures _ (search rules) in
+pub returns-in-Err : goal.returns-in-Err
+returns-in-Err c = let both = call_refused _ _ _ _ c.frame.ensures _ (search rules) in
     record { answer = both.0; sheet = both.1.0; changes = both.1.1 }
 
-pub returns-in-Parts : goal.returns-in-Parts
-returns-in-Parts c = let both = call_done _ c.args.out.now
+pub returns-in-Ok : goal.returns-in-Ok
+returns-in-Ok c = let both = call_done _ c.args.out.now
     c.args.list.now _
     c.frame.ensures _ _ _ _
-    (c.salvage_parts.ensures.answer, (c.salvage_parts.ensures.sheet, c.salvage_parts.ensures.changes)) c.in-Parts.is in
+    (c.salvage_parts.ensures.answer, (c.salvage_parts.ensures.sheet, c.salvage_parts.ensures.changes)) c.in-Ok.is in
     record { answer = both.0; sheet = both.1.0; changes = both.1.1 }

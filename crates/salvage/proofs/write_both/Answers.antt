@@ -33,8 +33,8 @@ put_list-listed-requires c = record {
   );
 }
 
-pub returns-in-Refused : goal.returns-in-Refused
-returns-in-Refused c = let both = both_grown _ _ _ _ _ _ _ _ _ c.measure_texts-sizes.ensures.sizes _
+pub returns-in-Err : goal.returns-in-Err
+returns-in-Err c = let both = both_grown _ _ _ _ _ _ _ _ _ c.measure_texts-sizes.ensures.sizes _
     c.check_sizes.ensures _ (search rules) in record { answer = both.0; sheet = both.1.0; changes = both.1.1 }
 
 pub returns-else-list-measure_list : goal.returns-else-list-measure_list

@@ -9,5 +9,5 @@ use Rattle.station.proofs.decide.Goals as goal
 pub decide_by_parts-requires : goal.decide_by_parts-requires
 decide_by_parts-requires c = outright (search (is_framed, rules))
 
-pub returns-in-Refused : goal.returns-in-Refused
-returns-in-Refused c = outright (search (decide_unframed, rules))
+pub returns-in-Err : goal.returns-in-Err
+returns-in-Err c = outright (search (decide_unframed, rules))

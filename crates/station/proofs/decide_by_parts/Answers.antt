@@ -7,8 +7,8 @@ use Rattle.station.proofs.decide_by_parts.Goals as goal
 pub in_sheet-requires : goal.in_sheet-requires
 in_sheet-requires c = outright (search (command_fits, rules))
 
-pub returns-in-Doubtful : goal.returns-in-Doubtful
-returns-in-Doubtful c = outright (search (parts_doubtful, rules))
+pub returns-in-None : goal.returns-in-None
+returns-in-None c = outright (search (parts_doubtful, rules))
 
-pub returns-in-Answer : goal.returns-in-Answer
-returns-in-Answer c = outright (search (parts_answered, rules))
+pub returns-in-Some : goal.returns-in-Some
+returns-in-Some c = outright (search (parts_answered, rules))

@@ -6,8 +6,8 @@ use Rattle.tidy.proofs.drop_rules.Goals as goal
 pub drop_sound-requires : goal.drop_sound-requires
 drop_sound-requires c = (search (passed_short, rules), search (passed_sound, rules))
 
-pub returns-in-Refused : goal.returns-in-Refused
-returns-in-Refused c = record { answer = search (drop_refused, rules); holds = search (drop_unwritten, rules) }
+pub returns-in-Err : goal.returns-in-Err
+returns-in-Err c = record { answer = search (drop_refused, rules); holds = search (drop_unwritten, rules) }
 
-pub returns-in-Sound : goal.returns-in-Sound
-returns-in-Sound c = record { answer = search (drop_made, rules); holds = search (drop_written, rules) }
+pub returns-in-Ok : goal.returns-in-Ok
+returns-in-Ok c = record { answer = search (drop_made, rules); holds = search (drop_written, rules) }

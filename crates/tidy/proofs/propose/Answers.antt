@@ -6,8 +6,8 @@ use Rattle.tidy.proofs.propose.Goals as goal
 pub propose_sound-requires : goal.propose_sound-requires
 propose_sound-requires c = (search (passed_short, rules), search (passed_sound, rules))
 
-pub returns-in-Refused : goal.returns-in-Refused
-returns-in-Refused c = record { answer = search (propose_refused, rules); holds = search (propose_unwritten, rules) }
+pub returns-in-Err : goal.returns-in-Err
+returns-in-Err c = record { answer = search (propose_refused, rules); holds = search (propose_unwritten, rules) }
 
-pub returns-in-Sound : goal.returns-in-Sound
-returns-in-Sound c = record { answer = search (propose_made, rules); holds = search (propose_written, rules) }
+pub returns-in-Ok : goal.returns-in-Ok
+returns-in-Ok c = record { answer = search (propose_made, rules); holds = search (propose_written, rules) }

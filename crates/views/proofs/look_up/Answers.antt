@@ -7,8 +7,8 @@ use Rattle.views.proofs.look_up.Goals as goal
 pub returns-then-notes-eq0 : goal.returns-then-notes-eq0
 returns-then-notes-eq0 c = outright (search (look_unjudged, rules))
 
-pub returns-in-Missing : goal.returns-in-Missing
-returns-in-Missing c = outright (search (look_missing, rules))
+pub returns-in-None : goal.returns-in-None
+returns-in-None c = outright (search (look_missing, rules))
 
-pub returns-in-At : goal.returns-in-At
-returns-in-At c = outright (search (look_found, rules))
+pub returns-in-Some : goal.returns-in-Some
+returns-in-Some c = outright (search (look_found, rules))

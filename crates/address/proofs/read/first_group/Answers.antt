@@ -12,8 +12,8 @@ returns-then-i-s c = outright (search (group_last, rules))
 pub slice_bounds-read_group-end : goal.slice_bounds-read_group-end
 slice_bounds-read_group-end c = sym (length-take-le _ _ (search rules))
 
-pub returns-in-Nothing : goal.returns-in-Nothing
-returns-in-Nothing c = outright (search (group_nothing, rules))
+pub returns-in-None : goal.returns-in-None
+returns-in-None c = outright (search (group_nothing, rules))
 
-pub returns-in-Value : goal.returns-in-Value
-returns-in-Value c = outright (search (group_more, rules))
+pub returns-in-Some : goal.returns-in-Some
+returns-in-Some c = outright (search (group_more, rules))

@@ -13,5 +13,5 @@ returns-then-tail c = outright (search (last_tail, rules))
 pub returns-else-tail : goal.returns-else-tail
 returns-else-tail c = outright (search (last_nothing, rules))
 
-pub returns-in-Value : goal.returns-in-Value
-returns-in-Value c = outright (search (last_value, rules))
+pub returns-in-Some : goal.returns-in-Some
+returns-in-Some c = outright (search (last_value, rules))

@@ -7,8 +7,8 @@ use Rattle.address.proofs.read.last_v4.Goals as goal
 pub push_v4-requires : goal.push_v4-requires
 push_v4-requires c = outright (search (row_room_v4, rules))
 
-pub returns-in-Nothing : goal.returns-in-Nothing
-returns-in-Nothing c = outright (search (tail_nothing, rules))
+pub returns-in-None : goal.returns-in-None
+returns-in-None c = outright (search (tail_nothing, rules))
 
 pub returns-then-count-eq7 : goal.returns-then-count-eq7
 returns-then-count-eq7 c = outright (search (tail_full, rules))

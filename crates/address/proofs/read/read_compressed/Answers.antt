@@ -11,14 +11,14 @@ pub slice_bounds-read_groups-end : goal.slice_bounds-read_groups-end
 slice_bounds-read_groups-end c = sym (length-take-le _ _ (search rules))
 
 pub join-requires : goal.join-requires
-join-requires c = let l = groups_fit_lem false _ _ _ (sym c.read_groups-left.ensures ∙ c.in-Groups.is) in
-    (l.0, (l.1, groups_fit_lem true _ _ _ (sym c.read_groups-right.ensures ∙ c.in-Groups-right.is)))
+join-requires c = let l = groups_fit_lem false _ _ _ (sym c.read_groups-left.ensures ∙ c.in-Some.is) in
+    (l.0, (l.1, groups_fit_lem true _ _ _ (sym c.read_groups-right.ensures ∙ c.in-Some-right.is)))
 
-pub returns-in-Nothing : goal.returns-in-Nothing
-returns-in-Nothing c = outright (search (sides_left, rules))
+pub returns-in-None : goal.returns-in-None
+returns-in-None c = outright (search (sides_left, rules))
 
-pub returns-in-Nothing-right : goal.returns-in-Nothing-right
-returns-in-Nothing-right c = outright (search (sides_right, rules))
+pub returns-in-None-right : goal.returns-in-None-right
+returns-in-None-right c = outright (search (sides_right, rules))
 
-pub returns-in-Groups-right : goal.returns-in-Groups-right
-returns-in-Groups-right c = outright (search (sides_join, rules))
+pub returns-in-Some-right : goal.returns-in-Some-right
+returns-in-Some-right c = outright (search (sides_join, rules))

@@ -9,11 +9,11 @@ use Rattle.byuid.proofs.line.addresses_hold_v6.Goals as goal
 pub slice_bounds-read_v6-end : goal.slice_bounds-read_v6-end
 slice_bounds-read_v6-end c = sym (length-take-le _ _ (search rules))
 
-pub returns-in-Nothing : goal.returns-in-Nothing
-returns-in-Nothing c = outright (search (net_v6_nothing, rules))
+pub returns-in-None : goal.returns-in-None
+returns-in-None c = outright (search (net_v6_nothing, rules))
 
-pub returns-in-Value : goal.returns-in-Value
-returns-in-Value c = outright (search (net_v6, rules))
+pub returns-in-Some : goal.returns-in-Some
+returns-in-Some c = outright (search (net_v6, rules))
 
 pub returns-else-i-s : goal.returns-else-i-s
 returns-else-i-s c = outright (search (range_v6, rules))

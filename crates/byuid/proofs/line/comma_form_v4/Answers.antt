@@ -13,8 +13,8 @@ returns-then-mark-eq47 c = outright (search (comma_slash, rules))
 pub returns-then-mark-eq45 : goal.returns-then-mark-eq45
 returns-then-mark-eq45 c = outright (search (comma_hyphen, rules))
 
-pub returns-in-Nothing : goal.returns-in-Nothing
-returns-in-Nothing c = outright (search (comma_unread, rules))
+pub returns-in-None : goal.returns-in-None
+returns-in-None c = outright (search (comma_unread, rules))
 
 pub returns-then-mark-eq44 : goal.returns-then-mark-eq44
 returns-then-mark-eq44 c = outright (search (comma_alone, rules))

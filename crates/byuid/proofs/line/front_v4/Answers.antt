@@ -11,8 +11,8 @@ ended_address-a-requires c = outright (search (landed_number, landed_field, rule
 pub returns-in-Failed : goal.returns-in-Failed
 returns-in-Failed c = outright (search (front_failed, rules))
 
-pub returns-in-Nothing : goal.returns-in-Nothing
-returns-in-Nothing c = outright (search (front_nothing, rules))
+pub returns-in-None : goal.returns-in-None
+returns-in-None c = outright (search (front_nothing, rules))
 
-pub returns-in-Value : goal.returns-in-Value
-returns-in-Value c = outright (search (front_value, rules))
+pub returns-in-Some : goal.returns-in-Some
+returns-in-Some c = outright (search (front_value, rules))

@@ -11,8 +11,8 @@ clear_beyond_v4-requires c = outright (search (len_le, rules))
 pub same_prefix_v4-requires : goal.same_prefix_v4-requires
 same_prefix_v4-requires c = outright (search (len_le, rules))
 
-pub returns-in-Nothing : goal.returns-in-Nothing
-returns-in-Nothing c = outright (search (len_nothing, rules))
+pub returns-in-None : goal.returns-in-None
+returns-in-None c = outright (search (len_nothing, rules))
 
 pub returns-then-clear_beyond_v4 : goal.returns-then-clear_beyond_v4
 returns-then-clear_beyond_v4 c = outright (search (len_clear, rules))

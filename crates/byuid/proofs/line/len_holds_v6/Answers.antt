@@ -11,8 +11,8 @@ clear_beyond_v6-requires c = outright (search (len_le, rules))
 pub same_prefix_v6-requires : goal.same_prefix_v6-requires
 same_prefix_v6-requires c = outright (search (len_le, rules))
 
-pub returns-in-Nothing : goal.returns-in-Nothing
-returns-in-Nothing c = outright (search (len_nothing, rules))
+pub returns-in-None : goal.returns-in-None
+returns-in-None c = outright (search (len_nothing, rules))
 
 pub returns-then-clear_beyond_v6 : goal.returns-then-clear_beyond_v6
 returns-then-clear_beyond_v6 c = outright (search (len_clear, rules))

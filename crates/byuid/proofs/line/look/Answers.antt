@@ -4,8 +4,8 @@ use Rattle.text.proofs.Search.{outright}
 use Rattle.byuid.proofs.LineLaws.{look_is, look_retired, look_nothing}
 use Rattle.byuid.proofs.line.look.Goals as goal
 
-pub returns-in-Is : goal.returns-in-Is
-returns-in-Is c = outright (search (look_is, rules))
+pub returns-in-Some : goal.returns-in-Some
+returns-in-Some c = outright (search (look_is, rules))
 
 pub returns-then-is_retired : goal.returns-then-is_retired
 returns-then-is_retired c = outright (search (look_retired, rules))

@@ -9,14 +9,14 @@ use Rattle.byuid.proofs.line.ports_rise.Goals as goal
 pub slice_bounds-read_decimal-end : goal.slice_bounds-read_decimal-end
 slice_bounds-read_decimal-end c = sym (length-take-le _ _ (search rules))
 
-pub returns-in-Nothing : goal.returns-in-Nothing
-returns-in-Nothing c = outright (search (ports_no_min, rules))
+pub returns-in-None : goal.returns-in-None
+returns-in-None c = outright (search (ports_no_min, rules))
 
-pub returns-in-Nothing-read_decimal : goal.returns-in-Nothing-read_decimal
-returns-in-Nothing-read_decimal c = outright (search (ports_no_max, rules))
+pub returns-in-None-read_decimal : goal.returns-in-None-read_decimal
+returns-in-None-read_decimal c = outright (search (ports_no_max, rules))
 
-pub returns-in-Value-read_decimal : goal.returns-in-Value-read_decimal
-returns-in-Value-read_decimal c = outright (search (ports_two, rules))
+pub returns-in-Some-read_decimal : goal.returns-in-Some-read_decimal
+returns-in-Some-read_decimal c = outright (search (ports_two, rules))
 
 pub returns-else-i-s : goal.returns-else-i-s
 returns-else-i-s c = outright (search (ports_no_mark, rules))

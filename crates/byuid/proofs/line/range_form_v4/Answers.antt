@@ -7,8 +7,8 @@ use Rattle.byuid.proofs.line.range_form_v4.Goals as goal
 pub returns-then-t-i : goal.returns-then-t-i
 returns-then-t-i c = outright (search (range_end, rules))
 
-pub returns-in-Nothing : goal.returns-in-Nothing
-returns-in-Nothing c = outright (search (range_unread, rules))
+pub returns-in-None : goal.returns-in-None
+returns-in-None c = outright (search (range_unread, rules))
 
 pub returns-then-t-i-eq44 : goal.returns-then-t-i-eq44
 returns-then-t-i-eq44 c = outright (search (range_comma, rules))

@@ -4,8 +4,8 @@ use Rattle.text.proofs.Search.{outright}
 use Rattle.codes.proofs.AnswerLaws.{byuid_refused, byuid_answered}
 use Rattle.codes.proofs.answer.byuid_numbers.Goals as goal
 
-pub returns-in-Refused : goal.returns-in-Refused
-returns-in-Refused c = outright (search (byuid_refused, rules))
+pub returns-in-Err : goal.returns-in-Err
+returns-in-Err c = outright (search (byuid_refused, rules))
 
-pub returns-in-Answered : goal.returns-in-Answered
-returns-in-Answered c = outright (search (byuid_answered, rules))
+pub returns-in-Ok : goal.returns-in-Ok
+returns-in-Ok c = outright (search (byuid_answered, rules))

@@ -4,8 +4,8 @@ use Rattle.text.proofs.Search.{outright}
 use Rattle.codes.proofs.AnswerLaws.{check_refused, check_accepted}
 use Rattle.codes.proofs.answer.check_numbers.Goals as goal
 
-pub returns-in-Refused : goal.returns-in-Refused
-returns-in-Refused c = outright (search (check_refused, rules))
+pub returns-in-Err : goal.returns-in-Err
+returns-in-Err c = outright (search (check_refused, rules))
 
-pub returns-in-Parts : goal.returns-in-Parts
-returns-in-Parts c = outright (search (check_accepted, rules))
+pub returns-in-Ok : goal.returns-in-Ok
+returns-in-Ok c = outright (search (check_accepted, rules))

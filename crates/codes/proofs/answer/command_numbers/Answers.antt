@@ -4,8 +4,8 @@ use Rattle.text.proofs.Search.{outright}
 use Rattle.codes.proofs.AnswerLaws.{command_refused, command_count}
 use Rattle.codes.proofs.answer.command_numbers.Goals as goal
 
-pub returns-in-Refused : goal.returns-in-Refused
-returns-in-Refused c = outright (search (command_refused, rules))
+pub returns-in-Err : goal.returns-in-Err
+returns-in-Err c = outright (search (command_refused, rules))
 
-pub returns-in-Count : goal.returns-in-Count
-returns-in-Count c = outright (search (command_count, rules))
+pub returns-in-Ok : goal.returns-in-Ok
+returns-in-Ok c = outright (search (command_count, rules))

@@ -4,8 +4,8 @@ use Rattle.text.proofs.Search.{outright}
 use Rattle.codes.proofs.AnswerLaws.{portacl_refused, portacl_answered}
 use Rattle.codes.proofs.answer.portacl_numbers.Goals as goal
 
-pub returns-in-Refused : goal.returns-in-Refused
-returns-in-Refused c = outright (search (portacl_refused, rules))
+pub returns-in-Err : goal.returns-in-Err
+returns-in-Err c = outright (search (portacl_refused, rules))
 
-pub returns-in-Answered : goal.returns-in-Answered
-returns-in-Answered c = outright (search (portacl_answered, rules))
+pub returns-in-Ok : goal.returns-in-Ok
+returns-in-Ok c = outright (search (portacl_answered, rules))

@@ -4,8 +4,8 @@ use Rattle.text.proofs.Search.{outright}
 use Rattle.codes.proofs.AnswerLaws.{read_refused, read_found}
 use Rattle.codes.proofs.answer.read_numbers.Goals as goal
 
-pub returns-in-Refused : goal.returns-in-Refused
-returns-in-Refused c = outright (search (read_refused, rules))
+pub returns-in-Err : goal.returns-in-Err
+returns-in-Err c = outright (search (read_refused, rules))
 
-pub returns-in-Address : goal.returns-in-Address
-returns-in-Address c = outright (search (read_found, rules))
+pub returns-in-Ok : goal.returns-in-Ok
+returns-in-Ok c = outright (search (read_found, rules))

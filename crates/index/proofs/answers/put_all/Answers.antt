@@ -8,8 +8,8 @@ use Rattle.index.proofs.answers.put_all.Goals as goal
 pub loop-rest-init : goal.loop-rest-init
 loop-rest-init c = outright (search (answering_start, rules))
 
-pub returns-in-Cut : goal.returns-in-Cut
-returns-in-Cut c = record { count = search (answering_cut, rules); written = search (answering_cut_text, rules) }
+pub returns-in-None : goal.returns-in-None
+returns-in-None c = record { count = search (answering_cut, rules); written = search (answering_cut_text, rules) }
 
 pub put_answer-next-requires : goal.put_answer-next-requires
 put_answer-next-requires c = outright (search (answering_room, rules))

@@ -10,8 +10,8 @@ returns-then-bytes-at c = outright (search (user_past, rules))
 pub overflow_add-result : goal.overflow_add-result
 overflow_add-result c = outright (search (user_end, rules))
 
-pub returns-in-Cut : goal.returns-in-Cut
-returns-in-Cut c = outright (search (user_cut, rules))
+pub returns-in-None : goal.returns-in-None
+returns-in-None c = outright (search (user_cut, rules))
 
-pub returns-in-Text : goal.returns-in-Text
-returns-in-Text c = outright (search (user_whole, rules))
+pub returns-in-Some : goal.returns-in-Some
+returns-in-Some c = outright (search (user_whole, rules))

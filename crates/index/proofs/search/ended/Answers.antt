@@ -4,8 +4,8 @@ use Rattle.text.proofs.Search.{outright}
 use Rattle.index.proofs.EntryLaws.{ended_answer, ended_nothing}
 use Rattle.index.proofs.search.ended.Goals as goal
 
-pub returns-in-Answer : goal.returns-in-Answer
-returns-in-Answer c = outright (search (ended_answer, ended_nothing, rules))
+pub returns-in-Some : goal.returns-in-Some
+returns-in-Some c = outright (search (ended_answer, ended_nothing, rules))
 
-pub returns-in-Nothing : goal.returns-in-Nothing
-returns-in-Nothing c = outright (search (ended_answer, ended_nothing, rules))
+pub returns-in-None : goal.returns-in-None
+returns-in-None c = outright (search (ended_answer, ended_nothing, rules))

@@ -6,8 +6,8 @@ use Rattle.index.proofs.search.seek.Goals as goal
 pub loop-rest-init : goal.loop-rest-init
 loop-rest-init c = outright (search (seeks_start, rules))
 
-pub returns-in-Answer : goal.returns-in-Answer
-returns-in-Answer c = outright (search (seeks_found, rules))
+pub returns-in-Some : goal.returns-in-Some
+returns-in-Some c = outright (search (seeks_found, rules))
 
 pub loop-rest-preserved : goal.loop-rest-preserved
 loop-rest-preserved c = outright (search (seeks_more, rules))

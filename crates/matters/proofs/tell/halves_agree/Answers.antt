@@ -33,8 +33,8 @@ asked_half-h-requires c = outright (search (element_described, rules))
 pub try_half-requires : goal.try_half-requires
 try_half-requires c = outright (search (trying_within, rules))
 
-pub returns-in-Differs : goal.returns-in-Differs
-returns-in-Differs c = let a = c.args in
+pub returns-in-None : goal.returns-in-None
+returns-in-None c = let a = c.args in
     let l = c.loop-rest in
     let at = c.element_at-at in
     let first = c.element-e in
@@ -64,4 +64,4 @@ loop-rest-preserved c = let a = c.args in
     let next = c.after_element-next in
     trying_more (view_of a.tables.now a.notes.now) (request_at a.names.now a.request) a.f a.s.now l.rest.now l.places l.n l.invariant
     first.result.now first.ensures full half.result.now half.ensures at.result at.ensures tried.result tried.ensures.answer
-    c.in-Agrees.count (search rules) tried.new.places tried.ensures.holds next.result.now next.ensures
+    c.in-Some.count (search rules) tried.new.places tried.ensures.holds next.result.now next.ensures

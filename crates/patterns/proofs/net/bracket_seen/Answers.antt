@@ -8,8 +8,8 @@ use Rattle.patterns.proofs.net.bracket_seen.Goals as goal
 pub prefix_matches-requires : goal.prefix_matches-requires
 prefix_matches-requires c = outright (search (bracket_prefix_fits, rules))
 
-pub returns-in-Nothing : goal.returns-in-Nothing
-returns-in-Nothing c = outright (search (bracket_unread, rules))
+pub returns-in-None : goal.returns-in-None
+returns-in-None c = outright (search (bracket_unread, rules))
 
-pub returns-in-Prefix : goal.returns-in-Prefix
-returns-in-Prefix c = outright (search (bracket_read, rules))
+pub returns-in-Some : goal.returns-in-Some
+returns-in-Some c = outright (search (bracket_read, rules))

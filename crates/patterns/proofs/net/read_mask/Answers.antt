@@ -7,11 +7,11 @@ use Rattle.patterns.proofs.net.read_mask.Goals as goal
 pub leading_ones_v4-requires : goal.leading_ones_v4-requires
 leading_ones_v4-requires c = outright (search (mask_length, rules))
 
-pub returns-in-Value : goal.returns-in-Value
-returns-in-Value c = outright (search (mask_written, rules))
+pub returns-in-Some : goal.returns-in-Some
+returns-in-Some c = outright (search (mask_written, rules))
 
-pub returns-in-Nothing-read_decimal : goal.returns-in-Nothing-read_decimal
-returns-in-Nothing-read_decimal c = outright (search (mask_none, rules))
+pub returns-in-None-read_decimal : goal.returns-in-None-read_decimal
+returns-in-None-read_decimal c = outright (search (mask_none, rules))
 
-pub returns-in-Value-read_decimal : goal.returns-in-Value-read_decimal
-returns-in-Value-read_decimal c = outright (search (mask_ones, rules))
+pub returns-in-Some-read_decimal : goal.returns-in-Some-read_decimal
+returns-in-Some-read_decimal c = outright (search (mask_ones, rules))

@@ -5,8 +5,8 @@ use Rattle.text.proofs.Search.{outright}
 use Rattle.rules.proofs.FileLaws.{examined_faulty, examined_sound}
 use Rattle.rules.proofs.hosts_file.examine_rule.Goals as goal
 
-pub returns-in-Faulty : goal.returns-in-Faulty
-returns-in-Faulty c = outright (search (examined_faulty, rules))
+pub returns-in-Err : goal.returns-in-Err
+returns-in-Err c = outright (search (examined_faulty, rules))
 
-pub returns-in-Sound : goal.returns-in-Sound
-returns-in-Sound c = outright (search (examined_sound, rules))
+pub returns-in-Ok : goal.returns-in-Ok
+returns-in-Ok c = outright (search (examined_sound, rules))

@@ -5,8 +5,8 @@ use Rattle.text.proofs.Search.{outright}
 use Rattle.rules.proofs.FileLaws.{pass_ask, pass_faulty, pass_no, pass_yes}
 use Rattle.rules.proofs.hosts_file.pass_line.Goals as goal
 
-pub returns-in-Faulty : goal.returns-in-Faulty
-returns-in-Faulty c = outright (search (pass_faulty, rules))
+pub returns-in-Err : goal.returns-in-Err
+returns-in-Err c = outright (search (pass_faulty, rules))
 
 pub returns-in-No : goal.returns-in-No
 returns-in-No c = outright (search (pass_no, rules))

@@ -6,14 +6,14 @@ use Rattle.rules.proofs.hosts_file.pass_lines.Goals as goal
 pub loop-i-init : goal.loop-i-init
 loop-i-init c = outright (search (passing_start, rules))
 
-pub returns-in-Faulty : goal.returns-in-Faulty
-returns-in-Faulty c = outright (search (pass_stop, rules))
+pub returns-in-Err : goal.returns-in-Err
+returns-in-Err c = outright (search (pass_stop, rules))
 
-pub loop-i-smaller-in-Unmatched : goal.loop-i-smaller-in-Unmatched
-loop-i-smaller-in-Unmatched c = outright (search (step_less, rules))
+pub loop-i-smaller-in-Ok-None : goal.loop-i-smaller-in-Ok-None
+loop-i-smaller-in-Ok-None c = outright (search (step_less, rules))
 
-pub loop-i-preserved-in-Unmatched : goal.loop-i-preserved-in-Unmatched
-loop-i-preserved-in-Unmatched c = outright (search (passing_more, rules))
+pub loop-i-preserved-in-Ok-None : goal.loop-i-preserved-in-Ok-None
+loop-i-preserved-in-Ok-None c = outright (search (passing_more, rules))
 
 pub loop-i-smaller : goal.loop-i-smaller
 loop-i-smaller c = outright (search (step_less, rules))

@@ -7,11 +7,11 @@ use Rattle.rules.proofs.naming.check_contents.Goals as goal
 pub check_naming-requires : goal.check_naming-requires
 check_naming-requires c = outright (search (contents_sound, rules))
 
-pub returns-in-Faulty : goal.returns-in-Faulty
-returns-in-Faulty c = outright (search (contents_faulty, rules))
+pub returns-in-Err : goal.returns-in-Err
+returns-in-Err c = outright (search (contents_faulty, rules))
 
-pub returns-in-Unmatched : goal.returns-in-Unmatched
-returns-in-Unmatched c = outright (search (contents_rest, rules))
+pub returns-in-Ok-None : goal.returns-in-Ok-None
+returns-in-Ok-None c = outright (search (contents_rest, rules))
 
-pub returns-in-Matched : goal.returns-in-Matched
-returns-in-Matched c = outright (search (contents_never, rules))
+pub returns-in-Ok-Some : goal.returns-in-Ok-Some
+returns-in-Ok-Some c = outright (search (contents_never, rules))

@@ -7,11 +7,11 @@ use Rattle.rules.proofs.naming.check_naming.Goals as goal
 pub check_named-requires : goal.check_named-requires
 check_named-requires c = outright (search (naming_named, rules))
 
-pub returns-in-Faulty : goal.returns-in-Faulty
-returns-in-Faulty c = outright (search (naming_faulty, rules))
+pub returns-in-Err : goal.returns-in-Err
+returns-in-Err c = outright (search (naming_faulty, rules))
 
-pub returns-in-Unmatched : goal.returns-in-Unmatched
-returns-in-Unmatched c = outright (search (naming_rest, rules))
+pub returns-in-Ok-None : goal.returns-in-Ok-None
+returns-in-Ok-None c = outright (search (naming_rest, rules))
 
-pub returns-in-Matched : goal.returns-in-Matched
-returns-in-Matched c = outright (search (naming_never, rules))
+pub returns-in-Ok-Some : goal.returns-in-Ok-Some
+returns-in-Ok-Some c = outright (search (naming_never, rules))

@@ -4,8 +4,8 @@ use Rattle.text.proofs.Search.{outright}
 use Rattle.rules.proofs.SearchLaws.{sound_answer, sound_doubtful}
 use Rattle.rules.proofs.search.are_sound.Goals as goal
 
-pub returns-in-Answer : goal.returns-in-Answer
-returns-in-Answer c = outright (search (sound_answer, rules))
+pub returns-in-Some : goal.returns-in-Some
+returns-in-Some c = outright (search (sound_answer, rules))
 
-pub returns-in-Doubtful : goal.returns-in-Doubtful
-returns-in-Doubtful c = outright (search (sound_doubtful, rules))
+pub returns-in-None : goal.returns-in-None
+returns-in-None c = outright (search (sound_doubtful, rules))

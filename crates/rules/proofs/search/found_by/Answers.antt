@@ -4,11 +4,11 @@ use Rattle.text.proofs.Search.{outright}
 use Rattle.rules.proofs.SearchLaws.{by_faulty, by_unmatched, by_matched}
 use Rattle.rules.proofs.search.found_by.Goals as goal
 
-pub returns-in-Faulty : goal.returns-in-Faulty
-returns-in-Faulty c = outright (search (by_faulty, rules))
+pub returns-in-Err : goal.returns-in-Err
+returns-in-Err c = outright (search (by_faulty, rules))
 
-pub returns-in-Unmatched : goal.returns-in-Unmatched
-returns-in-Unmatched c = outright (search (by_unmatched, rules))
+pub returns-in-Ok-None : goal.returns-in-Ok-None
+returns-in-Ok-None c = outright (search (by_unmatched, rules))
 
-pub returns-in-Matched : goal.returns-in-Matched
-returns-in-Matched c = outright (search (by_matched, rules))
+pub returns-in-Ok-Some : goal.returns-in-Ok-Some
+returns-in-Ok-Some c = outright (search (by_matched, rules))

@@ -8,8 +8,8 @@ use Rattle.sheet.proofs.frame.from_portacl.Goals as goal
 pub rest_after-requires : goal.rest_after-requires
 rest_after-requires c = outright (search (found_within, rules))
 
-pub returns-in-Refused : goal.returns-in-Refused
-returns-in-Refused c = outright (search (portacl_refused, rules))
+pub returns-in-Err : goal.returns-in-Err
+returns-in-Err c = outright (search (portacl_refused, rules))
 
-pub returns-in-Found : goal.returns-in-Found
-returns-in-Found c = outright (search (portacl_found, rules))
+pub returns-in-Ok : goal.returns-in-Ok
+returns-in-Ok c = outright (search (portacl_found, rules))

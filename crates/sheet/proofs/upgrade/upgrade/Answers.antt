@@ -7,8 +7,8 @@ pub returns-then-out-sheet : goal.returns-then-out-sheet
 returns-then-out-sheet c = let both = upgrade_no_room _ _ c.check_four.ensures (search rules) _ c.if-out-sheet.true _ c.placeless.ensures in
     record { answer = both.0; holds = both.1 }
 
-pub returns-in-Refused : goal.returns-in-Refused
-returns-in-Refused c = let both = upgrade_refused _ _ c.check_four.ensures _ (search rules) _ in record { answer = both.0; holds = both.1 }
+pub returns-in-Err : goal.returns-in-Err
+returns-in-Err c = let both = upgrade_refused _ _ c.check_four.ensures _ (search rules) _ in record { answer = both.0; holds = both.1 }
 
 pub returns-else-out-sheet : goal.returns-else-out-sheet
 returns-else-out-sheet c = let both = upgrade_count _ _ c.check_four.ensures (search rules) _ _ _ c.if-out-sheet.false

@@ -4,8 +4,8 @@ use Rattle.text.proofs.Search.{outright}
 use Rattle.tables.proofs.CheckLaws.{missing_none, missing_found}
 use Rattle.tables.proofs.check.is_missing.Goals as goal
 
-pub returns-in-Missing : goal.returns-in-Missing
-returns-in-Missing c = outright (search (missing_none, rules))
+pub returns-in-None : goal.returns-in-None
+returns-in-None c = outright (search (missing_none, rules))
 
-pub returns-in-At : goal.returns-in-At
-returns-in-At c = outright (search (missing_found, rules))
+pub returns-in-Some : goal.returns-in-Some
+returns-in-Some c = outright (search (missing_found, rules))
