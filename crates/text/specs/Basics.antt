@@ -15,22 +15,22 @@ abbrev pub when◌then◌else◌ {ℓ} : {A : Type ℓ} → Bool → A → A →
 when true then a else b = a
 when false then a else b = b
 
-abbrev pub ◌>>=◌ {ℓ κ} : {A : Type ℓ} {B : Type κ} → Option A → (A → Option B) → Option B
+abbrev pub ◌>>=◌ : {A B : Type 0} → Option A → (A → Option B) → Option B
 None >>= f = None
 Some a >>= f = f a
 
-abbrev pub ◌or_else◌ {ℓ} : {A : Type ℓ} → Option A → Option A → Option A
+abbrev pub ◌or_else◌ : {A : Type 0} → Option A → Option A → Option A
 None or_else o = o
 Some a or_else o = Some a
 
-abbrev pub given {ℓ} : {A : Type ℓ} → Bool → A → Option A
+abbrev pub given : {A : Type 0} → Bool → A → Option A
 given b a = when b then Some a else None
 
-abbrev pub holds {ℓ} : {A : Type ℓ} → (A → Bool) → Option A → Bool
+abbrev pub holds : {A : Type 0} → (A → Bool) → Option A → Bool
 holds p None = false
 holds p (Some a) = p a
 
-abbrev pub is_some {ℓ} : {A : Type ℓ} → Option A → Bool
+abbrev pub is_some : {A : Type 0} → Option A → Bool
 is_some o = holds (λ a. true) o
 
 module _ {A : Type 0} where
