@@ -15,7 +15,6 @@ use lib.Seq.{drop-cons}
 use Rattle.text.specs.Basics.{when◌then◌else◌, ◌>>=◌, given, all, any, each}
 use Rattle.text.specs.Text.{among, equal, split, cons_head, is_digit}
 use Rattle.text.specs.Number.{from_digits, digit_value, numeral, read_decimal}
-use Rattle.text.specs.Scan.{as_number}
 use Rattle.text.proofs.BasicLaws.{and_true}
 use Rattle.text.proofs.Canonical.{Canonical, value, from_digits_le, read_decimal_some, read_decimal_over, read_decimal_not, digit_value_digit, digit_low, digit_high}
 use Rattle.address.specs.Address.{read_v4}
@@ -415,8 +414,8 @@ follows_address = record {
 }
 
 module _ (s : List ℕ) (r : Run) (is-r : r ≡ run_from 0 0 0 0 false s) where
-  pub v4_failed : r ≡ R.Failed → None ≡ as_number (read_v4 s)
-  v4_failed q = sym (ap as_number (address_start s ∙ run_failed address_from None follows_address s r is-r q))
+  pub v4_failed : r ≡ R.Failed → None ≡ read_v4 s
+  v4_failed q = sym (address_start s ∙ run_failed address_from None follows_address s r is-r q)
 
   module _ (i n k v : ℕ) (d : Bool) (q : r ≡ R.At i n k v d) where
     at : (address_from 0 0 0 false s ≡ address_from n k v d (drop i s)) × Landed s i n k v d
@@ -432,11 +431,11 @@ module _ (s : List ℕ) (r : Run) (is-r : r ≡ run_from 0 0 0 0 false s) where
     landed_field = landed.field
 
     -- what address_from finds where the pass stopped before the end
-    pub v4_stopped : i < length s → None ≡ as_number (read_v4 s)
+    pub v4_stopped : i < length s → None ≡ read_v4 s
     v4_stopped h =
         let g : address_from n k v d (drop i s) ≡ None = rw (drop-cons s i 0 h) (address_stops n k v d (get_or s i 0) (drop (suc i) s) (landed.stops h)) in
-        sym (ap as_number (address_start s ∙ at.0 ∙ g))
+        sym (address_start s ∙ at.0 ∙ g)
 
-    pub v4_ended : length s ≤ i → (x : Option ℕ) → x ≡ as_number (ended_address n k v d) → x ≡ as_number (read_v4 s)
+    pub v4_ended : length s ≤ i → (x : Option ℕ) → x ≡ ended_address n k v d → x ≡ read_v4 s
     v4_ended h x e =
-        e ∙ sym (ap as_number (address_start s ∙ at.0 ∙ ap (address_from n k v d) (drop_of_length-le s h) ∙ address_end_lem n k v d))
+        e ∙ sym (address_start s ∙ at.0 ∙ ap (address_from n k v d) (drop_of_length-le s h) ∙ address_end_lem n k v d)

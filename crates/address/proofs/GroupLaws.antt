@@ -16,7 +16,6 @@ use lib.Seq.{drop-cons}
 use Rattle.text.specs.Basics.{◌>>=◌, given, all}
 use Rattle.text.specs.Text.{in_range, char_range, is_digit, lower}
 use Rattle.text.specs.Number.{from_digits, digit_value}
-use Rattle.text.specs.Scan.{as_number}
 use Rattle.text.proofs.BasicLaws.{and_true}
 use Rattle.text.proofs.Canonical.{from_digits_lt}
 use Rattle.address.specs.Address.{read_group}
@@ -142,18 +141,18 @@ digit_value_lt b e = rw (hex_value_is b e) at (⊎_elim (λ p. p.1) (λ p. absur
 
 -- the answers before the loop
 module _ (s : List ℕ) where
-  no_group : in_range 1 4 (length s) ≡ false → None ≡ as_number (group_value s)
+  no_group : in_range 1 4 (length s) ≡ false → None ≡ group_value s
   unfolding group_value
   no_group e = sym (rw e (by (all is_hex s)))
     where
-      by : (t : Bool) → as_number (given (t && false) (from_digits 16 0 (map digit_value s))) ≡ None
+      by : (t : Bool) → given (t && false) (from_digits 16 0 (map digit_value s)) ≡ None
       by true = refl
       by false = refl
 
-  pub group_empty : length s ≡ 0 → None ≡ as_number (group_value s)
+  pub group_empty : length s ≡ 0 → None ≡ group_value s
   group_empty e = no_group (in_range_below 1 4 (length s) (omega arith))
 
-  pub group_long : 4 < length s → None ≡ as_number (group_value s)
+  pub group_long : 4 < length s → None ≡ group_value s
   group_long h = no_group (in_range_above 1 4 (length s) h)
 
 -- the loop that reads a group, at i, where the digits passed make n
@@ -171,7 +170,7 @@ module _ (s : List ℕ) (n i : ℕ) (r : HexDigits s n i) where
   hex_mul h l = omega (arith, r.small, pow-le-pow_right {n = 16} (omega arith) {i = i} {j = 3} (omega arith))
 
   module _ (h : i < length s) (d : ℕ) (is_d : d ≡ hex_value (get_or s i 0)) where
-    pub hex_none : d ≡ 16 → None ≡ as_number (group_value s)
+    pub hex_none : d ≡ 16 → None ≡ group_value s
     unfolding group_value all
     hex_none e =
         let f : all is_hex s ≡ false = r.digits ∙ rw (drop-cons s i 0, hex_value_none (get_or s i 0) (sym is_d ∙ e)) in
@@ -191,7 +190,7 @@ module _ (s : List ℕ) (n i : ℕ) (r : HexDigits s n i) where
           rest = r.rest ∙ rw (add-one, drop-cons s i 0, is_d, hex_value_is (get_or s i 0) p.0);
         }
 
-  pub hex_done : length s ≤ i → (length s ≡ 0 → ⊥) → length s ≤ 4 → Some n ≡ as_number (group_value s)
+  pub hex_done : length s ≤ i → (length s ≡ 0 → ⊥) → length s ≤ 4 → Some n ≡ group_value s
   unfolding group_value all from_digits
   hex_done h m l =
       let e : all is_hex s ≡ true = r.digits ∙ rw (drop_of_length-le s h) in

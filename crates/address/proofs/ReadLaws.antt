@@ -11,7 +11,6 @@ use lib.Dec.{leb}
 use Rattle.text.specs.Basics.{given}
 use Rattle.text.specs.Text.{equal}
 use Rattle.text.specs.Number.{read_decimal, decimal}
-use Rattle.text.specs.Scan.{as_number}
 use Rattle.text.proofs.BasicLaws.{and_true}
 use Rattle.text.proofs.Canonical.{value}
 
@@ -24,10 +23,10 @@ read_decimal_le m n t e = by (leb (value t) m && equal t (decimal (value t))) re
     by false p q = let z : ◌≡◌ {A = ℕ} 0 1 = cc in absurd (omega arith)
 
 -- what was read, by what the code answers
-pub as_number_none : (o : Option ℕ) → as_number o ≡ None → o ≡ None
+pub as_number_none : (o : Option ℕ) → o ≡ None → o ≡ None
 as_number_none None e = refl
 as_number_none (Some n) e = let z : ◌≡◌ {A = ℕ} 0 1 = cc in absurd (omega arith)
 
-pub as_number_some : (o : Option ℕ) (n : ℕ) → as_number o ≡ Some n → o ≡ Some n
+pub as_number_some : (o : Option ℕ) (n : ℕ) → o ≡ Some n → o ≡ Some n
 as_number_some None n e = let z : ◌≡◌ {A = ℕ} 0 1 = cc in absurd (omega arith)
 as_number_some (Some m) n e = cc

@@ -16,10 +16,9 @@ use lib.Seq.{drop-cons}
 use Rattle.text.specs.Basics.{◌>>=◌, given, all, when◌then◌else◌, ◌or_else◌, any, each}
 use Rattle.text.specs.Text.{bytes, among, equal, starts_with, cons_head, split_once, split}
 use Rattle.text.specs.Number.{from_digits, numeral, read_decimal}
-use Rattle.text.specs.Scan.{as_number}
 use Rattle.text.proofs.BasicLaws.{and_true}
 use Rattle.text.proofs.Canonical.{from_digits_lt}
-use Rattle.address.specs.Address.{read_group, read_v4, read_last_group, read_groups, read_compressed, read_v6, read_address, as_read}
+use Rattle.address.specs.Address.{read_group, read_v4, read_last_group, read_groups, read_compressed, read_v6, read_address}
 use Rattle.address.specs.Code.{number_of, words_of, groups_from, reads_last, side_parts, place_of, of_groups, as_v6}
 use Rattle.text.proofs.Digits.{from_digits_append}
 use Rattle.text.proofs.ScanLaws.{take_rest}
@@ -397,16 +396,16 @@ as_v6_some (Some n) a b e =
     let q : n % 2 ^ 64 ≡ b = cc in
     ap Some (sym (number_of_words_of n) ∙ ap₂ (λ (x y : ℕ). x * 2 ^ 64 + y) p q)
 
-module _ (t : List ℕ) (v : Option ℕ) (is_v : v ≡ as_number (read_v4 t)) where
-  pub address_v4 : (n : ℕ) → v ≡ Some n → Ok (A.V4 n) ≡ as_read (read_address t)
+module _ (t : List ℕ) (v : Option ℕ) (is_v : v ≡ (read_v4 t)) where
+  pub address_v4 : (n : ℕ) → v ≡ Some n → Ok (A.V4 n) ≡ read_address t
   unfolding read_address
   address_v4 n e = sym (rw (as_number_some (read_v4 t) n (sym is_v ∙ e)))
 
   module _ (e : v ≡ None) (w : Option (ℕ × ℕ)) (is-w : w ≡ as_v6 (read_v6 t)) where
-    pub address_none : w ≡ None → (r : Refusal) → r ≡ placeless F.BadRequest → Err r ≡ as_read (read_address t)
+    pub address_none : w ≡ None → (r : Refusal) → r ≡ placeless F.BadRequest → Err r ≡ read_address t
     unfolding read_address
     address_none f r is-r = ap Err is-r ∙ sym (rw (as_number_none (read_v4 t) (sym is_v ∙ e), as_v6_none (read_v6 t) (sym is-w ∙ f)))
 
-    pub address_v6 : (a b : ℕ) → w ≡ Some (a, b) → b < 18446744073709551616 → Ok (A.V6 a b) ≡ as_read (read_address t)
+    pub address_v6 : (a b : ℕ) → w ≡ Some (a, b) → b < 18446744073709551616 → Ok (A.V6 a b) ≡ read_address t
     unfolding read_address
     address_v6 a b f h = sym (rw (as_number_none (read_v4 t) (sym is_v ∙ e), as_v6_some (read_v6 t) a b (sym is-w ∙ f), high a 64 h, low a 64 h))

@@ -15,7 +15,7 @@ use lib.Seq.{drop-drop}
 use Rattle.text.specs.Basics.{◌>>=◌, all, when◌then◌else◌, ◌or_else◌}
 use Rattle.text.specs.Text.{among, cons_head, split}
 use Rattle.text.specs.Number.{from_digits, to_digits}
-use Rattle.text.specs.Scan.{as_number, index_of}
+use Rattle.text.specs.Scan.{index_of}
 use Rattle.text.proofs.BasicLaws.{all_append}
 use Rattle.address.specs.Address.{read_group, read_v4, read_last_group, read_groups}
 use Rattle.address.specs.Code.{number_of, words, words_of, group_value, group_at, first_group, groups_from, read_tail, reads_last, side_parts}
@@ -35,7 +35,7 @@ module _ (t : List ℕ) (i : ℕ) (is-i : i ≡ index_of 58 t) where
   unfolding first_group
   group_last e = sym (rw (← is-i, le-ltb i (length t) (omega arith)))
 
-  module _ (more : i ≡ length t → ⊥) (within : i ≤ length t) (v : Option ℕ) (is_v : v ≡ as_number (group_value (take i t))) where
+  module _ (more : i ≡ length t → ⊥) (within : i ≤ length t) (v : Option ℕ) (is_v : v ≡ (group_value (take i t))) where
     pub group_nothing : v ≡ None → G.Nothing ≡ first_group t
     unfolding first_group
     group_nothing e = sym (rw (← is-i, lt-ltb i (length t) (omega (arith, more)), as_number_none (group_value (take i t)) (sym is_v ∙ e)))
@@ -44,7 +44,7 @@ module _ (t : List ℕ) (i : ℕ) (is-i : i ≡ index_of 58 t) where
     unfolding first_group
     group_more n e = sym (rw (← is-i, lt-ltb i (length t) (omega (arith, more)), as_number_some (group_value (take i t)) n (sym is_v ∙ e)))
 
-pub group_lt : (t : List ℕ) (v : Option ℕ) (g : ℕ) → v ≡ as_number (group_value t) → v ≡ Some g → g < 65536
+pub group_lt : (t : List ℕ) (v : Option ℕ) (g : ℕ) → v ≡ group_value t → v ≡ Some g → g < 65536
 group_lt t v g is_v e = group_value_lt t g (as_number_some (group_value t) g (sym is_v ∙ e))
 
 -- ## Groups in a row
@@ -206,7 +206,7 @@ module _ (w : Words) (k : ℕ) (few : k < 8) (small : number_of w < 65536 ^ k) w
   row_room_v4 m = omega (arith, pow-le-pow_right {n = 65536} (omega arith) {i = k} {j = 6} (omega (arith, m)))
 
   module _ (t : List ℕ) (v : Option ℕ) (u : Words) where
-    module _ (is_v : v ≡ as_number (read_v4 t)) where
+    module _ (is_v : v ≡ (read_v4 t)) where
       pub tail_nothing : v ≡ None → None ≡ groups_from k (number_of w) (read_tail t)
       tail_nothing e = sym (rw (as_number_none (read_v4 t) (sym is_v ∙ e)))
 
@@ -223,7 +223,7 @@ module _ (w : Words) (k : ℕ) (few : k < 8) (small : number_of w < 65536 ^ k) w
             let x : number_of w * 4294967296 + n ≡ (number_of w * 65536 + n / 65536 % 65536) * 65536 + n % 65536 = omega arith in
             sym (tail_is ∙ rw (le-leb (k + 2) 8 (omega (arith, m)), is-u, x))
 
-    module _ (tail : Bool) (is_v : v ≡ as_number (group_value t)) where
+    module _ (tail : Bool) (is_v : v ≡ (group_value t)) where
       reads_last_value : (g : ℕ) → group_value t ≡ Some g → reads_last tail t ≡ Some (g ∷ [])
       unfolding read_last_group
       reads_last_value g e = by tail

@@ -3,7 +3,6 @@
 //   run_over(e, i)        == the pass from i on, up to a byte that is neither digit nor dot
 //   ended_address(state)  == the address that a pass over a whole text makes
 ghost use Rattle.std.specs.Prelude.{◌≡◌, false, ◌<◌, ◌≤◌, length, drop};
-ghost use Rattle.text.specs.Scan.{as_number};
 ghost use Rattle.address.specs.Fields.{ended_address, step_of, run_from};
 
 
@@ -86,7 +85,7 @@ pub fn run_over(e: &[u8], i: usize) -> Run
 pub fn ended_address(n: u32, k: u32, v: u32, begun: bool) -> Option<u32>
     requires n_bound { n < 16777216 }
     requires v_bound { v ≤ 255 }
-    ensures { result ≡ as_number (ended_address n k v begun) }
+    ensures { result ≡ ended_address n k v begun }
 {
     if begun & (k == 3) {
         return Some(n * 256 + v);

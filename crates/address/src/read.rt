@@ -5,8 +5,7 @@
 ghost use Rattle.std.specs.Prelude.{◌≡◌, ◌+◌, ◌-◌, ◌*◌, ◌^◌, ◌<◌, ◌≤◌, ltb, length, take, drop};
 ghost use Rattle.text.specs.Basics.{given};
 ghost use Rattle.text.specs.Text.{bytes};
-ghost use Rattle.text.specs.Scan.{as_number};
-ghost use Rattle.address.specs.Address.{read_v4, read_v6, read_groups, read_compressed, read_address, as_read};
+ghost use Rattle.address.specs.Address.{read_v4, read_v6, read_groups, read_compressed, read_address};
 ghost use Rattle.address.specs.Code.{number_of, words_of, hex_value, group_value, first_group, groups_from, reads_last, read_tail};
 ghost use Rattle.address.specs.Code.{side_parts, place_of, of_groups, as_v6};
 
@@ -31,7 +30,7 @@ struct Words {
 
 // The number of the IPv4 address that s writes: four fields, parted by dots.
 pub fn read_v4(s: &[u8]) -> Option<u32>
-    ensures { result ≡ as_number (read_v4 s.now) }
+    ensures { result ≡ read_v4 s.now }
 {
     let run = run_over(s, 0);
     match run {
@@ -64,7 +63,7 @@ fn hex_digit(b: u8) -> u32
 
 // The number of a group of one to four hex digits.
 fn read_group(s: &[u8]) -> Option<u32>
-    ensures { result ≡ as_number (group_value s.now) }
+    ensures { result ≡ group_value s.now }
 {
     if s.len() == 0 {
         return None;
@@ -269,7 +268,7 @@ pub fn read_v6(s: &[u8]) -> Option<(u64, u64)>
 
 // The address that s writes, of either kind.
 pub fn read_address(s: &[u8]) -> Result<Addr, Refusal>
-    ensures { result ≡ as_read (read_address s.now) }
+    ensures { result ≡ read_address s.now }
 {
     let v = read_v4(s);
     match v {

@@ -17,7 +17,7 @@ use lib.ListN.{length, take, drop, get_or, take-append-drop}
 use lib.Seq.{drop-cons, take_all}
 use Rattle.text.specs.Basics.{◌>>=◌, ◌or_else◌, any, all}
 use Rattle.text.specs.Text.{bytes, equal, is_digit, cons_first, split_once}
-use Rattle.text.specs.Scan.{span_len, as_number}
+use Rattle.text.specs.Scan.{span_len}
 use Rattle.text.proofs.ScanLaws.{take_rest}
 use Rattle.text.proofs.BasicLaws.{and_true, or_false}
 use Rattle.text.proofs.Intercalate.{any_between, free, free_all, append_first}
@@ -115,7 +115,7 @@ module _ (s : List ℕ) (r : Run) (is-r : r ≡ run_from 0 0 0 0 false s) where
   unfolding front_v4
   front_failed q = let e : read_v4 (take (address_end s) s) ≡ None = subst (Lands 0 (address_end s) (read_v4 (take (address_end s) s))) q landed_front in rw e
 
-  module _ (i n k v : ℕ) (d : Bool) (q : r ≡ R.At i n k v d) (a : Option ℕ) (is-a : a ≡ as_number (ended_address n k v d)) where
+  module _ (i n k v : ℕ) (d : Bool) (q : r ≡ R.At i n k v d) (a : Option ℕ) (is-a : a ≡ (ended_address n k v d)) where
     ended : (i ≡ 0 + address_end s) × (read_v4 (take (address_end s) s) ≡ ended_address n k v d)
     ended = subst (Lands 0 (address_end s) (read_v4 (take (address_end s) s))) q landed_front
 

@@ -12,7 +12,7 @@ use lib.ListN.{length, take, drop}
 use Rattle.text.specs.Basics.{when◌then◌else◌, ◌>>=◌, ◌or_else◌, holds, is_some, any}
 use Rattle.text.specs.Text.{bytes, split_once}
 use Rattle.text.specs.Number.{read_decimal}
-use Rattle.text.specs.Scan.{index_of, as_number}
+use Rattle.text.specs.Scan.{index_of}
 use Rattle.text.proofs.ScanLaws.{take_rest, split_once_mark, split_once_no_mark}
 use Rattle.address.specs.Address.{read_v4, read_v6}
 use Rattle.address.proofs.ReadLaws.{as_number_none, as_number_some}
@@ -56,7 +56,7 @@ module _ (f : List ℕ → Option ℕ) (s : List ℕ) (i : ℕ) (is-i : i ≡ in
   range_alone h v is_v e = rw (split_once_no_mark 45 s i is-i h) (alone_held f s n v r is_v e)
 
 -- one number of one word
-module _ (f : List ℕ → Option ℕ) (s : List ℕ) (i : ℕ) (is-i : i ≡ index_of 45 s) (n : ℕ) (h : length s ≤ i) (v : Option ℕ) (is_v : v ≡ as_number (f s)) where
+module _ (f : List ℕ → Option ℕ) (s : List ℕ) (i : ℕ) (is-i : i ≡ index_of 45 s) (n : ℕ) (h : length s ≤ i) (v : Option ℕ) (is_v : v ≡ (f s)) where
   pub one_nothing : v ≡ None → None ≡ membership (inside n) (read_range f s)
   unfolding read_range membership
   one_nothing e = rw (split_once_no_mark 45 s i is-i h, as_number_none (f s) (sym is_v ∙ e))
@@ -81,7 +81,7 @@ module _ (w : ℕ) (f : List ℕ → Option ℕ) (s : List ℕ) (i : ℕ) (is-i 
     net_mark a b e r q = q ∙ rw (take_rest s (i + 1), split_once_mark 47 s i is-i h, as_v6_some (f (take i s)) a b (sym is_v ∙ e))
 
   -- the same where the address was read as one word
-  module _ (h : i < length s) (v : Option ℕ) (is_v : v ≡ as_number (f (take i s))) where
+  module _ (h : i < length s) (v : Option ℕ) (is_v : v ≡ (f (take i s))) where
     pub word_nothing : v ≡ None → None ≡ membership (inside n) (read_net w f s)
     unfolding read_net membership
     word_nothing e = rw (split_once_mark 47 s i is-i h, as_number_none (f (take i s)) (sym is_v ∙ e))
@@ -150,13 +150,13 @@ module _ (s : List ℕ) (i : ℕ) (is-i : i ≡ index_of 44 s) where
   unfolding ports_of
   ports_no_mark h = rw (split_once_no_mark 44 s i is-i h)
 
-  module _ (h : i < length s) (x : Option ℕ) (is_x : x ≡ as_number (read_decimal 65535 (take i s))) where
+  module _ (h : i < length s) (x : Option ℕ) (is_x : x ≡ (read_decimal 65535 (take i s))) where
     pub ports_no_min : x ≡ None → false ≡ holds in_order (ports_of s)
     unfolding ports_of ends_of
     ports_no_min e = rw (split_once_mark 44 s i is-i h, as_number_none (read_port (take i s)) (sym is_x ∙ e))
 
-    module _ (low : ℕ) (e : x ≡ Some low) (y : Option ℕ) (is_y : y ≡ as_number (read_decimal 65535 (rest s i))) where
-      after_mark : y ≡ as_number (read_port (drop (i + 1) s))
+    module _ (low : ℕ) (e : x ≡ Some low) (y : Option ℕ) (is_y : y ≡ (read_decimal 65535 (rest s i))) where
+      after_mark : y ≡ read_port (drop (i + 1) s)
       after_mark = is_y ∙ rw (take_rest s (i + 1))
 
       pub ports_no_max : y ≡ None → false ≡ holds in_order (ports_of s)

@@ -13,7 +13,6 @@ use lib.Pow.{pow_pos}
 use Rattle.text.specs.Basics.{◌>>=◌}
 use Rattle.text.specs.Text.{in_range}
 use Rattle.text.specs.Number.{read_decimal}
-use Rattle.text.specs.Scan.{as_number}
 use Rattle.address.specs.Address.{same_prefix}
 use Rattle.address.specs.Code.{as_v6}
 use Rattle.address.proofs.ReadLaws.{read_decimal_le, as_number_none, as_number_some}
@@ -95,12 +94,12 @@ unfolding membership inside
 inside_one m n = ap Some (eqb_range m n)
 
 -- the same of numbers of one word
-module _ (f : List ℕ → Option ℕ) (x y : List ℕ) (n : ℕ) (v : Option ℕ) (is_v : v ≡ as_number (f x)) where
+module _ (f : List ℕ → Option ℕ) (x y : List ℕ) (n : ℕ) (v : Option ℕ) (is_v : v ≡ (f x)) where
   pub ends_no_min : v ≡ None → None ≡ membership (inside n) (ends_of f x y)
   unfolding membership ends_of
   ends_no_min e = rw (as_number_none (f x) (sym is_v ∙ e))
 
-  module _ (min : ℕ) (e : v ≡ Some min) (w : Option ℕ) (is-w : w ≡ as_number (f y)) where
+  module _ (min : ℕ) (e : v ≡ Some min) (w : Option ℕ) (is-w : w ≡ (f y)) where
     pub ends_no_max : w ≡ None → None ≡ membership (inside n) (ends_of f x y)
     unfolding membership ends_of
     ends_no_max q = rw (as_number_some (f x) min (sym is_v ∙ e), as_number_none (f y) (sym is-w ∙ q))
@@ -145,7 +144,7 @@ module _ (k n a : ℕ) (clear : n % 2 ^ k ≡ 0) where
           rw (ne_eqb (n / size) (a / size) (λ e. omega arith), lt-leb n a (omega (arith, first, split_at.1, next (a / size) (n / size) h)))
 
 -- the net of n, of w bits, with its length in t
-module _ (w n a : ℕ) (t : List ℕ) (v : Option ℕ) (is_v : v ≡ as_number (read_decimal w t)) where
+module _ (w n a : ℕ) (t : List ℕ) (v : Option ℕ) (is_v : v ≡ (read_decimal w t)) where
   pub len_nothing : v ≡ None → None ≡ membership (inside a) (net_from w n t)
   unfolding net_from membership
   len_nothing e = rw (as_number_none (read_decimal w t) (sym is_v ∙ e))

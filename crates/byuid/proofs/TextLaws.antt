@@ -16,12 +16,11 @@ use Rattle.text.specs.Scan.{index_of}
 use Rattle.text.proofs.ScanLaws.{take_rest, split_mark, split_no_mark}
 use Rattle.section.specs.declared.Fault.TheVariants as F
 use Rattle.section.specs.declared.Refusal.{Refusal}
-use Rattle.section.specs.Refusal.{refusal, placeless, fitting}
+use Rattle.section.specs.Refusal.{refusal, placeless, fitting, refusing}
 use Rattle.address.specs.declared.Addr.{Addr}
 use Rattle.address.specs.declared.Addr.TheVariants as A
 use Rattle.byuid.specs.Byuid.{line_grants, is_retired, retired_fault, byuid_fault, is_ruled, in_span, byuid_decision, bind, file_bind, address_known, decide_byuid}
-use Rattle.byuid.specs.Byuid.{byuid_ruling}
-use Rattle.byuid.specs.Code.{look_of, walk, checked_of, searched_for, decision_by, answer_by}
+use Rattle.byuid.specs.Code.{look_of, walk, searched_for, decision_by, answer_by}
 use Rattle.byuid.specs.declared.Decision.{Decision}
 use Rattle.byuid.specs.declared.Decision.TheVariants.{NotRuled, Granted, NoLine}
 use Rattle.byuid.specs.declared.Mark.{Mark}
@@ -144,14 +143,14 @@ module _ (t : List ℕ) (a : Addr) (p : ℕ) (w : Result Bool ℕ) (is-w : w ≡
     fault_retired : byuid_fault t ≡ Some r
     fault_retired = byuid_fault_walk ∙ rw (e, is-r)
 
-    pub check_retired : Err r ≡ checked_of (byuid_fault t)
+    pub check_retired : Err r ≡ refusing (byuid_fault t) tt
     check_retired = rw fault_retired
 
   module _ (g : Bool) (e : w ≡ Ok g) where
     fault_none : byuid_fault t ≡ None
     fault_none = byuid_fault_walk ∙ rw e
 
-    pub check_sound : (Ok tt) ≡ checked_of (byuid_fault t)
+    pub check_sound : (Ok tt) ≡ refusing (byuid_fault t) tt
     check_sound = rw fault_none
 
     granting : g ≡ any (line_grants a p) (split "\n" t)
@@ -215,14 +214,14 @@ decided t m p addr uid = by (is_ruled p uid) (in_span m p)
 -- the same for an address of any kind
 answered_by : (t : List ℕ) (m : Mark) (p : ℕ) (addr : Addr) (uid : ℕ)
     → answer_by p addr uid (any (line_grants (searched_for m p addr uid) p) (split "\n" t))
-    ≡ byuid_ruling (fitting address_known (Some (file_bind m (bind p addr uid))) (λ b. Ok (byuid_decision t m p addr uid)))
+    ≡ fitting address_known (Some (file_bind m (bind p addr uid))) (λ b. Ok (byuid_decision t m p addr uid))
 answered_by t m p A.Unknown uid = refl
 answered_by t m p (A.V4 n) uid = ap Ok (decided t m p (A.V4 n) uid)
 answered_by t m p (A.V6 a b) uid = ap Ok (decided t m p (A.V6 a b) uid)
 
 module _ (t : List ℕ) (m : Mark) (p : ℕ) (addr : Addr) (uid : ℕ) (x : Bool) (is_x : x ≡ ltb 8192 (length t)) where
   abbrev ruling : Result Decision Refusal
-  ruling = byuid_ruling (decide_byuid t (Some (file_bind m (bind p addr uid))))
+  ruling = decide_byuid t (Some (file_bind m (bind p addr uid)))
 
   pub over_limit_lem : x ≡ true → (r : Refusal) → r ≡ refusal F.OverLimit 3 0 → Err r ≡ ruling
   unfolding decide_byuid

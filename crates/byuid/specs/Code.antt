@@ -14,7 +14,6 @@
 --   walk a p n g ls      == what the walk over the lines ls, the first of number n, finds, where g says whether a line before grants
 --   searched_for m p a uid == the address that the lines of a file are held against
 --   decision_by, answer_by == the decision, and the answer, where it is known whether a line grants
---   checked_of o          == o as the code answers it
 -- Assumes nothing: these are definitions.
 use Rattle.std.specs.Prelude.{ℕ, ◌+◌, ◌-◌, ◌*◌, ◌%◌, ◌^◌, Bool, false, not, ◌&&◌, ◌||◌, List, [], ◌∷◌, eqb, leb, ltb, length, take, Err, None, Ok, Option, Result, Some}
 use Rattle.text.specs.Basics.{when◌then◌else◌, ◌>>=◌, given}
@@ -120,10 +119,6 @@ look_of a p l = when is_retired l then None else Some (line_grants a p l)
 unfoldable pub walk : Addr → ℕ → ℕ → Bool → List (List ℕ) → Result Bool ℕ
 walk a p n g [] = Ok g
 walk a p n g (l ∷ ls) = when is_retired l then Err n else walk a p (n + 1) (g || line_grants a p l) ls
-
-abbrev pub checked_of : Option Refusal → Result Unit Refusal
-checked_of None = Ok tt
-checked_of (Some r) = Err r
 
 -- ## The decision
 

@@ -5,9 +5,10 @@
 #![tactic(auto)]
 
 ghost use Rattle.std.specs.Prelude.{false, ◌≡◌};
+ghost use Rattle.section.specs.Refusal.{refusing};
 ghost use Rattle.text.specs.Text.{split};
-ghost use Rattle.byuid.specs.Byuid.{is_ruled, in_span, byuid_fault, bind, file_bind, decide_byuid, byuid_ruling};
-ghost use Rattle.byuid.specs.Code.{checked_of, walk, searched_for, decision_by, answer_by};
+ghost use Rattle.byuid.specs.Byuid.{is_ruled, in_span, byuid_fault, bind, file_bind, decide_byuid};
+ghost use Rattle.byuid.specs.Code.{walk, searched_for, decision_by, answer_by};
 
 use address::Addr;
 use section::{Fault, Refusal};
@@ -53,7 +54,7 @@ fn walk_lines(text: &[u8], addr: Addr, port: u16) -> Result<bool, usize>
 
 // The refusal of the first line of the retired form.
 pub fn check(text: &[u8]) -> Result<(), Refusal>
-    ensures { result ≡ checked_of (byuid_fault text.now) }
+    ensures { result ≡ refusing (byuid_fault text.now) tt }
 {
     match walk_lines(text, Addr::Unknown, 0) {
         Err(number) => Err(section::Byuid::refusal(
@@ -119,7 +120,7 @@ fn answer_by(port: u16, addr: Addr, uid: u32, granted: bool) -> Result<Decision,
 
 // Whether a caller may bind a port at an address, by the lines of a text from one of the two files.
 pub fn decide(text: &[u8], mark: Mark, port: u16, addr: Addr, uid: u32) -> Result<Decision, Refusal>
-    ensures { result ≡ byuid_ruling (decide_byuid text.now (Some (file_bind mark (bind port addr uid)))) }
+    ensures { result ≡ decide_byuid text.now (Some (file_bind mark (bind port addr uid))) }
 {
     if section::Byuid::over(text.len()) {
         return Err(section::Byuid::refusal(Fault::OverLimit, 0));

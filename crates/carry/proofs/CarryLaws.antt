@@ -13,12 +13,12 @@ use Rattle.text.specs.Basics.{when◌then◌else◌, holds, any}
 use Rattle.text.specs.Scan.{after}
 use Rattle.section.specs.declared.Fault.TheVariants as F
 use Rattle.section.specs.declared.Refusal.{Refusal}
-use Rattle.section.specs.Refusal.{Outcome, refusal, placeless, within_rooms, first_after, second_after, written_two_of}
+use Rattle.section.specs.Refusal.{Outcome, refusal, placeless, within_rooms, first_after, second_after, written_two_of, refusing}
 use Rattle.section.specs.Section as S
 use Rattle.portacl.specs.declared.Protocol.{Protocol}
 use Rattle.portacl.specs.declared.Protocol.TheVariants.{Tcp, Udp}
 use Rattle.portacl.specs.Portacl.{bind, entries, portacl_fault}
-use Rattle.portacl.specs.Code.{checked_of, entries_data, notes}
+use Rattle.portacl.specs.Code.{entries_data, notes}
 use Rattle.portacl.proofs.NoteLaws.{notes_here}
 use Rattle.portacl.proofs.DecideLaws.{checked_of_refused, checked_of_sound}
 use Rattle.carry.specs.Carry.{has_entry, carried, port_lines, span_lines, plain_text, marked_text, carry}
@@ -92,7 +92,7 @@ module _ (t : List ℕ) (uid : ℕ) (d e : List ℕ) (o : Bool) (is-o : o ≡ lt
   unfolding carry
   carry_over h r is-r = (rw (← is-o, h, is-r), (rw (← is-o, h), rw (← is-o, h)))
 
-  module _ (h : o ≡ false) (c : Result Unit Refusal) (is_c : c ≡ checked_of (portacl_fault t)) where
+  module _ (h : o ≡ false) (c : Result Unit Refusal) (is_c : c ≡ refusing (portacl_fault t) tt) where
     pub carry_bad : (r : Refusal) → c ≡ Err r → Did d e outcome (Err r) d e
     unfolding carry
     carry_bad r q =

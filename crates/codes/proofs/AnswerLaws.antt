@@ -9,7 +9,6 @@ use Rattle.section.specs.declared.Refusal.{Refusal}
 use Rattle.section.specs.Refusal.{Outcome, ◌>>=◌, written_of, lent_after}
 use Rattle.address.specs.declared.Addr.{Addr}
 use Rattle.address.specs.declared.Addr.TheVariants as A
-use Rattle.address.specs.Address.{as_read}
 use Rattle.rules.specs.declared.Answer.{Answer}
 use Rattle.rules.specs.declared.Reported.{Reported}
 use Rattle.rules.specs.Looked.{reported}
@@ -23,9 +22,7 @@ use Rattle.authbind.specs.declared.Next.{Next}
 use Rattle.authbind.specs.declared.Next.TheVariants as N
 use Rattle.authbind.specs.Authbind as Authbind
 use Rattle.matters.specs.declared.Place.{Place}
-use Rattle.matters.specs.Matters.{matter_of}
 use Rattle.sheet.specs.declared.Parts.{Parts}
-use Rattle.sheet.specs.Sheet.{unpacked_of}
 use Rattle.codes.specs.declared.GateAnswer.{GateAnswer}
 use Rattle.codes.specs.declared.GateCheck.{GateCheck}
 use Rattle.codes.specs.declared.GateCommand.{GateCommand}
@@ -78,7 +75,7 @@ pub matter_settled : (m : Result (Option Place) Refusal) (p : Place) (a : GateAn
 unfolding matter_numbers
 matter_settled m p a e f = rw e f
 
-pub matter_numbers_lem : (o : Outcome (Option Place)) (m : Result (Option Place) Refusal) (a : GateAnswer) → m ≡ matter_of o → a ≡ matter_numbers m → a ≡ matters_answer o
+pub matter_numbers_lem : (o : Outcome (Option Place)) (m : Result (Option Place) Refusal) (a : GateAnswer) → m ≡ o → a ≡ matter_numbers m → a ≡ matters_answer o
 unfolding matter_numbers matters_answer
 matter_numbers_lem (Err r) m a e f = rw e at f
 matter_numbers_lem (Ok None) m a e f = rw e at f
@@ -88,12 +85,12 @@ pub parts_found : (x : Result Parts Refusal) (p : Parts) (a : GateParts) → x �
 unfolding parts_numbers
 parts_found x p a e f = rw e f
 
-pub check_numbers_lem : (o : Outcome Parts) (x : Result Parts Refusal) (a : GateCheck) → x ≡ unpacked_of o → a ≡ check_numbers x → a ≡ check_answer o
+pub check_numbers_lem : (o : Outcome Parts) (x : Result Parts Refusal) (a : GateCheck) → x ≡ o → a ≡ check_numbers x → a ≡ check_answer o
 unfolding check_numbers check_answer
 check_numbers_lem (Err r) x a e f = rw e at f
 check_numbers_lem (Ok p) x a e f = rw e at f
 
-pub parts_numbers_lem : (o : Outcome Parts) (x : Result Parts Refusal) (a : GateParts) → x ≡ unpacked_of o → a ≡ parts_numbers x → a ≡ parts_answer o
+pub parts_numbers_lem : (o : Outcome Parts) (x : Result Parts Refusal) (a : GateParts) → x ≡ o → a ≡ parts_numbers x → a ≡ parts_answer o
 unfolding parts_numbers parts_answer
 parts_numbers_lem (Err r) x a e f = rw e at f
 parts_numbers_lem (Ok p) x a e f = rw e at f
@@ -117,7 +114,7 @@ pub written_two_counts : (x : Result (ℕ × ℕ) Refusal) (n m : ℕ) → x ≡
 unfolding written_two_numbers
 written_two_counts x n m e = rw e
 
-pub read_numbers_lem : (o : Outcome Addr) (x : Result Addr Refusal) (a : GateAddress) → x ≡ as_read o → a ≡ read_numbers x → a ≡ address_answer o
+pub read_numbers_lem : (o : Outcome Addr) (x : Result Addr Refusal) (a : GateAddress) → x ≡ o → a ≡ read_numbers x → a ≡ address_answer o
 unfolding read_numbers address_answer
 read_numbers_lem (Err r) x a e f = rw e at f
 read_numbers_lem (Ok b) x a e f = rw e at f

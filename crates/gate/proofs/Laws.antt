@@ -15,7 +15,7 @@ use Rattle.section.specs.Refusal.{Outcome, placeless, ◌>>=◌, at_place, lowes
 use Rattle.section.proofs.RefusalLaws.{fitting_same}
 use Rattle.address.specs.declared.Addr.{Addr}
 use Rattle.address.specs.declared.Addr.TheVariants as A
-use Rattle.address.specs.Address.{as_read, read_address, write_address}
+use Rattle.address.specs.Address.{read_address, write_address}
 use Rattle.elements.specs.declared.request.Request.{Request as Places}
 use Rattle.elements.specs.Request.{Request, well_formed, held}
 use Rattle.elements.specs.Places.{request_at}
@@ -43,7 +43,7 @@ use Rattle.portacl.specs.Portacl.{portacl_fault, portacl_decision, decide_portac
 use Rattle.sheet.specs.declared.Parts.{Parts}
 use Rattle.sheet.specs.Sheet.{unpack}
 use Rattle.matters.specs.declared.Place.{Place}
-use Rattle.matters.specs.Matters.{settled, matters_over, name_matters, name_matters_tables, name_matters_sheet, matter_of}
+use Rattle.matters.specs.Matters.{settled, matters_over, name_matters, name_matters_tables, name_matters_sheet}
 use Rattle.station.specs.Station.{in_sheet, decide_sheet, looked_in, looked_sheet, decide_byuid_sheet, decide_portacl_sheet}
 use Rattle.codes.specs.declared.GateAddress.{GateAddress}
 use Rattle.codes.specs.declared.GateAnswer.{GateAnswer}
@@ -126,7 +126,7 @@ module _ (names : List ℕ) (q : Places) (n : RequestNumbers)
   over_matters ts allow deny =
       fitting_same well_formed (λ r. Ok (settled (match_of ts) allow deny (held r))) (Some (request_at names q)) (request n) same
 
-  pub matters_by : (allow deny : List ℕ) (m : Result (Option Place) Refusal) (a : GateAnswer) → m ≡ matter_of (name_matters allow deny (Some (request_at names q)))
+  pub matters_by : (allow deny : List ℕ) (m : Result (Option Place) Refusal) (a : GateAnswer) → m ≡ name_matters allow deny (Some (request_at names q))
       → a ≡ matter_numbers m → a ≡ matters_answer (name_matters allow deny (request n))
   unfolding name_matters
   matters_by allow deny m a e f =
@@ -134,7 +134,7 @@ module _ (names : List ℕ) (q : Places) (n : RequestNumbers)
       ∙ ap₂ (λ (x : Outcome Answer) (y : Outcome (Option Place)). matters_answer (x >>= λ b. y)) (decide_read allow deny) (over_matters [] allow deny)
 
   pub tables_matters_by : (allow deny tables : List ℕ) (m : Result (Option Place) Refusal) (a : GateAnswer)
-      → m ≡ matter_of (name_matters_tables allow deny tables (Some (request_at names q)))
+      → m ≡ name_matters_tables allow deny tables (Some (request_at names q))
       → a ≡ matter_numbers m → a ≡ matters_answer (name_matters_tables allow deny tables (request n))
   unfolding name_matters_tables
   tables_matters_by allow deny tables m a e f =
@@ -142,7 +142,7 @@ module _ (names : List ℕ) (q : Places) (n : RequestNumbers)
       ∙ ap₂ (λ (x : Outcome Answer) (y : Outcome (Option Place)). matters_answer (x >>= λ b. y))
       (tables_read_lem allow deny tables) (over_matters (tables_of tables) allow deny)
 
-  pub sheet_matters_by : (sheet : List ℕ) (m : Result (Option Place) Refusal) (a : GateAnswer) → m ≡ matter_of (name_matters_sheet sheet (Some (request_at names q)))
+  pub sheet_matters_by : (sheet : List ℕ) (m : Result (Option Place) Refusal) (a : GateAnswer) → m ≡ name_matters_sheet sheet (Some (request_at names q))
       → a ≡ matter_numbers m → a ≡ matters_answer (name_matters_sheet sheet (request n))
   unfolding name_matters_sheet
   sheet_matters_by sheet m a e f =
@@ -329,7 +329,7 @@ module _ (uid protocol port : ℕ) (s : Settings) (groups groups' : List ℕ) (x
 
 -- ## Addresses
 
-pub read_by : (text : List ℕ) (x : Result Addr Refusal) (a : GateAddress) → x ≡ as_read (read_address text) → a ≡ read_numbers x → a ≡ address_answer (read_address text)
+pub read_by : (text : List ℕ) (x : Result Addr Refusal) (a : GateAddress) → x ≡ read_address text → a ≡ read_numbers x → a ≡ address_answer (read_address text)
 read_by text x a e f = read_numbers_lem _ x a e f
 
 module _ (kind high low : ℕ) (out : List ℕ) (b : Bool) (is_b : b ≡ is_some (address_of kind high low)) where

@@ -52,7 +52,7 @@ use Rattle.codes.specs.Code.{states_of, with_names, verdict_numbers}
 use Rattle.codes.proofs.RequestLaws.{request_taken}
 use Rattle.index.specs.declared.requests.Fields.{Fields}
 use Rattle.index.specs.Index.{two_bytes, answer_bytes, lone_answer, answers_to, parted, read_requests}
-use Rattle.index.specs.Code.{searched_at, fields_at, request_read_of, numbers_in, known_part, user_part, named_at, found_numbers, unfit_numbers, Ready, all_answers}
+use Rattle.index.specs.Code.{searched_at, fields_at, numbers_in, known_part, user_part, named_at, found_numbers, unfit_numbers, Ready, all_answers}
 use Rattle.index.specs.Code.{Fitting}
 use Rattle.index.proofs.TableLaws.{length_two, Two, Wrote, two_wrote, wrote_more}
 use Rattle.index.proofs.RequestLaws.{parted_empty, parted_none, and_then, parted_cut, parted_more}
@@ -312,7 +312,7 @@ module _ (sheet : List ℕ) (all : Option (List RequestNumbers)) (d o : List ℕ
   pub answering_text : length rest ≤ 0 → o ≡ after (all_answers sheet all) d
   answering_text h = w.text ∙ ap (λ (s : List ℕ). after s d) (sym (all_done h))
 
-  module _ (h : 0 < length rest) (x : Option Fields) (is_x : x ≡ request_read_of (fields_at rest)) where
+  module _ (h : 0 < length rest) (x : Option Fields) (is_x : x ≡ (fields_at rest)) where
     no_cut : x ≡ None → ⊥
     no_cut e = by w.most w.parts_left
       where

@@ -23,7 +23,7 @@ use Rattle.section.specs.declared.Refusal.{Refusal}
 use Rattle.section.specs.Refusal.{Outcome, ◌before◌, placeless, within_room, written_of, lent_after}
 use Rattle.tables.proofs.EntryLaws.{some_same}
 use Rattle.sheet.specs.declared.Parts.{Parts}
-use Rattle.sheet.specs.Sheet.{unpack, unpacked_of}
+use Rattle.sheet.specs.Sheet.{unpack}
 use Rattle.sheet.proofs.FrameLaws.{bind_answered, refusing_answered}
 use Rattle.sheet.proofs.UnpackLaws.{unpacked_refused, unpacked_parts}
 use Rattle.codes.specs.Requests.{RequestNumbers}
@@ -33,7 +33,7 @@ use Rattle.index.proofs.AnswerLaws.{length_answer, length_answers}
 
 -- ## Writing the index
 
-module _ (sheet : List ℕ) (x : Result Parts Refusal) (is_x : x ≡ unpacked_of (unpack sheet)) where
+module _ (sheet : List ℕ) (x : Result Parts Refusal) (is_x : x ≡ (unpack sheet)) where
   module _ (g : Refusal) (e : x ≡ Err g) where
     not_unpacked : unpack sheet ≡ Err g
     not_unpacked = unpacked_refused (unpack sheet) g (sym is_x ∙ e)

@@ -55,7 +55,7 @@ use Rattle.index.specs.declared.search.Seeking.{Seeking}
 use Rattle.index.specs.Index.{range, rules_at, two_bytes, entry_bytes, table_bytes}
 use Rattle.index.specs.Code.{number_from, range_at, entry_at, SmallRange, Small, AllSmall, Table, between, joined_list, list_at, command_start, command_text}
 use Rattle.index.specs.Code.{entry_command, joins_in, entry_rule}
-use Rattle.index.specs.Code.{rule_answer_at, entry_answer, entry_looked, sought_of, seeking, seek_in, ended_by, seek_then, seek_both}
+use Rattle.index.specs.Code.{rule_answer_at, entry_answer, entry_looked, seeking, seek_in, ended_by, seek_then, seek_both}
 use Rattle.index.proofs.TableLaws.{length_two, length_entry}
 
 -- ## Numbers
@@ -284,23 +284,23 @@ module _ (sheet : List ℕ) (e : Entry) (p : ℕ) (is-p : p ≡ command_start e)
   command_full h = ap (λ (c : Bool). part p (when c then 0 else length u)) (sym h) ∙ command_is
 
 module _ (sheet : List ℕ) (base : ℕ) (v : Verdict) (f : File) (e : Entry) (x : Found) where
-  pub answers_no : x ≡ Found.No → None ≡ sought_of (rule_answer_at sheet base v f e x)
+  pub answers_no : x ≡ Found.No → None ≡ rule_answer_at sheet base v f e x
   answers_no h = rw h
 
-  pub answers_ask : x ≡ Found.Ask → Some (answer Ver.Ask f e.lines.start (part base 0)) ≡ sought_of (rule_answer_at sheet base v f e x)
+  pub answers_ask : x ≡ Found.Ask → Some (answer Ver.Ask f e.lines.start (part base 0)) ≡ rule_answer_at sheet base v f e x
   answers_ask h = rw h
 
   pub answers_yes : x ≡ Found.Yes → (c : Part) → c ≡ entry_command sheet e
-      → Some (answer v f e.lines.start c) ≡ sought_of (rule_answer_at sheet base v f e x)
+      → Some (answer v f e.lines.start c) ≡ rule_answer_at sheet base v f e x
   answers_yes h c is_c = rw (h, is_c)
 
 -- ## The loop over the entries
 
-sought_some : (o : Option Answer) (a : Answer) → sought_of o ≡ Some a → o ≡ Some a
+sought_some : (o : Option Answer) (a : Answer) → o ≡ Some a → o ≡ Some a
 sought_some None a e = let z : ◌≡◌ {A = ℕ} 0 1 = cc in absurd (omega arith)
 sought_some (Some b) a e = cc
 
-sought_none : (o : Option Answer) → sought_of o ≡ None → o ≡ None
+sought_none : (o : Option Answer) → o ≡ None → o ≡ None
 sought_none None e = refl
 sought_none (Some b) e = let z : ◌≡◌ {A = ℕ} 0 1 = cc in absurd (omega arith)
 
@@ -382,7 +382,7 @@ module _ (sheet : List ℕ) (base : ℕ) (v : Verdict) (f : File) (q : Query) wh
 
       module _ (e : Entry) (is-e : e ≡ entry_at rest) (x : Looked)
           (is_x : x ≡ looked_for (query_found q (entry_rule sheet e)) (capped (query_looked q (entry_rule sheet e))))
-          (n : ℕ) (is-n : n ≡ capped (k + x.looked)) (o : Option Answer) (is-o : o ≡ sought_of (rule_answer_at sheet base v f e x.found)) where
+          (n : ℕ) (is-n : n ≡ capped (k + x.looked)) (o : Option Answer) (is-o : o ≡ (rule_answer_at sheet base v f e x.found)) where
         is_head : e ≡ head
         is_head = is-e ∙ head_is
 

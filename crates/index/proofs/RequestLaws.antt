@@ -27,8 +27,8 @@ use Rattle.codes.specs.Requests.{RequestNumbers, host_numbers, request_numbers}
 use Rattle.index.specs.declared.requests.HostFields.{HostFields}
 use Rattle.index.specs.declared.requests.Fields.{Fields}
 use Rattle.index.specs.Index.{cut, number_at, read_text, read_host, read_request, parted, read_requests}
-use Rattle.index.specs.Code.{number_from, text_at, text_read_of, numbers_at, host_fields, host_at, host_read_of, fields_of, user_from, hosts_from, fields_at}
-use Rattle.index.specs.Code.{request_read_of, counted_of, numbers_in}
+use Rattle.index.specs.Code.{number_from, text_at, numbers_at, host_fields, host_at, fields_of, user_from, hosts_from, fields_at}
+use Rattle.index.specs.Code.{counted_of, numbers_in}
 
 -- ## Numbers
 
@@ -75,24 +75,24 @@ one_byte s at h =
 -- ## A text
 
 module _ (t : List ℕ) (at : ℕ) where
-  pub text_past : length t ≤ at → None ≡ text_read_of (text_at at t)
+  pub text_past : length t ≤ at → None ≡ text_at at t
   unfolding text_at
   text_past h = rw (le-leb (length t) at h)
 
   module _ (h : at < length t) (n : ℕ) (is-n : n ≡ get_or t at 0) where
-    pub text_cut : length t - at ≤ n → None ≡ text_read_of (text_at at t)
+    pub text_cut : length t - at ≤ n → None ≡ text_at at t
     unfolding text_at
     text_cut k = rw (lt-leb (length t) at h, ← is-n, le-leb (length t - at) n k)
 
-    pub text_whole : n < length t - at → Some (part (at + 1) n) ≡ text_read_of (text_at at t)
+    pub text_whole : n < length t - at → Some (part (at + 1) n) ≡ text_at at t
     unfolding text_at
     text_whole k = rw (lt-leb (length t) at h, ← is-n, lt-leb (length t - at) n k)
 
-text_none : (o : Option Part) → text_read_of o ≡ None → o ≡ None
+text_none : (o : Option Part) → o ≡ None → o ≡ None
 text_none None e = refl
 text_none (Some p) e = let z : ◌≡◌ {A = ℕ} 0 1 = cc in absurd (omega arith)
 
-text_some : (o : Option Part) (p : Part) → text_read_of o ≡ Some p → o ≡ Some p
+text_some : (o : Option Part) (p : Part) → o ≡ Some p → o ≡ Some p
 text_some None p e = let z : ◌≡◌ {A = ℕ} 0 1 = cc in absurd (omega arith)
 text_some (Some q) p e = cc
 
@@ -155,24 +155,24 @@ unfolding numbers_at
 numbers_read s at state kind high low is_state is-kind is_high is_low = rw (is_state, is-kind, is_high, is_low)
 
 module _ (t : List ℕ) (at : ℕ) where
-  pub host_short : length t - at < 18 → None ≡ host_read_of (host_at at t)
+  pub host_short : length t - at < 18 → None ≡ host_at at t
   unfolding host_at
   host_short h = rw (lt-ltb (length t - at) 18 h)
 
-  module _ (h : 18 ≤ length t - at) (x : Option Part) (is_x : x ≡ text_read_of (text_at (at + 18) t)) where
-    pub host_cut : x ≡ None → None ≡ host_read_of (host_at at t)
+  module _ (h : 18 ≤ length t - at) (x : Option Part) (is_x : x ≡ (text_at (at + 18) t)) where
+    pub host_cut : x ≡ None → None ≡ host_at at t
     unfolding host_at
     host_cut e = rw (le-ltb (length t - at) 18 h, text_none (text_at (at + 18) t) (sym is_x ∙ e))
 
-    pub host_whole : (p : Part) → x ≡ Some p → (n : HostNumbers) → n ≡ numbers_at at t → Some (host_fields n p) ≡ host_read_of (host_at at t)
+    pub host_whole : (p : Part) → x ≡ Some p → (n : HostNumbers) → n ≡ numbers_at at t → Some (host_fields n p) ≡ host_at at t
     unfolding host_at
     host_whole p e n is-n = rw (le-ltb (length t - at) 18 h, text_some (text_at (at + 18) t) p (sym is_x ∙ e), is-n)
 
-host_none : (o : Option HostFields) → host_read_of o ≡ None → o ≡ None
+host_none : (o : Option HostFields) → o ≡ None → o ≡ None
 host_none None e = refl
 host_none (Some p) e = let z : ◌≡◌ {A = ℕ} 0 1 = cc in absurd (omega arith)
 
-host_some : (o : Option HostFields) (p : HostFields) → host_read_of o ≡ Some p → o ≡ Some p
+host_some : (o : Option HostFields) (p : HostFields) → o ≡ Some p → o ≡ Some p
 host_some None p e = let z : ◌≡◌ {A = ℕ} 0 1 = cc in absurd (omega arith)
 host_some (Some q) p e = cc
 
@@ -244,25 +244,25 @@ host_within s at h e = by (ltb (length s - at) 18) (text_at (at + 18) s) refl e
 -- ## A request
 
 module _ (d : Part) (c s : HostFields) (t : List ℕ) where
-  pub user_past : length t ≤ part_end s.name → None ≡ request_read_of (user_from d c s t)
+  pub user_past : length t ≤ part_end s.name → None ≡ user_from d c s t
   unfolding user_from
   user_past h = rw (le-leb (length t) (part_end s.name) h)
 
-  module _ (h : part_end s.name < length t) (x : Option Part) (is_x : x ≡ text_read_of (text_at (part_end s.name + 1) t)) where
-    pub user_cut : x ≡ None → None ≡ request_read_of (user_from d c s t)
+  module _ (h : part_end s.name < length t) (x : Option Part) (is_x : x ≡ (text_at (part_end s.name + 1) t)) where
+    pub user_cut : x ≡ None → None ≡ user_from d c s t
     unfolding user_from
     user_cut e = rw (lt-leb (length t) (part_end s.name) h, text_none (text_at (part_end s.name + 1) t) (sym is_x ∙ e))
 
     pub user_whole : (p : Part) → x ≡ Some p → (u : ℕ) → u ≡ get_or t (part_end s.name) 0
-        → Some (fields_of d c s u p) ≡ request_read_of (user_from d c s t)
+        → Some (fields_of d c s u p) ≡ user_from d c s t
     unfolding user_from
     user_whole p e u is-u = rw (lt-leb (length t) (part_end s.name) h, text_some (text_at (part_end s.name + 1) t) p (sym is_x ∙ e), is-u)
 
     pub user_end : (p : Part) → x ≡ Some p → (m : ℕ) → length t < m → p.place + p.len < m
     user_end p e m h = omega (arith, (text_within t (part_end s.name + 1) p (text_some (text_at (part_end s.name + 1) t) p (sym is_x ∙ e))).1)
 
-module _ (d : Part) (t : List ℕ) (x : Option HostFields) (is_x : x ≡ host_read_of (host_at (part_end d) t)) where
-  pub hosts_cut : x ≡ None → None ≡ request_read_of (hosts_from d t)
+module _ (d : Part) (t : List ℕ) (x : Option HostFields) (is_x : x ≡ (host_at (part_end d) t)) where
+  pub hosts_cut : x ≡ None → None ≡ hosts_from d t
   unfolding hosts_from
   hosts_cut e = rw (host_none (host_at (part_end d) t) (sym is_x ∙ e))
 
@@ -276,8 +276,8 @@ module _ (d : Part) (t : List ℕ) (x : Option HostFields) (is_x : x ≡ host_re
     pub client_end : (m : ℕ) → length t < m → c.name.place + c.name.len < m
     client_end m h = omega (arith, client_within)
 
-    module _ (y : Option HostFields) (is_y : y ≡ host_read_of (host_at (part_end c.name) t)) where
-      pub hosts_cut_2 : y ≡ None → None ≡ request_read_of (hosts_from d t)
+    module _ (y : Option HostFields) (is_y : y ≡ (host_at (part_end c.name) t)) where
+      pub hosts_cut_2 : y ≡ None → None ≡ hosts_from d t
       unfolding hosts_from
       hosts_cut_2 f = rw (client_is, host_none (host_at (part_end c.name) t) (sym is_y ∙ f))
 
@@ -288,12 +288,12 @@ module _ (d : Part) (t : List ℕ) (x : Option HostFields) (is_x : x ≡ host_re
         pub server_within : part_end s.name ≤ length t
         server_within = host_within t (part_end c.name) s server_is
 
-        pub hosts_both : (r : Option Fields) → r ≡ request_read_of (user_from d c s t) → r ≡ request_read_of (hosts_from d t)
+        pub hosts_both : (r : Option Fields) → r ≡ user_from d c s t → r ≡ hosts_from d t
         unfolding hosts_from
         hosts_both r is-r = is-r ∙ sym (rw (client_is, server_is))
 
-module _ (t : List ℕ) (x : Option Part) (is_x : x ≡ text_read_of (text_at 0 t)) where
-  pub request_cut : x ≡ None → None ≡ request_read_of (fields_at t)
+module _ (t : List ℕ) (x : Option Part) (is_x : x ≡ (text_at 0 t)) where
+  pub request_cut : x ≡ None → None ≡ fields_at t
   unfolding fields_at
   request_cut e = rw (text_none (text_at 0 t) (sym is_x ∙ e))
 
@@ -304,7 +304,7 @@ module _ (t : List ℕ) (x : Option Part) (is_x : x ≡ text_read_of (text_at 0 
     pub daemon_within : part_end d ≤ length t
     daemon_within = (text_within t 0 d daemon_is).1
 
-    pub request_whole : (r : Option Fields) → r ≡ request_read_of (hosts_from d t) → r ≡ request_read_of (fields_at t)
+    pub request_whole : (r : Option Fields) → r ≡ hosts_from d t → r ≡ fields_at t
     unfolding fields_at
     request_whole r is-r = is-r ∙ sym (rw daemon_is)
 
@@ -408,15 +408,15 @@ module _ (t : List ℕ) where
   fields_end f None e = let z : ◌≡◌ {A = ℕ} 0 1 = cc e in absurd (omega arith)
   fields_end f (Some d) e = hosts_end d f (host_at (part_end d) t) e
 
-request_none : (o : Option Fields) → request_read_of o ≡ None → o ≡ None
+request_none : (o : Option Fields) → o ≡ None → o ≡ None
 request_none None e = refl
 request_none (Some p) e = let z : ◌≡◌ {A = ℕ} 0 1 = cc in absurd (omega arith)
 
-request_some : (o : Option Fields) (p : Fields) → request_read_of o ≡ Some p → o ≡ Some p
+request_some : (o : Option Fields) (p : Fields) → o ≡ Some p → o ≡ Some p
 request_some None p e = let z : ◌≡◌ {A = ℕ} 0 1 = cc in absurd (omega arith)
 request_some (Some q) p e = cc
 
-module _ (t : List ℕ) (x : Option Fields) (is_x : x ≡ request_read_of (fields_at t)) (f : Fields) (e : x ≡ Some f) where
+module _ (t : List ℕ) (x : Option Fields) (is_x : x ≡ (fields_at t)) (f : Fields) (e : x ≡ Some f) where
   fields_are : fields_at t ≡ Some f
   fields_are = request_some (fields_at t) f (sym is_x ∙ e)
 
@@ -463,7 +463,7 @@ parted_cons_some k x t n u e = rw e (by (parted k u))
     by None = refl
     by (Some rs) = refl
 
-module _ (t : List ℕ) (h : 0 < length t) (k : ℕ) (x : Option Fields) (is_x : x ≡ request_read_of (fields_at t)) where
+module _ (t : List ℕ) (h : 0 < length t) (k : ℕ) (x : Option Fields) (is_x : x ≡ (fields_at t)) where
   pub parted_cut : x ≡ None → parted (suc k) t ≡ None
   parted_cut e = by t h (request_placed t ∙ ap (request_by t) (request_none (fields_at t) (sym is_x ∙ e)))
     where
@@ -513,7 +513,7 @@ module _ (bytes rest : List ℕ) (k : ℕ) (w : Parting bytes rest k) where
         let z : 32 - k ≡ 0 = omega arith in
         sym (w.same ∙ ap (λ (j : ℕ). counted_from k (parted j rest)) z ∙ ap (counted_from k) (parted_none rest h))
 
-    module _ (n : k ≡ 32 → ⊥) (x : Option Fields) (is_x : x ≡ request_read_of (fields_at rest)) where
+    module _ (n : k ≡ 32 → ⊥) (x : Option Fields) (is_x : x ≡ (fields_at rest)) where
       left_is : 32 - k ≡ suc (32 - (k + 1))
       left_is = omega (arith, w.few, n)
 

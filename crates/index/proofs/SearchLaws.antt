@@ -63,7 +63,7 @@ use Rattle.station.specs.Station.{file_place, in_sheet}
 use Rattle.index.specs.declared.Entry.{Entry}
 use Rattle.index.specs.declared.search.Seeking.{Seeking}
 use Rattle.index.specs.Index.{rule_table, rules_at, two_bytes, table_bytes, index_bytes}
-use Rattle.index.specs.Code.{number_from, AllSmall, Table, sought_of, seeking, seek_in, ended_by, seek_then, seek_both, searched_at, Ready}
+use Rattle.index.specs.Code.{number_from, AllSmall, Table, seeking, seek_in, ended_by, seek_then, seek_both, searched_at, Ready}
 use Rattle.index.proofs.TableLaws.{length_two, length_table, rules_at_most, Two, Wrote, equal_append}
 use Rattle.index.proofs.EntryLaws.{number_of}
 use Rattle.index.proofs.TextLaws.{all_small, moved, in_file, Same, text_same}
@@ -185,7 +185,7 @@ module _ (sheet : List ℕ) (p : Parts) (ok : unpack sheet ≡ Ok p) where
         ∙ by of_allow_lem of_deny_lem refl refl (until Ver.Granted Allow g c al) (until Ver.Denied Deny g c de)
       where
         by : (x y : Option Answer) → of_allow_lem ≡ x → of_deny_lem ≡ y → (n m : ℕ)
-            → seek_then (sought_of (in_file p.allow.place x)) (capped n) (seeking (in_file p.deny.place y) (capped m))
+            → seek_then (in_file p.allow.place x) (capped n) (seeking (in_file p.deny.place y) (capped m))
             ≡ searched (in_sheet p (unwrap_or (x or_else y) end)) (capped (n + (when is_some x then 0 else m)))
         by (Some a) y e f n m =
             let z : n ≡ n + 0 = omega arith in

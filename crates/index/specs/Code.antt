@@ -175,12 +175,8 @@ entry_looked sheet q e = query_looked q (entry_rule sheet e)
 
 -- ## The search
 
-abbrev pub sought_of : Option Answer → Option Answer
-sought_of None = None
-sought_of (Some a) = Some a
-
 abbrev pub seeking : Option Answer → ℕ → Seeking
-seeking o n = record { sought = sought_of o; looked = n }
+seeking o n = record { sought = o; looked = n }
 
 unfoldable pub seek_in : List ℕ → ℕ → Verdict → File → Query → List Entry → Seeking
 seek_in sheet base v f q es =
@@ -223,10 +219,6 @@ text_at at t =
     else when leb (length t - at) (get_or t at 0) then None
     else Some (part (at + 1) (get_or t at 0))
 
-abbrev pub text_read_of : Option Part → Option Part
-text_read_of None = None
-text_read_of (Some p) = Some p
-
 unfoldable pub numbers_at : ℕ → List ℕ → HostNumbers
 numbers_at at t = host_numbers (get_or t at 0) (get_or t (at + 1) 0) (number_at (at + 2) 8 t) (number_at (at + 10) 8 t)
 
@@ -235,10 +227,6 @@ host_fields n p = record { numbers = n; name = p }
 
 unfoldable pub host_at : ℕ → List ℕ → Option HostFields
 host_at at t = when ltb (length t - at) 18 then None else (text_at (at + 18) t >>= λ name. Some (host_fields (numbers_at at t) name))
-
-abbrev pub host_read_of : Option HostFields → Option HostFields
-host_read_of None = None
-host_read_of (Some h) = Some h
 
 abbrev pub fields_of : Part → HostFields → HostFields → ℕ → Part → Fields
 fields_of d c s u n = record { daemon = d; client = c; server = s; user = u; user_name = n; end = part_end n }
@@ -258,10 +246,6 @@ unfoldable pub fields_at : List ℕ → Option Fields
 fields_at t = do
   d ← text_at 0 t
   hosts_from d t
-
-abbrev pub request_read_of : Option Fields → Option Fields
-request_read_of None = None
-request_read_of (Some f) = Some f
 
 abbrev pub counted_of : Option (List RequestNumbers) → Option ℕ
 counted_of None = None

@@ -3,7 +3,7 @@
 //   count_requests(bytes) == how many there are; none where there are more than 32, or they can't be parted
 ghost use Rattle.std.specs.Prelude.{◌≡◌, ◌+◌, ◌≤◌, ◌<◌, length, get_or};
 ghost use Rattle.index.specs.Index.{number_at, read_requests};
-ghost use Rattle.index.specs.Code.{number_from, text_at, text_read_of, numbers_at, host_at, host_read_of, user_from, hosts_from, fields_at, request_read_of};
+ghost use Rattle.index.specs.Code.{number_from, text_at, numbers_at, host_at, user_from, hosts_from, fields_at};
 ghost use Rattle.index.specs.Code.{counted_of};
 
 use codes::request::HostNumbers;
@@ -36,7 +36,7 @@ fn byte_at(bytes: &[u8], at: usize) -> u8
 
 // The text after its count at a place.
 fn text_at(bytes: &[u8], at: usize) -> Option<Part>
-    ensures { result ≡ text_read_of (text_at at bytes.now) }
+    ensures { result ≡ text_at at bytes.now }
 {
     if bytes.len() <= at {
         return None;
@@ -89,7 +89,7 @@ fn numbers_at(bytes: &[u8], at: usize) -> HostNumbers
 // The host at a place.
 fn host_at(bytes: &[u8], at: usize) -> Option<HostFields>
     requires { at ≤ length bytes.now }
-    ensures { result ≡ host_read_of (host_at at bytes.now) }
+    ensures { result ≡ host_at at bytes.now }
 {
     if bytes.len() - at < 18 {
         return None;
@@ -106,7 +106,7 @@ fn host_at(bytes: &[u8], at: usize) -> Option<HostFields>
 // The fields of a request, read from its user on.
 fn user_from(bytes: &[u8], daemon: Part, client: HostFields, server: HostFields) -> Option<Fields>
     requires { server.name.place + server.name.len ≤ length bytes.now }
-    ensures { result ≡ request_read_of (user_from daemon client server bytes.now) }
+    ensures { result ≡ user_from daemon client server bytes.now }
 {
     let at = server.name.place + server.name.len;
     if bytes.len() <= at {
@@ -128,7 +128,7 @@ fn user_from(bytes: &[u8], daemon: Part, client: HostFields, server: HostFields)
 // The fields of a request, read from its client on.
 fn client_from(bytes: &[u8], daemon: Part) -> Option<Fields>
     requires { daemon.place + daemon.len ≤ length bytes.now }
-    ensures { result ≡ request_read_of (hosts_from daemon bytes.now) }
+    ensures { result ≡ hosts_from daemon bytes.now }
 {
     match host_at(bytes, daemon.place + daemon.len) {
         None => None,
@@ -141,7 +141,7 @@ fn client_from(bytes: &[u8], daemon: Part) -> Option<Fields>
 
 // The fields of the request that bytes begin with.
 pub fn request_at(bytes: &[u8]) -> Option<Fields>
-    ensures { result ≡ request_read_of (fields_at bytes.now) }
+    ensures { result ≡ fields_at bytes.now }
 {
     match text_at(bytes, 0) {
         None => None,

@@ -19,7 +19,7 @@ ghost use Rattle.tables.specs.Code.{tables_in};
 ghost use Rattle.station.specs.Station.{in_sheet};
 ghost use Rattle.index.specs.Index.{rules_at};
 ghost use Rattle.index.specs.Code.{range_at, entry_at, between, joined_list, list_at, entry_rule, command_start, entry_command, rule_answer_at, is_whole, is_other};
-ghost use Rattle.index.specs.Code.{Table, sought_of, seek_in, ended_by, seek_both, searched_at, Ready};
+ghost use Rattle.index.specs.Code.{Table, seek_in, ended_by, seek_both, searched_at, Ready};
 
 use crate::requests::four_at;
 use crate::{Entry, Range};
@@ -273,7 +273,7 @@ fn rule_answer(
     entry: Entry,
     found: Found,
 ) -> Option<Answer>
-    ensures { result ≡ sought_of (rule_answer_at sheet.now base verdict file entry found) }
+    ensures { result ≡ rule_answer_at sheet.now base verdict file entry found }
 {
     match found {
         Found::No => None,

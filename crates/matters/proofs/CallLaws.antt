@@ -34,28 +34,28 @@ use Rattle.rules.specs.Code.{lines_fault, contents_fault}
 use Rattle.rules.proofs.UserLaws.{QuietVerdict}
 use Rattle.rules.proofs.NamingLaws.{or_else_nones}
 use Rattle.matters.specs.declared.Place.{Place}
-use Rattle.matters.specs.Matters.{place, place_of, settled, matters_over, name_matters, name_matters_tables, matter_by, matter_of}
+use Rattle.matters.specs.Matters.{place, place_of, settled, matters_over, name_matters, name_matters_tables}
 use Rattle.matters.specs.Code.{unfetched_at, unfetched, Unasked, refused_by}
 use Rattle.matters.proofs.SettleLaws.{quiet_settled}
 
 -- ## The answer to a request whose user is not fetched
 
 module _ (m : Matcher) (allow deny : List ℕ) (r : Request) (a : Answer) (is-a : Unasked m allow deny r (place_of a)) where
-  quiet : (v : Verdict) → a.verdict ≡ v → QuietVerdict v → Ok (Some (place_of a)) ≡ matter_by (settled m allow deny r)
+  quiet : (v : Verdict) → a.verdict ≡ v → QuietVerdict v → Ok (Some (place_of a)) ≡ Ok (settled m allow deny r)
   unfolding Unasked
   quiet v e q =
       let s : (search m allow deny (unfetched r)).verdict ≡ v = ap (λ (p : Place). p.verdict) is-a ∙ e in
       rw (quiet_settled m allow deny r r.user_name (subst QuietVerdict (sym s) q)) (ap Ok (Some (sym is-a)))
 
-  pub by_granted : (v : Verdict) → v ≡ a.verdict → v ≡ Ver.Granted → Ok (Some (place v a.file a.line)) ≡ matter_by (settled m allow deny r)
+  pub by_granted : (v : Verdict) → v ≡ a.verdict → v ≡ Ver.Granted → Ok (Some (place v a.file a.line)) ≡ Ok (settled m allow deny r)
   by_granted v is_v e = ap (λ (x : Verdict). Ok (Some (place x a.file a.line))) is_v ∙ quiet Ver.Granted (sym is_v ∙ e) tt
 
-  pub by_denied : (v : Verdict) → v ≡ a.verdict → v ≡ Ver.Denied → Ok (Some (place v a.file a.line)) ≡ matter_by (settled m allow deny r)
+  pub by_denied : (v : Verdict) → v ≡ a.verdict → v ≡ Ver.Denied → Ok (Some (place v a.file a.line)) ≡ Ok (settled m allow deny r)
   by_denied v is_v e = ap (λ (x : Verdict). Ok (Some (place x a.file a.line))) is_v ∙ quiet Ver.Denied (sym is_v ∙ e) tt
 
-pub by_asking : (m : Matcher) (allow deny names : List ℕ) (q h : Places) → h ≡ held_at q → (x : Result (Option Place) Refusal) → x ≡ matter_by (settled m allow deny (request_at names h))
-    → x ≡ matter_by (settled m allow deny (held (request_at names q)))
-by_asking m allow deny names q h is-h x is_x = is_x ∙ ap (λ (r : Request). matter_by (settled m allow deny r)) (held_at_lem names q h is-h)
+pub by_asking : (m : Matcher) (allow deny names : List ℕ) (q h : Places) → h ≡ held_at q → (x : Result (Option Place) Refusal) → x ≡ Ok (settled m allow deny (request_at names h))
+    → x ≡ Ok (settled m allow deny (held (request_at names q)))
+by_asking m allow deny names q h is-h x is_x = is_x ∙ ap (λ (r : Request). Ok (settled m allow deny r)) (held_at_lem names q h is-h)
 
 -- ## Refusals
 
@@ -105,12 +105,12 @@ module _ (o : Option Refusal) (ts : List Table) (allow deny : List ℕ) (r : Req
   abbrev answer_to : Outcome (Option Place)
   answer_to = outcome r >>= λ a. matters_over ts allow deny (Some r)
 
-  unfit : well_formed r ≡ false → (n : ℕ) → refused_by (reported (outcome r) n).ruling ≡ matter_of answer_to
+  unfit : well_formed r ≡ false → (n : ℕ) → refused_by (reported (outcome r) n).ruling ≡ answer_to
   unfit e n = by o (well_formed r) e
     where
       by : (o : Option Refusal) (b : Bool) → b ≡ false
           → refused_by (reported (o before (when b then Ok found else Err (placeless F.BadRequest))) n).ruling
-          ≡ matter_of ((o before (when b then Ok found else Err (placeless F.BadRequest)))
+          ≡  ((o before (when b then Ok found else Err (placeless F.BadRequest)))
           >>= λ a. when b then Ok settles else Err (placeless F.BadRequest))
       by (Some f) b e = refl
       by None true e = absurd (true≢false e)
@@ -127,11 +127,11 @@ module _ (o : Option Refusal) (ts : List Table) (allow deny : List ℕ) (r : Req
     own_is : answer_to ≡ ((o before Ok found) >>= λ a. Ok settles)
     own_is = rw fits
 
-    fit_refused : (f : Refusal) → (reported (outcome (unfetched r)) n).ruling ≡ Err f → Err f ≡ matter_of answer_to
-    fit_refused f e = by o (ap (λ (x : Outcome Answer). (reported x n).ruling) (sym asked_is) ∙ e) ∙ sym (ap matter_of own_is)
+    fit_refused : (f : Refusal) → (reported (outcome (unfetched r)) n).ruling ≡ Err f → Err f ≡ answer_to
+    fit_refused f e = by o (ap (λ (x : Outcome Answer). (reported x n).ruling) (sym asked_is) ∙ e) ∙ sym (own_is)
       where
         by : (o : Option Refusal) → (reported (o before Ok unasked) n).ruling ≡ Err f
-            → Err f ≡ matter_of ((o before Ok found) >>= λ a. Ok settles)
+            → Err f ≡ ((o before Ok found) >>= λ a. Ok settles)
         by (Some g) e = ap Err (sym (ap (λ (x : Result Answer Refusal). elim x [ Err h ↦ h | Ok a ↦ g ]) e))
         by None e = absurd (true≢false (ap (λ (x : Result Answer Refusal). elim x [ Err h ↦ false | Ok a ↦ true ]) e))
 
@@ -147,9 +147,9 @@ module _ (o : Option Refusal) (ts : List Table) (allow deny : List ℕ) (r : Req
       unfolding Unasked
       fit_unasked = ap place_of (sym fit_answered.1)
 
-      fit_settled : (x : Result (Option Place) Refusal) → x ≡ matter_by settles → x ≡ matter_of answer_to
+      fit_settled : (x : Result (Option Place) Refusal) → x ≡ Ok settles → x ≡ answer_to
       fit_settled x is_x =
-          is_x ∙ sym (ap matter_of own_is ∙ ap (λ (p : Option Refusal). matter_of ((p before Ok found) >>= λ a. Ok settles)) fit_answered.0)
+          is_x ∙ sym (own_is ∙ ap (λ (p : Option Refusal). ((p before Ok found) >>= λ a. Ok settles)) fit_answered.0)
 
 -- ## By texts
 
@@ -170,7 +170,7 @@ module _ (allow deny names : List ℕ) (q : Places) where
       over_limit S.allow allow or_else over_limit S.deny deny or_else hosts_fault S.allow allow or_else hosts_fault S.deny deny or_else tables_fault allow deny []
 
   abbrev by_texts_lem : Result (Option Place) Refusal
-  by_texts_lem = matter_of (name_matters allow deny (Some own))
+  by_texts_lem = name_matters allow deny (Some own)
 
   module _ (b : Bool) (is_b : b ≡ well_formed own) where
     pub texts_unfit : not b ≡ true → (n : ℕ) (y : Reported) → y ≡ reported (decide allow deny (Some own)) n → (x : Result (Option Place) Refusal) → x ≡ refused_by y.ruling
@@ -214,7 +214,7 @@ module _ (allow deny names : List ℕ) (q : Places) where
         unfolding read_tables
         texts_unasked = fit_unasked text_checks [] allow deny own fitting n a told
 
-        pub texts_settled : (x : Result (Option Place) Refusal) → x ≡ matter_by (settled (match_of (tables_of (take 0 allow))) allow deny (held own)) → x ≡ by_texts_lem
+        pub texts_settled : (x : Result (Option Place) Refusal) → x ≡ Ok (settled (match_of (tables_of (take 0 allow))) allow deny (held own)) → x ≡ by_texts_lem
         unfolding decide name_matters read_tables
         texts_settled x is_x = fit_settled text_checks [] allow deny own fitting n a told x is_x
 
@@ -233,7 +233,7 @@ module _ (allow deny tables names : List ℕ) (q : Places) where
       or_else hosts_fault S.allow allow or_else hosts_fault S.deny deny or_else tables_fault allow deny tables
 
   abbrev by_tables : Result (Option Place) Refusal
-  by_tables = matter_of (name_matters_tables allow deny tables (Some (request_at names q)))
+  by_tables = name_matters_tables allow deny tables (Some (request_at names q))
 
   module _ (b : Bool) (is_b : b ≡ well_formed (request_at names q)) where
     pub tables_unfit : not b ≡ true → (n : ℕ) (y : Reported) → y ≡ reported (decide_tables allow deny tables (Some (request_at names q))) n
@@ -284,6 +284,6 @@ module _ (allow deny tables names : List ℕ) (q : Places) where
         pub tables_unasked : Unasked (match_of (tables_of tables)) allow deny (held (request_at names q)) (place_of a)
         tables_unasked = fit_unasked table_checks (tables_of tables) allow deny (request_at names q) tables_fitting n a tables_told
 
-        pub tables_settled : (x : Result (Option Place) Refusal) → x ≡ matter_by (settled (match_of (tables_of tables)) allow deny (held (request_at names q))) → x ≡ by_tables
+        pub tables_settled : (x : Result (Option Place) Refusal) → x ≡ Ok (settled (match_of (tables_of tables)) allow deny (held (request_at names q))) → x ≡ by_tables
         unfolding decide_tables name_matters_tables
         tables_settled x is_x = fit_settled table_checks (tables_of tables) allow deny (request_at names q) tables_fitting n a tables_told x is_x

@@ -3,7 +3,7 @@
 --   few_tables    == sound texts have at most 64 tables
 --   quiet_settled == where the verdict does not ask, its place settles
 -- Assumes nothing.
-use Rattle.std.specs.Prelude.{None, Option, Result, Some, unwrap_or}
+use Rattle.std.specs.Prelude.{None, Option, Result, Some, unwrap_or, Ok}
 use Prim.Native.Nat.{ℕ, ◌≤◌}
 use mathlib.Core.Bool.{Bool, true, false, not, ◌&&◌, ◌||◌, true≢false}
 use mathlib.Core.List.{List, [], ◌∷◌}
@@ -55,7 +55,7 @@ use Rattle.matters.specs.declared.Place.{Place}
 use Rattle.matters.specs.declared.Told.{Told}
 use Rattle.matters.specs.declared.Told.TheVariants as Told
 use Rattle.matters.specs.Matters.{place, place_of, same_found, fresh_name, name_finds, asks_at, half_holds, asker_holds, told_by, asked_told, found_told, rule_told}
-use Rattle.matters.specs.Matters.{parsed_told, line_told, told_at, text_told, settled, matter_by}
+use Rattle.matters.specs.Matters.{parsed_told, line_told, told_at, text_told, settled}
 use Rattle.matters.specs.Code.{Finder, finder_by, name_agrees, half_agrees, asked_list, list_told_on, list_told, clients_told, parsed_by, kind_told_as, kind_told}
 use Rattle.matters.specs.Code.{text_told_by, settled_by}
 use Rattle.matters.proofs.RuleLaws.{Stated, unknown, named}
@@ -202,8 +202,8 @@ module _ (allow deny t : List ℕ) (sound : contents_fault allow deny t ≡ None
       allow deny files.0 files.1
 
   pub settle_is : tables_in t ≡ tables_of t → (r : Request) (notes : List ℕ) → Noted t r notes
-      → (x : Result (Option Place) Refusal) → x ≡ matter_by (settled_by (finder_by (view_of t notes) r) allow deny) → x ≡ matter_by (settled (match_of (tables_of t)) allow deny r)
-  settle_is whole r notes h x is_x = is_x ∙ ap matter_by (settled_noted whole r notes h)
+      → (x : Result (Option Place) Refusal) → x ≡ Ok (settled_by (finder_by (view_of t notes) r) allow deny) → x ≡ Ok (settled (match_of (tables_of t)) allow deny r)
+  settle_is whole r notes h x is_x = is_x ∙ ap Ok (settled_noted whole r notes h)
 
 -- ## A verdict that does not ask
 

@@ -28,10 +28,9 @@ use Rattle.byuid.specs.Byuid.{byuid_fault}
 use Rattle.portacl.specs.Portacl.{portacl_fault}
 use Rattle.sheet.specs.declared.Parts.{Parts}
 use Rattle.sheet.specs.Sheet.{texts_at, texts_fault, frame, unpack}
-use Rattle.sheet.specs.Code.{framed_of}
 use Rattle.station.specs.Station.{in_sheet, decide_sheet}
 use Rattle.matters.specs.declared.Place.{Place}
-use Rattle.matters.specs.Matters.{place_of, settled, matters_over, name_matters_sheet, matter_by, matter_of}
+use Rattle.matters.specs.Matters.{place_of, settled, matters_over, name_matters_sheet}
 use Rattle.matters.specs.Code.{unfetched_at, unfetched, Unasked, refused_by}
 use Rattle.matters.proofs.CallLaws.{fits_unfetched}
 
@@ -70,20 +69,20 @@ module _ (sheet : List ℕ) (r : Request) where
   abbrev told : Parts → Outcome (Option Place)
   told p = matters_over (tables_of (bytes_at sheet p.tables)) (bytes_at sheet p.allow) (bytes_at sheet p.deny) (Some r)
 
-  unfit : well_formed r ≡ false → (n : ℕ) → refused_by (reported (decide_sheet sheet (Some r)) n).ruling ≡ matter_of (name_matters_sheet sheet (Some r))
+  unfit : well_formed r ≡ false → (n : ℕ) → refused_by (reported (decide_sheet sheet (Some r)) n).ruling ≡ name_matters_sheet sheet (Some r)
   unfolding decide_sheet name_matters_sheet
   unfit e n = by (unpack sheet)
     where
-      by : (u : Outcome Parts) → refused_by (reported (u >>= λ p. over p r) n).ruling ≡ matter_of ((u >>= λ p. over p r) >>= λ a. u >>= told)
+      by : (u : Outcome Parts) → refused_by (reported (u >>= λ p. over p r) n).ruling ≡ ((u >>= λ p. over p r) >>= λ a. u >>= told)
       by (Err g) = refl
       by (Ok p) = rw e
 
   module _ (fits : well_formed r ≡ true) where
-    refuses : (f : Refusal) → decide_sheet sheet (Some (unfetched r)) ≡ Err f → Err f ≡ matter_of (name_matters_sheet sheet (Some r))
+    refuses : (f : Refusal) → decide_sheet sheet (Some (unfetched r)) ≡ Err f → Err f ≡ name_matters_sheet sheet (Some r)
     unfolding decide_sheet name_matters_sheet
     refuses f = by (unpack sheet)
       where
-        by : (u : Outcome Parts) → (u >>= λ p. over p (unfetched r)) ≡ Err f → Err f ≡ matter_of ((u >>= λ p. over p r) >>= λ a. u >>= told)
+        by : (u : Outcome Parts) → (u >>= λ p. over p (unfetched r)) ≡ Err f → Err f ≡ ((u >>= λ p. over p r) >>= λ a. u >>= told)
         by (Err g) e = ap Err (sym (ap (λ (o : Outcome Answer). elim o [ Err h ↦ h | Ok a ↦ g ]) e))
         by (Ok p) e = absurd (refused_answered f
             (in_sheet p (search (match_of (tables_of (bytes_at sheet p.tables))) (bytes_at sheet p.allow) (bytes_at sheet p.deny) (held (unfetched r))))
@@ -115,7 +114,7 @@ module _ (sheet : List ℕ) (r : Request) where
         unfolding Unasked
         unasked = sym (ap place_of gave)
 
-        tells : matter_by (settles p) ≡ matter_of (name_matters_sheet sheet (Some r))
+        tells : Ok (settles p) ≡ name_matters_sheet sheet (Some r)
         unfolding name_matters_sheet decide_sheet
         tells = rw (unpacked, fits)
 
@@ -148,7 +147,7 @@ module _ (sheet names : List ℕ) (q : Places) where
   own = request_at names q
 
   abbrev by_sheet_lem : Result (Option Place) Refusal
-  by_sheet_lem = matter_of (name_matters_sheet sheet (Some own))
+  by_sheet_lem = name_matters_sheet sheet (Some own)
 
   module _ (b : Bool) (is_b : b ≡ well_formed own) where
     pub sheet_unfit : not b ≡ true → (n : ℕ) (y : Reported) → y ≡ reported (decide_sheet sheet (Some own)) n → (x : Result (Option Place) Refusal) → x ≡ refused_by y.ruling
@@ -183,12 +182,12 @@ module _ (sheet names : List ℕ) (q : Places) where
     unfolding unfetched_at
     given_unfetched = gives
 
-    module _ (x : Result Parts Refusal) (is_x : x ≡ framed_of (frame sheet)) where
-      frame_refused : (o : Outcome Parts) (g : Refusal) → framed_of o ≡ Err g → o ≡ Err g
+    module _ (x : Result Parts Refusal) (is_x : x ≡ (frame sheet)) where
+      frame_refused : (o : Outcome Parts) (g : Refusal) → o ≡ Err g → o ≡ Err g
       frame_refused (Err h) g e = ap Err (ap (λ (x : Result Parts Refusal). elim x [ Err k ↦ k | Ok p ↦ h ]) e)
       frame_refused (Ok p) g e = absurd (true≢false (ap (λ (x : Result Parts Refusal). elim x [ Err k ↦ false | Ok p ↦ true ]) e))
 
-      frame_parts : (o : Outcome Parts) (p : Parts) → framed_of o ≡ Ok p → o ≡ Ok p
+      frame_parts : (o : Outcome Parts) (p : Parts) → o ≡ Ok p → o ≡ Ok p
       frame_parts (Err h) p e = absurd (true≢false (ap (λ (x : Result Parts Refusal). elim x [ Err k ↦ true | Ok p ↦ false ]) e))
       frame_parts (Ok q) p e = ap Ok (ap (λ (x : Result Parts Refusal). elim x [ Err k ↦ q | Ok r ↦ r ]) e)
 
@@ -211,5 +210,5 @@ module _ (sheet names : List ℕ) (q : Places) where
       pub parts_unasked : Unasked (match_of (tables_of ta)) al de (held own) (place_of a)
       parts_unasked = rw (is-al, is-de, is-ta) (unasked sheet own fits a given_unfetched p framed)
 
-      pub parts_settled : (x : Result (Option Place) Refusal) → x ≡ matter_by (settled (match_of (tables_of ta)) al de (held own)) → x ≡ by_sheet_lem
+      pub parts_settled : (x : Result (Option Place) Refusal) → x ≡ Ok (settled (match_of (tables_of ta)) al de (held own)) → x ≡ by_sheet_lem
       parts_settled x is_x = is_x ∙ rw (is-al, is-de, is-ta) (tells sheet own fits a given_unfetched p framed)

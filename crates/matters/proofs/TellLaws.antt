@@ -47,7 +47,7 @@ use Rattle.matters.specs.declared.Told.{Told}
 use Rattle.matters.specs.declared.Told.TheVariants as Told
 use Rattle.matters.specs.declared.Telling.{Telling}
 use Rattle.matters.specs.declared.Telling.TheVariants as T
-use Rattle.matters.specs.Matters.{place, same_found, fresh_name, told_of, told_by, told_at, matter_by}
+use Rattle.matters.specs.Matters.{place, same_found, fresh_name, told_of, told_by, told_at}
 use Rattle.matters.specs.Code.{Finder, finder_by, name_agrees, half_agrees, asked_list, list_told_on, list_told, clients_told, parsed_by, kind_told, text_told_by}
 use Rattle.matters.specs.Code.{telling_of, settled_by, ended_by}
 
@@ -331,21 +331,21 @@ module _ (F : Finder) (allow deny : List ℕ) (a : Telling) (is-a : a ≡ tellin
   told_nothing (Some None) e = absurd (true≢false (ap (λ (t : Telling). elim t [ T.Nothing ↦ true | T.Settled x ↦ false | T.Matters ↦ false ]) e))
   told_nothing (Some (Some q)) e = absurd (true≢false (ap (λ (t : Telling). elim t [ T.Nothing ↦ true | T.Settled x ↦ false | T.Matters ↦ false ]) e))
 
-  pub both_settled : (p : Place) → a ≡ T.Settled p → Ok (Some p) ≡ matter_by (settled_by F allow deny)
+  pub both_settled : (p : Place) → a ≡ T.Settled p → Ok (Some p) ≡ Ok (settled_by F allow deny)
   unfolding settled_by
   both_settled p e = rw (← told_some (text_told_by Granted Allow F allow) p (sym e ∙ is-a))
 
-  pub both_matters : a ≡ T.Matters → Ok None ≡ matter_by (settled_by F allow deny)
+  pub both_matters : a ≡ T.Matters → Ok None ≡ Ok (settled_by F allow deny)
   unfolding settled_by
   both_matters e = rw (← told_none (text_told_by Granted Allow F allow) (sym e ∙ is-a))
 
   pub both_ended : a ≡ T.Nothing → (b : Telling) → b ≡ telling_of (text_told_by Denied Deny F deny) → (r : Result (Option Place) Refusal) → r ≡ ended_by b
-      → r ≡ matter_by (settled_by F allow deny)
+      → r ≡ Ok (settled_by F allow deny)
   unfolding settled_by
   both_ended e b is_b r is-r =
       is-r ∙ ap ended_by is_b ∙ rw (← told_nothing (text_told_by Granted Allow F allow) (sym e ∙ is-a)) (ended (text_told_by Denied Deny F deny))
     where
-      ended : (o : Option (Option Place)) → ended_by (telling_of o) ≡ matter_by (unwrap_or o (Some (place Granted Neither 0)))
+      ended : (o : Option (Option Place)) → ended_by (telling_of o) ≡ Ok (unwrap_or o (Some (place Granted Neither 0)))
       ended None = refl
       ended (Some None) = refl
       ended (Some (Some p)) = refl

@@ -4,7 +4,6 @@
 --   rule_told m r x     == whether the rule x finds the same for all users, and then what
 --   settled m allow deny r == the place that all users get, none where two get different ones
 --   name_matters allow deny o, name_matters_tables allow deny t o, name_matters_sheet sheet o == the calls: every refusal of the verdict, else what settles
---   matter_of o         == their outcome as the code answers it
 -- A user that is not fetched asks wherever a user can be told from another; where a rule does not ask, it finds the same for all. Where it
 -- does, a half that is a name matches a user by equality alone: so every user finds what one of these does, unknown, a name that no half
 -- can be, or one of the rule's own halves whose host matches.
@@ -133,11 +132,3 @@ name_matters_sheet sheet o = do
   p ← unpack sheet
   matters_over (tables_of (bytes_at sheet p.tables)) (bytes_at sheet p.allow) (bytes_at sheet p.deny) o
 
--- the outcome as the calls answer it
-abbrev pub matter_by : Option Place → Result (Option Place) Refusal
-matter_by None = Ok None
-matter_by (Some p) = Ok (Some p)
-
-abbrev pub matter_of : Outcome (Option Place) → Result (Option Place) Refusal
-matter_of (Err f) = Err f
-matter_of (Ok p) = matter_by p

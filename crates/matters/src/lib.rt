@@ -12,7 +12,7 @@ ghost use Rattle.elements.specs.Places.{request_at};
 ghost use Rattle.rules.specs.Code.{contents_fault};
 ghost use Rattle.sheet.specs.Sheet.{frame as frame_of};
 ghost use Rattle.station.specs.Station.{decide_sheet};
-ghost use Rattle.matters.specs.Matters.{place_of, settled, matter_by, name_matters, name_matters_tables, name_matters_sheet, matter_of};
+ghost use Rattle.matters.specs.Matters.{place_of, settled, name_matters, name_matters_tables, name_matters_sheet};
 ghost use Rattle.matters.specs.Code.{unfetched_at, refused_by, Unasked};
 
 pub mod tell;
@@ -96,7 +96,7 @@ fn settle_by(
     requires tables_value_2 { contents_fault allow.now deny.now tables.now ≡ None }
     requires unasked { Unasked (match_of (tables_of tables.now)) allow.now deny.now (heldRequest (request_at names.now request)) (place_of answer) }
     ensures { result
-        ≡ matter_by
+        ≡ Ok
         (settled (match_of (tables_of tables.now)) allow.now deny.now (heldRequest (request_at names.now request))) }
 {
     let verdict = answer.verdict;
@@ -119,7 +119,7 @@ fn settle_by(
 // Whether the name matters, by the allow and deny files. There are no tables.
 pub fn name_matters(allow: &[u8], deny: &[u8], names: &[u8], request: Request) -> Result<Option<Place>, Refusal>
     ensures { result
-        ≡ matter_of (name_matters allow.now deny.now (Some (request_at names.now request))) }
+        ≡ name_matters allow.now deny.now (Some (request_at names.now request)) }
 {
     if !fits(names, request) {
         let own = decide(allow, deny, names, request);
@@ -143,7 +143,7 @@ pub fn name_matters_tables(
     request: Request,
 ) -> Result<Option<Place>, Refusal>
     ensures { result
-        ≡ matter_of
+        ≡
         (name_matters_tables allow.now deny.now tables.now (Some (request_at names.now request))) }
 {
     if !fits(names, request) {
@@ -170,7 +170,7 @@ fn settle_in_parts(
     requires request_value { well_formed (request_at names.now request) ≡ true }
     requires request_value_2 { decide_sheet sheet.now (Some (request_at names.now (unfetched_at request))) ≡ Ok answer }
     requires sheet_value { frame_of sheet.now ≡ Ok parts }
-    ensures { result ≡ matter_of (name_matters_sheet sheet.now (Some (request_at names.now request))) }
+    ensures { result ≡ name_matters_sheet sheet.now (Some (request_at names.now request)) }
 {
     settle_by(
         answer,
@@ -186,7 +186,7 @@ fn settle_in_parts(
 fn settle_in_sheet(sheet: &[u8], answer: Answer, names: &[u8], request: Request) -> Result<Option<Place>, Refusal>
     requires request_value { well_formed (request_at names.now request) ≡ true }
     requires request_value_2 { decide_sheet sheet.now (Some (request_at names.now (unfetched_at request))) ≡ Ok answer }
-    ensures { result ≡ matter_of (name_matters_sheet sheet.now (Some (request_at names.now request))) }
+    ensures { result ≡ name_matters_sheet sheet.now (Some (request_at names.now request)) }
 {
     match sheet::frame::frame(sheet) {
         Err(refusal) => Err(refusal),
@@ -196,7 +196,7 @@ fn settle_in_sheet(sheet: &[u8], answer: Answer, names: &[u8], request: Request)
 
 // Whether the name matters, by a sheet.
 pub fn name_matters_sheet(sheet: &[u8], names: &[u8], request: Request) -> Result<Option<Place>, Refusal>
-    ensures { result ≡ matter_of (name_matters_sheet sheet.now (Some (request_at names.now request))) }
+    ensures { result ≡ name_matters_sheet sheet.now (Some (request_at names.now request)) }
 {
     if !fits(names, request) {
         let own = station::decide(sheet, names, request);

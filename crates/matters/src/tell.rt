@@ -14,7 +14,7 @@ ghost use Rattle.classes.specs.Class.{Classes, Describes};
 ghost use Rattle.lists.specs.Code.{NoNewline};
 ghost use Rattle.rules.specs.FileCode.{ScannedLine};
 ghost use Rattle.rules.specs.Code.{contents_fault};
-ghost use Rattle.matters.specs.Matters.{same_found, told_of, settled, matter_by};
+ghost use Rattle.matters.specs.Matters.{same_found, told_of, settled};
 ghost use Rattle.matters.specs.Code.{finder_at, name_agrees, half_agrees, asked_list, list_told, parsed_by, kind_told, text_told_by, telling_of, ended_by};
 ghost use Rattle.matters.specs.Code.{settled_by};
 ghost use Rattle.matters.specs.Code.{asked_half, was_tried, noted_count, noted_places, tried_by, places_by};
@@ -482,7 +482,7 @@ fn tell(
     request: Request,
 ) -> Result<Option<Place>, Refusal>
     ensures { result
-        ≡ matter_by
+        ≡ Ok
         (settled_by (finder_at tables.now notes.now names.now request) allow.now deny.now) }
 {
     let class = classes::classes();
@@ -516,7 +516,7 @@ pub fn settle(allow: &[u8], deny: &[u8], tables: &[u8], names: &[u8], request: R
     requires tables_value { tables_in tables.now ≡ tables_of tables.now }
     requires tables_value_2 { contents_fault allow.now deny.now tables.now ≡ None }
     ensures { result
-        ≡ matter_by
+        ≡ Ok
         (settled (match_of (tables_of tables.now)) allow.now deny.now (request_at names.now request)) }
 {
     let notes = notes_on(tables, names, request);

@@ -25,7 +25,7 @@ use Rattle.address.proofs.PrefixLaws.{eqb_iff, and_leading}
 use Rattle.address.proofs.ReadLaws.{read_decimal_le}
 use Rattle.patterns.specs.Host.{Endpoint}
 use Rattle.patterns.specs.Pattern.{Pattern, bracket_pattern, leading_fields, read_mask, net_mask, dotted_pattern}
-use Rattle.patterns.specs.Code.{as_net, leading_net, dotted_fields, fields_net, mask_net, dotted_net, matches_pattern, net_covers, dotted_test, dotted_covers}
+use Rattle.patterns.specs.Code.{leading_net, dotted_fields, fields_net, mask_net, dotted_net, matches_pattern, net_covers, dotted_test, dotted_covers}
 use Rattle.patterns.specs.Code.{as_prefix, bracket_prefix, prefix_length, prefix_covers, bracket_covers}
 use Rattle.patterns.proofs.DottedLaws.{dotted_fields_pos}
 
@@ -167,11 +167,11 @@ module _ (e : List ℕ) (a : ℕ) (small : a < 4294967296) where
     leading = λ fs below h l. leading_net_covers fs below a small (length fs) refl h l;
   }
 
-  pub dotted_test_net : (r : Option (ℕ × ℕ)) → r ≡ as_net (dotted_net e) → (x : Bool) → x ≡ net_covers r a → x ≡ holds (λ f. f a) (dotted_test e)
+  pub dotted_test_net : (r : Option (ℕ × ℕ)) → r ≡ dotted_net e → (x : Bool) → x ≡ net_covers r a → x ≡ holds (λ f. f a) (dotted_test e)
   dotted_test_net r is-r x k = k ∙ ap (λ (n : Option (ℕ × ℕ)). net_covers n a) is-r ∙ by (dotted_net e)
       ∙ sym (dotted_net_alike (λ f. f a) (λ q. eqb q.0 (bit_and a q.1)) at_address e)
     where
-      by : (o : Option (ℕ × ℕ)) → net_covers (as_net o) a ≡ holds (λ q. eqb q.0 (bit_and a q.1)) o
+      by : (o : Option (ℕ × ℕ)) → net_covers (o) a ≡ holds (λ q. eqb q.0 (bit_and a q.1)) o
       by None = refl
       by (Some q) = refl
 
@@ -243,7 +243,7 @@ module _ (e : List ℕ) where
       by (Some q) = refl
 
 -- as the code finds them
-as_net_sound : (o : Option (ℕ × ℕ)) (r : Option (ℕ × ℕ)) → r ≡ as_net o → (r ≡ None → false ≡ is_some o) × ((n m : ℕ) → r ≡ Some (n, m) → true ≡ is_some o)
+as_net_sound : (o : Option (ℕ × ℕ)) (r : Option (ℕ × ℕ)) → r ≡ o → (r ≡ None → false ≡ is_some o) × ((n m : ℕ) → r ≡ Some (n, m) → true ≡ is_some o)
 as_net_sound None r q = (λ e. refl, λ n m e. let z : ◌≡◌ {A = ℕ} 0 1 = cc in absurd (omega arith))
 as_net_sound (Some p) r q = (λ e. let z : ◌≡◌ {A = ℕ} 0 1 = cc in absurd (omega arith), λ n m e. refl)
 

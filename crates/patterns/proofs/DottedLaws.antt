@@ -15,7 +15,6 @@ use lib.Seq.{drop-cons}
 use Rattle.text.specs.Basics.{when◌then◌else◌, ◌>>=◌, ◌or_else◌, given, any, each}
 use Rattle.text.specs.Text.{bytes, among, equal, last_among, split, split_once, cons_first, is_digit}
 use Rattle.text.specs.Number.{from_digits, read_decimal}
-use Rattle.text.specs.Scan.{as_number}
 use Rattle.text.proofs.ScanLaws.{take_rest}
 use Rattle.address.specs.Address.{read_v4}
 use Rattle.address.specs.Fields.{field_more, field_fits, digits_from, address_from, ended_address, step_of, run_from}
@@ -26,7 +25,7 @@ use Rattle.address.specs.declared.fields.Step.TheVariants as S
 use Rattle.address.proofs.FieldLaws.{each_from, split_cons, each_split, each_pos, dot_after, digit_after}
 use Rattle.address.proofs.FieldLaws.{Follows, Landed, run_failed, run_at, follows_address, address_start, address_end_lem, address_stops}
 use Rattle.patterns.specs.Pattern.{read_mask}
-use Rattle.patterns.specs.Code.{as_net, leading_net, dotted_fields, fields_net, pair_net, mask_net, dotted_net}
+use Rattle.patterns.specs.Code.{leading_net, dotted_fields, fields_net, pair_net, mask_net, dotted_net}
 use Rattle.patterns.specs.Dotted.{run_dotted, leading_from, mask_after, mask_from, ended_net}
 use Rattle.patterns.proofs.TestLaws.{last_among_drop}
 use Rattle.patterns.proofs.NetLaws.{pair_net_read}
@@ -256,13 +255,13 @@ net_of_ended n k v false h = rw (address_end_lem n k v false, mask_end n k v fal
     by false e = rw (le-leb 1 k (omega (arith, eqb-false k 0 e)))
 
 module _ (e : List ℕ) (r : Run) (is-r : r ≡ run_from 0 0 0 0 false e) where
-  pub dotted_failed : r ≡ R.Failed → None ≡ as_net (dotted_net e)
+  pub dotted_failed : r ≡ R.Failed → None ≡ dotted_net e
   dotted_failed q =
       let a : address_from 0 0 0 false e ≡ None = run_failed address_from None follows_address e r is-r q in
       let l : leading_from 0 0 0 false e ≡ None = run_failed leading_from None follows_leading e r is-r q in
       let m : mask_from 0 0 0 false e ≡ None = run_failed mask_from None follows_mask e r is-r q in
       let z : dotted_net e ≡ None = dotted_start e ∙ rw (a, l, m) in
-      sym (ap as_net z)
+      sym (z)
 
   module _ (i n k v : ℕ) (d : Bool) (q : r ≡ R.At i n k v d) where
     state : Landed e i n k v d
@@ -287,10 +286,10 @@ module _ (e : List ℕ) (r : Run) (is-r : r ≡ run_from 0 0 0 0 false e) where
         let m : mask_from 0 0 0 false e ≡ mask_from n k v d (drop i e) = (run_at mask_from None follows_mask e r is-r i n k v d q).0 in
         dotted_start e ∙ rw (a, l, m)
 
-    pub dotted_ended : length e ≤ i → (x : Option (ℕ × ℕ)) → x ≡ as_net (ended_net n k v d) → x ≡ as_net (dotted_net e)
+    pub dotted_ended : length e ≤ i → (x : Option (ℕ × ℕ)) → x ≡ ended_net n k v d → x ≡ dotted_net e
     dotted_ended h x p =
         let z : dotted_net e ≡ ended_net n k v d = dotted_at ∙ rw (drop_of_length-le e h) (net_of_ended n k v d state.few) in
-        p ∙ sym (ap as_net z)
+        p ∙ sym (z)
 
     module _ (h : i < length e) where
       -- the byte that the pass stopped at, and what follows it
@@ -300,31 +299,31 @@ module _ (e : List ℕ) (r : Run) (is-r : r ≡ run_from 0 0 0 0 false e) where
           let l = leading_stops n k v d (get_or e i 0) (drop (suc i) e) (state.stops h) in
           dotted_at ∙ rw (drop-cons e i 0 h, a, l)
 
-      pub dotted_stopped : (get_or e i 0 ≡ 47 → ⊥) → None ≡ as_net (dotted_net e)
-      dotted_stopped z = sym (ap as_net (dotted_stop ∙ mask_stops n k v d (get_or e i 0) (drop (suc i) e) z (state.stops h)))
+      pub dotted_stopped : (get_or e i 0 ≡ 47 → ⊥) → None ≡ dotted_net e
+      dotted_stopped z = sym (dotted_stop ∙ mask_stops n k v d (get_or e i 0) (drop (suc i) e) z (state.stops h))
 
-      pub dotted_slash : get_or e i 0 ≡ 47 → (x y : Option ℕ) → x ≡ as_number (ended_address n k v d)
-          → y ≡ as_number (read_mask (take (length e - (i + 1)) (drop (i + 1) e))) → (p : Option (ℕ × ℕ)) → p ≡ pair_net x y → p ≡ as_net (dotted_net e)
+      pub dotted_slash : get_or e i 0 ≡ 47 → (x y : Option ℕ) → x ≡ ended_address n k v d
+          → y ≡ read_mask (take (length e - (i + 1)) (drop (i + 1) e)) → (p : Option (ℕ × ℕ)) → p ≡ pair_net x y → p ≡ dotted_net e
       dotted_slash z x y is_x is_y p is-p =
           let m : dotted_net e ≡ mask_after (ended_address n k v d) (drop (suc i) e) =
           dotted_stop ∙ ap (λ (b : ℕ). mask_from n k v d (b ∷ drop (suc i) e)) z ∙ mask_slash n k v d (drop (suc i) e) in
-          is-p ∙ ap₂ pair_net is_x (is_y ∙ ap (λ (t : List ℕ). as_number (read_mask t)) (take_rest e (i + 1)))
+          is-p ∙ ap₂ pair_net is_x (is_y ∙ ap (λ (t : List ℕ). (read_mask t)) (take_rest e (i + 1)))
           ∙ pair_net_read (ended_address n k v d) (read_mask (drop (i + 1) e))
-          ∙ ap (λ (t : List ℕ). as_net (mask_after (ended_address n k v d) t)) (ap (λ (j : ℕ). drop j e) (add-one i))
-          ∙ sym (ap as_net m)
+          ∙ ap (λ (t : List ℕ). (mask_after (ended_address n k v d) t)) (ap (λ (j : ℕ). drop j e) (add-one i))
+          ∙ sym (m)
 
 -- ## A net without a slash
 
-pub ended_address_lem : (n k v : ℕ) (d : Bool) → d ≡ true → (x : Option ℕ) → x ≡ as_number (ended_address n k v d) → (p : Option (ℕ × ℕ))
-    → p ≡ pair_net x (Some 4294967295) → p ≡ as_net (ended_net n k v d)
+pub ended_address_lem : (n k v : ℕ) (d : Bool) → d ≡ true → (x : Option ℕ) → x ≡ ended_address n k v d → (p : Option (ℕ × ℕ))
+    → p ≡ pair_net x (Some 4294967295) → p ≡ ended_net n k v d
 ended_address_lem n k v true z x is_x p is-p =
     is-p ∙ ap (λ (y : Option ℕ). pair_net y (Some 4294967295)) is_x ∙ pair_net_read (ended_address n k v true) (Some 4294967295)
 ended_address_lem n k v false z x is_x p is-p = absurd (true≢false (sym z))
 
-pub ended_none : (n k v : ℕ) (d : Bool) → d ≡ false → k ≡ 0 → None ≡ as_net (ended_net n k v d)
+pub ended_none : (n k v : ℕ) (d : Bool) → d ≡ false → k ≡ 0 → None ≡ ended_net n k v d
 ended_none n k v true z q = absurd (true≢false z)
 ended_none n k v false z q = rw (eq-eqb k 0 q)
 
-pub ended_fields : (n k v : ℕ) (d : Bool) → d ≡ false → (k ≡ 0 → ⊥) → (p : Option (ℕ × ℕ)) → p ≡ as_net (Some (leading_net k n)) → p ≡ as_net (ended_net n k v d)
+pub ended_fields : (n k v : ℕ) (d : Bool) → d ≡ false → (k ≡ 0 → ⊥) → (p : Option (ℕ × ℕ)) → p ≡ Some (leading_net k n) → p ≡ ended_net n k v d
 ended_fields n k v true z q p is-p = absurd (true≢false z)
 ended_fields n k v false z q p is-p = rw (ne_eqb k 0 q) is-p

@@ -26,7 +26,7 @@ use Rattle.patterns.specs.Host.{Endpoint, endpoint, name_case, name_known, addr_
 use Rattle.patterns.specs.Pattern.{Pattern, is_name_byte, domain_pattern, bracket_pattern, dotted_pattern, name_pattern, host_pattern}
 use Rattle.patterns.specs.Code.{is_dotted_byte, Named, host_seen, pattern_seen, matches_pattern, wildcard_of, wildcard_pattern, form_of, form_pattern}
 use Rattle.patterns.specs.Code.{domain_covers, plain_covers}
-use Rattle.patterns.specs.Code.{as_net, dotted_net, net_sound, net_covers, dotted_covers, as_prefix, bracket_prefix, prefix_holds, prefix_covers, bracket_covers}
+use Rattle.patterns.specs.Code.{dotted_net, net_sound, net_covers, dotted_covers, as_prefix, bracket_prefix, prefix_holds, prefix_covers, bracket_covers}
 use Rattle.patterns.proofs.PatternLaws.{wildcard_of_size, form_of_domain, form_of_plain, domain_pattern_matches, name_pattern_matches, host_pattern_at}
 use Rattle.patterns.proofs.CoverLaws.{dotted_test_net, dotted_pattern_sound, dotted_pattern_matches, bracket_pattern_matches}
 use Rattle.patterns.proofs.CoverLaws.{bracket_pattern_nothing, bracket_pattern_prefix, prefix_covers_nothing, prefix_covers_prefix}
@@ -76,11 +76,11 @@ module _ (r : Option (ℕ × ℕ)) where
     pub net_read : (n m : ℕ) → r ≡ Some (n, m) → (x : Bool) → x ≡ eqb n (bit_and a m) → host_seen true (look && x) ≡ host_seen (net_sound r) (look && net_covers r a)
     net_read n m q x is_x = rw (q, is_x)
 
-module _ (e : List ℕ) (look : Bool) (host : Host) (r : Option (ℕ × ℕ)) (is-r : r ≡ as_net (dotted_net e)) (x : HostSeen) where
+module _ (e : List ℕ) (look : Bool) (host : Host) (r : Option (ℕ × ℕ)) (is-r : r ≡ (dotted_net e)) (x : HostSeen) where
   net_is : net_sound r ≡ is_some (dotted_pattern e)
   net_is = ap net_sound is-r ∙ by (dotted_net e) ∙ sym (dotted_pattern_sound e)
     where
-      by : (o : Option (ℕ × ℕ)) → net_sound (as_net o) ≡ is_some o
+      by : (o : Option (ℕ × ℕ)) → net_sound (o) ≡ is_some o
       by None = refl
       by (Some p) = refl
 

@@ -91,10 +91,6 @@ host_matches e h = matches_pattern (host_pattern e) h
 
 -- ## Nets and prefixes
 
-abbrev pub as_net : Option (ℕ × ℕ) → Option (ℕ × ℕ)
-as_net None = None
-as_net (Some p) = Some (p.0, p.1)
-
 -- the net of the k leading fields that write n
 abbrev pub leading_net : ℕ → ℕ → ℕ × ℕ
 leading_net k n = (n * 2 ^ (32 - 8 * k), 2 ^ 32 - 2 ^ (32 - 8 * k))

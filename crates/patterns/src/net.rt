@@ -2,9 +2,8 @@
 //   dotted_seen(e, look, host), bracket_seen(e, look, host) == whether e is such a pattern and, if it is looked at, matches the host's address
 ghost use Rattle.std.specs.Prelude.{◌≡◌, false, ◌&&◌, ◌+◌, ◌*◌, ◌^◌, ◌<◌, ◌≤◌};
 ghost use Rattle.text.specs.Basics.{is_some};
-ghost use Rattle.text.specs.Scan.{as_number};
 ghost use Rattle.patterns.specs.Pattern.{bracket_pattern, read_mask, dotted_pattern};
-ghost use Rattle.patterns.specs.Code.{host_seen, as_net, leading_net, pair_net, dotted_net, net_sound, net_covers, dotted_covers};
+ghost use Rattle.patterns.specs.Code.{host_seen, leading_net, pair_net, dotted_net, net_sound, net_covers, dotted_covers};
 ghost use Rattle.patterns.specs.Dotted.{ended_net};
 ghost use Rattle.patterns.specs.Code.{prefix_length, as_prefix, prefix_with, bracket_prefix, prefix_holds, prefix_covers, bracket_covers};
 
@@ -17,7 +16,7 @@ use address::read::read_v6;
 
 // A mask: as an address, or as the number of its leading ones.
 fn read_mask(s: &[u8]) -> Option<u32>
-    ensures { result ≡ as_number (read_mask s.now) }
+    ensures { result ≡ read_mask s.now }
 {
     match read_v4(s) {
         Some(mask) => Some(mask),
@@ -31,7 +30,7 @@ fn read_mask(s: &[u8]) -> Option<u32>
 // The net of count leading fields, which write n.
 fn leading_net(n: u32, count: u32) -> Option<(u32, u32)>
     requires { (1 ≤ count) × (count ≤ 3) × (n < 256 ^ count) }
-    ensures { result ≡ as_net (Some (leading_net count n)) }
+    ensures { result ≡ Some (leading_net count n) }
 {
     let shift = 32 - 8 * count;
     Some((n << shift, (4294967295 >> shift) << shift))
@@ -56,7 +55,7 @@ fn ended_net(n: u32, k: u32, v: u32, begun: bool) -> Option<(u32, u32)>
     requires n_bound { n < 16777216 }
     requires v_bound { v ≤ 255 }
     requires k_bound { (k ≤ 3) × (n < 256 ^ k) }
-    ensures { result ≡ as_net (ended_net n k v begun) }
+    ensures { result ≡ ended_net n k v begun }
 {
     if begun {
         return pair_net(ended_address(n, k, v, begun), Some(4294967295));
@@ -69,7 +68,7 @@ fn ended_net(n: u32, k: u32, v: u32, begun: bool) -> Option<(u32, u32)>
 
 // The net of a dotted pattern, read in one pass: where a slash stops it, the mask follows.
 fn read_dotted(e: &[u8]) -> Option<(u32, u32)>
-    ensures { result ≡ as_net (dotted_net e.now) }
+    ensures { result ≡ dotted_net e.now }
 {
     let run = run_over(e, 0);
     match run {
@@ -89,7 +88,7 @@ fn read_dotted(e: &[u8]) -> Option<(u32, u32)>
 
 // The prefix length after the bracket: none written is 128.
 fn read_length(s: &[u8]) -> Option<u32>
-    ensures { result ≡ as_number (prefix_length s.now) }
+    ensures { result ≡ prefix_length s.now }
 {
     if s.len() == 0 {
         return Some(128);

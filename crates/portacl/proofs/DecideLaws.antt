@@ -14,7 +14,7 @@ use Rattle.text.specs.Text.{bytes, split_once, split}
 use Rattle.text.specs.Number.{read_decimal}
 use Rattle.section.specs.declared.Fault.TheVariants as F
 use Rattle.section.specs.declared.Refusal.{Refusal}
-use Rattle.section.specs.Refusal.{refusal, placeless}
+use Rattle.section.specs.Refusal.{refusal, placeless, refusing}
 use Rattle.section.specs.Section as S
 use Rattle.portacl.specs.declared.Decision.{Decision}
 use Rattle.portacl.specs.declared.Decision.TheVariants.{NotRuled, Exempt, Granted, Denied}
@@ -22,8 +22,8 @@ use Rattle.portacl.specs.declared.Entry.{Entry}
 use Rattle.portacl.specs.declared.Protocol.{Protocol}
 use Rattle.portacl.specs.declared.Protocol.TheVariants.{Tcp, Udp}
 use Rattle.portacl.specs.declared.Settings.{Settings}
-use Rattle.portacl.specs.Portacl.{bind, Bind, portacl_ruling, read_word, read_entry, entries, entry_fault, portacl_fault, portacl_decision, decide_portacl}
-use Rattle.portacl.specs.Code.{checked_of, as_entry, entry_data, id_data, protocol_data, port_data, grants_to, entries_data, walk, decision_of}
+use Rattle.portacl.specs.Portacl.{bind, Bind, read_word, read_entry, entries, entry_fault, portacl_fault, portacl_decision, decide_portacl}
+use Rattle.portacl.specs.Code.{entry_data, id_data, protocol_data, port_data, grants_to, entries_data, walk, decision_of}
 use Rattle.portacl.proofs.WalkLaws.{as_entry_none, as_entry_some}
 
 -- what an entry that was read grants
@@ -47,7 +47,7 @@ read_entry_entry_data e =
     step (read_decimal 65535 d.1) _ _ λ port. refl
 
 -- whether there is an entry, from the code's answer
-module _ (e : List ℕ) (r : Option Entry) (is-r : r ≡ as_entry (entry_data e)) where
+module _ (e : List ℕ) (r : Option Entry) (is-r : r ≡ (entry_data e)) where
   pub entry_none : r ≡ None → false ≡ is_some (read_entry e)
   entry_none k = rw (read_entry_entry_data e, as_entry_none (entry_data e) (sym is-r ∙ k))
 
@@ -93,24 +93,24 @@ module _ (t : List ℕ) (b : Bind) (w : Result Bool ℕ) (is-w : w ≡ walk b 1 
     fault_bad : portacl_fault t ≡ Some r
     fault_bad = portacl_fault_walk ∙ rw (e, is-r)
 
-    pub check_bad : Err r ≡ checked_of (portacl_fault t)
+    pub check_bad : Err r ≡ refusing (portacl_fault t) tt
     check_bad = rw fault_bad
 
   module _ (g : Bool) (e : w ≡ Ok g) where
     fault_none : portacl_fault t ≡ None
     fault_none = portacl_fault_walk ∙ rw e
 
-    pub check_sound : (Ok tt) ≡ checked_of (portacl_fault t)
+    pub check_sound : (Ok tt) ≡ refusing (portacl_fault t) tt
     check_sound = rw fault_none
 
     granting : g ≡ any (holds λ grants. grants b) (entries t)
     granting = rw (entries_entries_data t) (any_walk b 1 false g (entries_data t) (sym is-w ∙ e))
 
-pub checked_of_refused : (o : Option Refusal) (r : Refusal) → checked_of o ≡ Err r → o ≡ Some r
+pub checked_of_refused : (o : Option Refusal) (r : Refusal) → refusing o tt ≡ Err r → o ≡ Some r
 checked_of_refused None r e = let z : ◌≡◌ {A = ℕ} 0 1 = cc in absurd (omega arith)
 checked_of_refused (Some q) r e = cc
 
-pub checked_of_sound : (o : Option Refusal) → checked_of o ≡ (Ok tt) → o ≡ None
+pub checked_of_sound : (o : Option Refusal) → refusing o tt ≡ Ok tt → o ≡ None
 checked_of_sound None e = refl
 checked_of_sound (Some q) e = let z : ◌≡◌ {A = ℕ} 0 1 = cc in absurd (omega arith)
 
@@ -156,14 +156,14 @@ module _ (t : List ℕ) (s : Settings) (uid : ℕ) (groups : List ℕ) (protocol
   b = bind uid groups protocol port
 
   abbrev ruling : Result Decision Refusal
-  ruling = portacl_ruling (decide_portacl t s (Some b))
+  ruling = decide_portacl t s (Some b)
 
   pub decide_over_lem : o ≡ true → (r : Refusal) → r ≡ refusal F.OverLimit (S.portacl).order 0 → Err r ≡ ruling
   unfolding decide_portacl
   decide_over_lem e r is-r = rw (← is-o, e, is-r)
 
   module _ (e : o ≡ false) where
-    module _ (many : 16 < length groups) (c : Result Unit Refusal) (is_c : c ≡ checked_of (portacl_fault t)) where
+    module _ (many : 16 < length groups) (c : Result Unit Refusal) (is_c : c ≡ refusing (portacl_fault t) tt) where
       pub decide_unsound : (r : Refusal) → c ≡ Err r → Err r ≡ ruling
       unfolding decide_portacl
       decide_unsound r q = rw (← is-o, e, checked_of_refused (portacl_fault t) r (sym is_c ∙ q))

@@ -15,11 +15,10 @@ use lib.Seq.{drop-cons}
 use Rattle.text.specs.Basics.{◌>>=◌, any}
 use Rattle.text.specs.Text.{bytes, equal, split_once}
 use Rattle.text.specs.Number.{read_decimal}
-use Rattle.text.specs.Scan.{index_of, as_number}
+use Rattle.text.specs.Scan.{index_of}
 use Rattle.text.proofs.ScanLaws.{take_rest, split_once_mark, split_once_no_mark}
 use Rattle.portacl.specs.declared.Entry.{Entry}
 use Rattle.portacl.specs.Portacl.{read_word}
-use Rattle.portacl.specs.Code.{as_entry}
 
 -- ## Among the ids, looked at one by one
 
@@ -39,21 +38,21 @@ module _ (x : ℕ) (l : List ℕ) (i : ℕ) (so_far : any (eqb x) l ≡ any (eqb
 -- ## Numbers and words
 
 -- a number of at most m that was read, and then f of it
-module _ (m : ℕ) (f : ℕ → Option Entry) (t : List ℕ) (k : Option ℕ) (is-k : k ≡ as_number (read_decimal m t)) where
+module _ (m : ℕ) (f : ℕ → Option Entry) (t : List ℕ) (k : Option ℕ) (is-k : k ≡ (read_decimal m t)) where
   abbrev number : Option Entry
-  number = as_entry (read_decimal m t >>= f)
+  number = (read_decimal m t >>= f)
 
   pub number_none : k ≡ None → None ≡ number
   number_none e = by (read_decimal m t) (sym is-k ∙ e)
     where
-      by : (o : Option ℕ) → as_number o ≡ None → None ≡ as_entry (o >>= f)
+      by : (o : Option ℕ) → o ≡ None → None ≡ (o >>= f)
       by None e = refl
       by (Some n) e = let z : ◌≡◌ {A = ℕ} 0 1 = cc in absurd (omega arith)
 
-  pub number_some : (n : ℕ) → k ≡ Some n → (r : Option Entry) → r ≡ as_entry (f n) → r ≡ number
+  pub number_some : (n : ℕ) → k ≡ Some n → (r : Option Entry) → r ≡ f n → r ≡ number
   number_some n e r h = by (read_decimal m t) (sym is-k ∙ e)
     where
-      by : (o : Option ℕ) → as_number o ≡ Some n → r ≡ as_entry (o >>= f)
+      by : (o : Option ℕ) → o ≡ Some n → r ≡ (o >>= f)
       by None e = let z : ◌≡◌ {A = ℕ} 0 1 = cc in absurd (omega arith)
       by (Some j) e = let q : j ≡ n = cc in h ∙ rw (← q)
 
@@ -71,7 +70,7 @@ module _ {A : Type 0} (f : List ℕ → Option A) (g : A → List ℕ → Option
     g a p.1
 
   module _ (i : ℕ) (is-i : i ≡ index_of 58 s) where
-    pub parts_none : i ≡ length s → None ≡ as_entry parts
+    pub parts_none : i ≡ length s → None ≡ parts
     parts_none h = rw (split_once_no_mark 58 s i is-i (omega arith))
 
     pub parts_some : (i ≡ length s → ⊥) → i ≤ length s → parts ≡ (f (take i s) >>= λ a. g a (after s i))
@@ -79,11 +78,11 @@ module _ {A : Type 0} (f : List ℕ → Option A) (g : A → List ℕ → Option
 
 -- a number of at most m
 module _ (m : ℕ) (g : ℕ → List ℕ → Option Entry) (s : List ℕ) (i : ℕ) (is-i : i ≡ index_of 58 s) (n : i ≡ length s → ⊥) (h : i ≤ length s)
-    (k : Option ℕ) (is-k : k ≡ as_number (read_decimal m (take i s))) where
-  pub number_first_none : k ≡ None → None ≡ as_entry (parts (read_decimal m) g s)
+    (k : Option ℕ) (is-k : k ≡ (read_decimal m (take i s))) where
+  pub number_first_none : k ≡ None → None ≡ parts (read_decimal m) g s
   number_first_none e = rw (parts_some (read_decimal m) g s i is-i n h) (number_none m (λ a. g a (after s i)) (take i s) k is-k e)
 
-  pub number_first_some : (j : ℕ) → k ≡ Some j → (r : Option Entry) → r ≡ as_entry (g j (after s i)) → r ≡ as_entry (parts (read_decimal m) g s)
+  pub number_first_some : (j : ℕ) → k ≡ Some j → (r : Option Entry) → r ≡ g j (after s i) → r ≡ parts (read_decimal m) g s
   number_first_some j e r q = rw (parts_some (read_decimal m) g s i is-i n h) (number_some m (λ a. g a (after s i)) (take i s) k is-k j e r q)
 
 -- one of two words
@@ -91,13 +90,13 @@ module _ {A : Type 0} (w v : String × A) (g : A → List ℕ → Option Entry) 
     (h : i ≤ length s)
     (x : Bool) (is_x : x ≡ equal (bytes w.0) (take i s)) where
   abbrev word : Option Entry
-  word = as_entry (parts (λ t. read_word t w v) g s)
+  word = parts (λ t. read_word t w v) g s
 
-  pub word_first : x ≡ true → (r : Option Entry) → r ≡ as_entry (g w.1 (after s i)) → r ≡ word
+  pub word_first : x ≡ true → (r : Option Entry) → r ≡ g w.1 (after s i) → r ≡ word
   word_first e r q = rw (parts_some (λ t. read_word t w v) g s i is-i n h, ← is_x, e) q
 
   module _ (e : x ≡ false) (y : Bool) (is_y : y ≡ equal (bytes v.0) (take i s)) where
-    pub word_second : y ≡ true → (r : Option Entry) → r ≡ as_entry (g v.1 (after s i)) → r ≡ word
+    pub word_second : y ≡ true → (r : Option Entry) → r ≡ g v.1 (after s i) → r ≡ word
     word_second f r q = rw (parts_some (λ t. read_word t w v) g s i is-i n h, ← is_x, e, ← is_y, f) q
 
     pub word_neither : y ≡ false → None ≡ word

@@ -16,14 +16,14 @@ use Rattle.text.specs.Scan.{index_of}
 use Rattle.text.proofs.ScanLaws.{take_rest, split_mark, split_no_mark}
 use Rattle.portacl.specs.declared.Entry.{Entry}
 use Rattle.portacl.specs.Portacl.{Bind}
-use Rattle.portacl.specs.Code.{as_entry, entry_data, grants_to, entries_data, walk}
+use Rattle.portacl.specs.Code.{entry_data, grants_to, entries_data, walk}
 
 -- what was read, from the code's answer
-pub as_entry_none : (o : Option Entry) → as_entry o ≡ None → o ≡ None
+pub as_entry_none : (o : Option Entry) → o ≡ None → o ≡ None
 as_entry_none None e = refl
 as_entry_none (Some x) e = let z : ◌≡◌ {A = ℕ} 0 1 = cc in absurd (omega arith)
 
-pub as_entry_some : (x : Entry) (o : Option Entry) → as_entry o ≡ Some x → o ≡ Some x
+pub as_entry_some : (x : Entry) (o : Option Entry) → o ≡ Some x → o ≡ Some x
 as_entry_some x None e = let z : ◌≡◌ {A = ℕ} 0 1 = cc in absurd (omega arith)
 as_entry_some x (Some y) e = cc
 
@@ -68,7 +68,7 @@ module _ (t : List ℕ) (b : Bind) (g : Bool) (n at : ℕ) (w : Walking t b g n 
   walking_end h = sym (w.so_far ∙ rw (lt-leb at (length t) h))
 
   module _ (h : at ≤ length t) (i : ℕ) (is-i : i ≡ index_of 44 (take (length t - at) (drop at t))) (l : i ≤ length (take (length t - at) (drop at t)))
-      (r : Option Entry) (is-r : r ≡ as_entry (entry_data (take (at + i - at) (drop at t)))) where
+      (r : Option Entry) (is-r : r ≡ (entry_data (take (at + i - at) (drop at t)))) where
     more : walk b 1 false (entries_data t) ≡ walk b n g (entry_data (take (at + i - at) (drop at t)) ∷ entries_from (at + i + 1) t)
     more =
         let q : at + i - at ≡ i = omega arith in

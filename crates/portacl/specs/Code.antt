@@ -1,6 +1,5 @@
 -- What the code computes on the way. Nothing here needs to be believed for the decision: decide is promised over Portacl alone, and the
 -- other contracts cite these definitions.
---   checked_of o      == o as check answers it
 --   entry_data e      == the entry that e writes, as a value, none where it is not of its form
 --   grants_to x b     == the entry x grants the bind b
 --   entries_data t    == the entries of t
@@ -25,10 +24,6 @@ use Rattle.portacl.specs.declared.Protocol.TheVariants.{Tcp, Udp}
 use Rattle.portacl.specs.declared.Settings.{Settings}
 use Rattle.portacl.specs.Portacl.{Bind, read_word, protocol_word}
 
-abbrev pub checked_of : Option Refusal → Result Unit Refusal
-checked_of None = Ok tt
-checked_of (Some r) = Err r
-
 -- the paper's words; no promise cites them
 abbrev pub decision_word : Decision → List ℕ
 decision_word NotRuled = bytes "not ruled"
@@ -37,10 +32,6 @@ decision_word Granted = bytes "granted"
 decision_word Denied = bytes "denied"
 
 -- ## An entry
-
-abbrev pub as_entry : Option Entry → Option Entry
-as_entry None = None
-as_entry (Some x) = Some x
 
 abbrev pub entry : Bool → ℕ → Protocol → ℕ → Entry
 entry group id protocol port = record { group = group; id = id; protocol = protocol; port = port }

@@ -6,11 +6,12 @@
 #![tactic(auto)]
 
 ghost use Rattle.std.specs.Prelude.{false, [], ◌∷◌, ◌≡◌, eqb};
+ghost use Rattle.section.specs.Refusal.{refusing};
 ghost use Rattle.text.specs.Basics.{when◌then◌else◌, is_some, any};
 ghost use Rattle.text.specs.Text.{equal};
-ghost use Rattle.portacl.specs.Portacl.{bind, protocol_word, read_entry, portacl_ruling, portacl_fault, decide_portacl};
+ghost use Rattle.portacl.specs.Portacl.{bind, protocol_word, read_entry, portacl_fault, decide_portacl};
 ghost use Rattle.portacl.specs.declared.Protocol.TheVariants.{Tcp, Udp};
-ghost use Rattle.portacl.specs.Code.{checked_of, as_entry, entry_data, id_data, protocol_data, port_data, grants_to, entries_data, walk, decision_of};
+ghost use Rattle.portacl.specs.Code.{entry_data, id_data, protocol_data, port_data, grants_to, entries_data, walk, decision_of};
 ghost use Rattle.portacl.specs.Code.{noted, notes};
 
 use section::{Fault, Refusal};
@@ -50,7 +51,7 @@ struct Entry {
 
 // An entry's port, the last of its parts.
 fn read_port(group: bool, id: u32, protocol: Protocol, s: &[u8]) -> Option<Entry>
-    ensures { result ≡ as_entry (port_data group id protocol s.now) }
+    ensures { result ≡ port_data group id protocol s.now }
 {
     match text::read_decimal(s, 65535) {
         None => None,
@@ -65,7 +66,7 @@ fn read_port(group: bool, id: u32, protocol: Protocol, s: &[u8]) -> Option<Entry
 
 // An entry from its protocol on.
 fn read_protocol(group: bool, id: u32, s: &[u8]) -> Option<Entry>
-    ensures { result ≡ as_entry (protocol_data group id s.now) }
+    ensures { result ≡ protocol_data group id s.now }
 {
     let colon = text::index_of(s, b':');
     if colon == s.len() {
@@ -83,7 +84,7 @@ fn read_protocol(group: bool, id: u32, s: &[u8]) -> Option<Entry>
 
 // An entry from its id on.
 fn read_id(group: bool, s: &[u8]) -> Option<Entry>
-    ensures { result ≡ as_entry (id_data group s.now) }
+    ensures { result ≡ id_data group s.now }
 {
     let colon = text::index_of(s, b':');
     if colon == s.len() {
@@ -98,7 +99,7 @@ fn read_id(group: bool, s: &[u8]) -> Option<Entry>
 
 // The entry that s writes, idtype:id:protocol:port.
 fn read_entry(s: &[u8]) -> Option<Entry>
-    ensures { result ≡ as_entry (entry_data s.now) }
+    ensures { result ≡ entry_data s.now }
 {
     let colon = text::index_of(s, b':');
     if colon == s.len() {
@@ -217,7 +218,7 @@ fn note(ports: &mut [u8], entry: Entry, uid: u32, protocol: Protocol)
 // The refusal of the first entry that is not of its form. Up to it the ports that the entries of the user id grant are noted, those over tcp and
 // those over udp; groups are passed over, and so are ports beyond the lent bytes.
 pub fn note_ports(tcp: &mut [u8], udp: &mut [u8], text: &[u8], uid: u32) -> Result<(), Refusal>
-    ensures answer { result ≡ checked_of (portacl_fault text.now) }
+    ensures answer { result ≡ refusing (portacl_fault text.now) tt }
     ensures over_tcp { tcp.new ≡ notes uid Tcp (entries_data text.now) tcp.old }
     ensures over_udp { udp.new ≡ notes uid Udp (entries_data text.now) udp.old }
 {
@@ -269,7 +270,7 @@ fn by_settings(settings: Settings, uid: u32, port: u16, granted: bool) -> Decisi
 
 // The refusal of the first entry that is not of its form.
 pub fn check(text: &[u8]) -> Result<(), Refusal>
-    ensures { result ≡ checked_of (portacl_fault text.now) }
+    ensures { result ≡ refusing (portacl_fault text.now) tt }
 {
     let groups: [u32; 0] = [];
     match walk_entries(text, 0, &groups, Protocol::Tcp, 0) {
@@ -287,7 +288,7 @@ pub fn decide(
     protocol: Protocol,
     port: u16,
 ) -> Result<Decision, Refusal>
-    ensures { result ≡ portacl_ruling (decide_portacl text.now settings (Some (bind uid groups.now protocol port))) }
+    ensures { result ≡ decide_portacl text.now settings (Some (bind uid groups.now protocol port)) }
 {
     if section::Portacl::over(text.len()) {
         return Err(section::Portacl::refusal(Fault::OverLimit, 0));

@@ -16,9 +16,8 @@ use Rattle.text.proofs.Digits.{length_to_digits}
 use Rattle.text.proofs.PasteLaws.{put_put, put_first, put_more}
 use Rattle.section.specs.declared.Fault.TheVariants as F
 use Rattle.section.specs.declared.Refusal.{Refusal}
-use Rattle.section.specs.Refusal.{placeless, written_of, lent_after}
+use Rattle.section.specs.Refusal.{placeless, written_of, lent_after, refusing}
 use Rattle.sheet.specs.Sheet.{texts, texts_fault, counted, sheet_of, pack}
-use Rattle.sheet.specs.Code.{checked_of}
 use Rattle.sheet.proofs.FrameLaws.{texts_fault_none, answered_pack}
 use Rattle.sheet.proofs.TextsLaws.{checked_sound, checked_refused}
 
@@ -74,7 +73,7 @@ module _ (out a d b p t : List ℕ) (o₁ o₂ o₃ o₄ o₅ : List ℕ) (n₁ 
 
 -- ## The answers
 
-module _ (a d b p t : List ℕ) (x : Result Unit Refusal) (is_x : x ≡ checked_of (texts_fault (texts a d b p t))) where
+module _ (a d b p t : List ℕ) (x : Result Unit Refusal) (is_x : x ≡ refusing (texts_fault (texts a d b p t)) tt) where
   pub pack_refused : (r : Refusal) → x ≡ Err r → (out : List ℕ)
       → (Err r ≡ written_of (pack (texts a d b p t) (length out))) × (out ≡ lent_after out (pack (texts a d b p t) (length out)))
   unfolding pack

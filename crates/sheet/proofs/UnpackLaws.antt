@@ -10,24 +10,23 @@ use Rattle.section.specs.Section.{bytes_at}
 use Rattle.section.specs.declared.Refusal.{Refusal}
 use Rattle.section.specs.Refusal.{Outcome, ◌>>=◌, refusing}
 use Rattle.sheet.specs.declared.Parts.{Parts}
-use Rattle.sheet.specs.Sheet.{texts, texts_at, texts_fault, frame, unpack, unpacked_of}
-use Rattle.sheet.specs.Code.{checked_of, framed_of}
+use Rattle.sheet.specs.Sheet.{texts, texts_at, texts_fault, frame, unpack}
 
-pub framed_refused : (o : Outcome Parts) (g : Refusal) → framed_of o ≡ Err g → o ≡ Err g
+pub framed_refused : (o : Outcome Parts) (g : Refusal) → o ≡ Err g → o ≡ Err g
 framed_refused (Err r) g e = cc
 framed_refused (Ok p) g e = let z : ◌≡◌ {A = ℕ} 0 1 = cc in absurd (omega arith)
 
-pub framed_parts : (o : Outcome Parts) (p : Parts) → framed_of o ≡ Ok p → o ≡ Ok p
+pub framed_parts : (o : Outcome Parts) (p : Parts) → o ≡ Ok p → o ≡ Ok p
 framed_parts (Err r) p e = let z : ◌≡◌ {A = ℕ} 0 1 = cc in absurd (omega arith)
 framed_parts (Ok q) p e = cc
 
 pub texts_in_sheet : (sheet : List ℕ) (p : Parts) (a d b q t : List ℕ) → a ≡ bytes_at sheet p.allow → d ≡ bytes_at sheet p.deny
     → b ≡ bytes_at sheet p.byuid → q ≡ bytes_at sheet p.portacl → t ≡ bytes_at sheet p.tables
-    → (x : Result Unit Refusal) → x ≡ checked_of (texts_fault (texts a d b q t)) → x ≡ checked_of (texts_fault (texts_at sheet p))
+    → (x : Result Unit Refusal) → x ≡ refusing (texts_fault (texts a d b q t)) tt → x ≡ refusing (texts_fault (texts_at sheet p)) tt
 texts_in_sheet sheet p a d b q t is-a is_d is_b is-q is-t x is_x = is_x ∙ rw (is-a, is_d, is_b, is-q, is-t)
 
-module _ (sheet : List ℕ) (x : Result Parts Refusal) (is_x : x ≡ framed_of (frame sheet)) where
-  pub unframed : (g : Refusal) → x ≡ Err g → Err g ≡ unpacked_of (unpack sheet)
+module _ (sheet : List ℕ) (x : Result Parts Refusal) (is_x : x ≡ (frame sheet)) where
+  pub unframed : (g : Refusal) → x ≡ Err g → Err g ≡ unpack sheet
   unfolding unpack
   unframed g e = rw (framed_refused (frame sheet) g (sym is_x ∙ e))
 
@@ -35,27 +34,27 @@ module _ (sheet : List ℕ) (x : Result Parts Refusal) (is_x : x ≡ framed_of (
     pub is_framed : frame sheet ≡ Ok p
     is_framed = framed_parts (frame sheet) p (sym is_x ∙ e)
 
-    module _ (y : Result Unit Refusal) (is_y : y ≡ checked_of (texts_fault (texts_at sheet p))) where
-      pub unpack_refused : (g : Refusal) → y ≡ Err g → Err g ≡ unpacked_of (unpack sheet)
+    module _ (y : Result Unit Refusal) (is_y : y ≡ refusing (texts_fault (texts_at sheet p)) tt) where
+      pub unpack_refused : (g : Refusal) → y ≡ Err g → Err g ≡ unpack sheet
       unfolding unpack
       unpack_refused g f = rw is_framed (by (texts_fault (texts_at sheet p)) (sym is_y ∙ f))
         where
-          by : (o : Option Refusal) → checked_of o ≡ Err g → Err g ≡ unpacked_of (refusing o p)
+          by : (o : Option Refusal) → refusing o tt ≡ Err g → Err g ≡ refusing o p
           by None k = let z : ◌≡◌ {A = ℕ} 0 1 = cc in absurd (omega arith)
           by (Some h) k = cc
 
-      pub unpack_parts : y ≡ (Ok tt) → Ok p ≡ unpacked_of (unpack sheet)
+      pub unpack_parts : y ≡ Ok tt → Ok p ≡ unpack sheet
       unfolding unpack
       unpack_parts f = rw is_framed (by (texts_fault (texts_at sheet p)) (sym is_y ∙ f))
         where
-          by : (o : Option Refusal) → checked_of o ≡ (Ok tt) → Ok p ≡ unpacked_of (refusing o p)
+          by : (o : Option Refusal) → refusing o tt ≡ Ok tt → Ok p ≡ refusing o p
           by None k = refl
           by (Some h) k = let z : ◌≡◌ {A = ℕ} 0 1 = cc in absurd (omega arith)
 
-pub unpacked_refused : (o : Outcome Parts) (g : Refusal) → unpacked_of o ≡ Err g → o ≡ Err g
+pub unpacked_refused : (o : Outcome Parts) (g : Refusal) → o ≡ Err g → o ≡ Err g
 unpacked_refused (Err r) g e = cc
 unpacked_refused (Ok p) g e = let z : ◌≡◌ {A = ℕ} 0 1 = cc in absurd (omega arith)
 
-pub unpacked_parts : (o : Outcome Parts) (p : Parts) → unpacked_of o ≡ Ok p → o ≡ Ok p
+pub unpacked_parts : (o : Outcome Parts) (p : Parts) → o ≡ Ok p → o ≡ Ok p
 unpacked_parts (Err r) p e = let z : ◌≡◌ {A = ℕ} 0 1 = cc in absurd (omega arith)
 unpacked_parts (Ok q) p e = cc

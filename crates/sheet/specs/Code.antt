@@ -1,6 +1,5 @@
 -- What the contracts of inner functions cite, and the enums of the code. Nothing here needs to be believed for the meaning of documents 01
 -- and 02.
---   checked_of o, section_read_of o, framed_of o == o as the code answers it
 --   checked_by p      == a pass that looks for nothing, as a check
 --   limits_fault allow deny byuid portacl, contents_fault allow deny byuid portacl tables == texts_fault before, and after, the frame of the tables
 --   section_of c      == the section of a cursor
@@ -23,10 +22,6 @@ use Rattle.sheet.specs.Sheet.{section_at, part_end, rest_after}
 
 -- ## Texts
 
-abbrev pub checked_of : Option Refusal → Result Unit Refusal
-checked_of None = Ok tt
-checked_of (Some r) = Err r
-
 abbrev pub checked_by : Result (Option Answer) Refusal → Result Unit Refusal
 checked_by (Err r) = Err r
 checked_by (Ok None) = Ok tt
@@ -44,14 +39,6 @@ contents_fault allow deny byuid portacl tables =
 
 abbrev pub section_of : Cursor → Section
 section_of c = record { order = c.order; limit = c.limit }
-
-abbrev pub section_read_of : Outcome Part → Result Part Refusal
-section_read_of (Err r) = Err r
-section_read_of (Ok p) = Ok p
-
-abbrev pub framed_of : Outcome Parts → Result Parts Refusal
-framed_of (Err r) = Err r
-framed_of (Ok p) = Ok p
 
 unfoldable pub from_portacl : List ℕ → Part → Part → Part → Outcome Parts
 from_portacl sheet a d b = do

@@ -1,7 +1,6 @@
 -- Document 01, "The station sheet" and the order of refusals over it; document 02, requests 1: the fifth section, and 11: the retired form.
 --   frame sheet       == the places of the five texts: of four by their counts, and of the tables, which are all that follows
 --   unpack sheet      == the same for an accepted sheet; every other one is refused
---   unpacked_of o      == the outcome of unpack as the call answers it
 --   pack ts room      == the sheet of five texts, into room bytes
 --   four_frame sheet   == the refusal of a sheet of document 01 by its frame
 --   upgrade sheet room == such a sheet with an empty fifth section, into room bytes
@@ -92,11 +91,6 @@ unfoldable pub unpack : List ℕ → Outcome Parts
 unpack sheet = do
   p ← frame sheet
   refusing (texts_fault (texts_at sheet p)) p
-
--- the outcome as the call answers it
-abbrev pub unpacked_of : Outcome Parts → Result Parts Refusal
-unpacked_of (Err r) = Err r
-unpacked_of (Ok p) = Ok p
 
 abbrev pub counted : List ℕ → List ℕ
 counted t = to_digits 256 4 (length t) ++ t

@@ -5,7 +5,7 @@ ghost use Rattle.std.specs.Prelude.{◌≡◌, ◌≤◌, length, take, drop};
 ghost use Rattle.text.specs.Number.{from_digits};
 ghost use Rattle.section.specs.Refusal.{refusal};
 ghost use Rattle.sheet.specs.Sheet.{section_at, part_end, rest_after, frame as frame_of};
-ghost use Rattle.sheet.specs.Code.{section_of, section_read_of, framed_of, from_deny, from_byuid, from_portacl};
+ghost use Rattle.sheet.specs.Code.{section_of, from_deny, from_byuid, from_portacl};
 
 use crate::Parts;
 use section::{Allow, Byuid, Cursor, Deny, Fault, Part, Portacl, Refusal};
@@ -34,7 +34,7 @@ fn read_count(s: &[u8]) -> usize
 
 // The refusal of the cursor's section.
 fn refuse(cursor: Cursor, fault: Fault) -> Result<Part, Refusal>
-    ensures { result ≡ section_read_of (Err (refusal fault cursor.order 0)) }
+    ensures { result ≡ Err (refusal fault cursor.order 0) }
 {
     Err(Refusal {
         fault,
@@ -45,7 +45,7 @@ fn refuse(cursor: Cursor, fault: Fault) -> Result<Part, Refusal>
 
 // The part of the cursor's section: its count present, its limit, its bytes present.
 pub fn section_at(sheet: &[u8], cursor: Cursor) -> Result<Part, Refusal>
-    ensures { result ≡ section_read_of (section_at (section_of cursor) cursor.at sheet.now) }
+    ensures { result ≡ section_at (section_of cursor) cursor.at sheet.now }
 {
     let rest = bytes_from(sheet, cursor.at);
     if rest.len() < 4 {
@@ -79,7 +79,7 @@ fn rest_after(sheet: &[u8], part: Part) -> Part
 // The frame, read from portacl on.
 fn from_portacl(sheet: &[u8], allow: Part, deny: Part, byuid: Part) -> Result<Parts, Refusal>
     requires { part_end byuid ≤ length sheet.now }
-    ensures { result ≡ framed_of (from_portacl sheet.now allow deny byuid) }
+    ensures { result ≡ from_portacl sheet.now allow deny byuid }
 {
     match section_at(sheet, Portacl::cursor(byuid.place + byuid.len)) {
         Err(refusal) => Err(refusal),
@@ -96,7 +96,7 @@ fn from_portacl(sheet: &[u8], allow: Part, deny: Part, byuid: Part) -> Result<Pa
 // The frame, read from byuid on.
 fn from_byuid(sheet: &[u8], allow: Part, deny: Part) -> Result<Parts, Refusal>
     requires { part_end deny ≤ length sheet.now }
-    ensures { result ≡ framed_of (from_byuid sheet.now allow deny) }
+    ensures { result ≡ from_byuid sheet.now allow deny }
 {
     match section_at(sheet, Byuid::cursor(deny.place + deny.len)) {
         Err(refusal) => Err(refusal),
@@ -107,7 +107,7 @@ fn from_byuid(sheet: &[u8], allow: Part, deny: Part) -> Result<Parts, Refusal>
 // The frame, read from deny on.
 fn from_deny(sheet: &[u8], allow: Part) -> Result<Parts, Refusal>
     requires { part_end allow ≤ length sheet.now }
-    ensures { result ≡ framed_of (from_deny sheet.now allow) }
+    ensures { result ≡ from_deny sheet.now allow }
 {
     match section_at(sheet, Deny::cursor(allow.place + allow.len)) {
         Err(refusal) => Err(refusal),
@@ -117,7 +117,7 @@ fn from_deny(sheet: &[u8], allow: Part) -> Result<Parts, Refusal>
 
 // The parts of all sections; the last goes to the sheet's end.
 pub fn frame(sheet: &[u8]) -> Result<Parts, Refusal>
-    ensures { result ≡ framed_of (frame_of sheet.now) }
+    ensures { result ≡ frame_of sheet.now }
 {
     match section_at(sheet, Allow::cursor(0)) {
         Err(refusal) => Err(refusal),

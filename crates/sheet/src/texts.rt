@@ -1,12 +1,13 @@
 // The checks of the five texts of a sheet.
 //   check_texts(allow, deny, byuid, portacl, tables) == their first refusal, if there is one: limits, the frame of the tables, contents
 ghost use Rattle.std.specs.Prelude.{◌≡◌};
+ghost use Rattle.section.specs.Refusal.{refusing};
 ghost use Rattle.text.specs.Basics.{◌or_else◌};
 ghost use Rattle.tables.specs.Table.{tables_frame};
 ghost use Rattle.byuid.specs.Byuid.{byuid_fault};
 ghost use Rattle.portacl.specs.Portacl.{portacl_fault};
 ghost use Rattle.sheet.specs.Sheet.{texts, texts_fault};
-ghost use Rattle.sheet.specs.Code.{checked_of, checked_by, limits_fault, contents_fault};
+ghost use Rattle.sheet.specs.Code.{checked_by, limits_fault, contents_fault};
 
 use rules::naming;
 use rules::search::are_sound;
@@ -16,7 +17,7 @@ use tables::entry::Framing;
 
 // Whether each counted text is within its section's limit.
 fn check_limits(allow: &[u8], deny: &[u8], byuid: &[u8], portacl: &[u8]) -> Result<(), Refusal>
-    ensures { result ≡ checked_of (limits_fault allow.now deny.now byuid.now portacl.now) }
+    ensures { result ≡ refusing (limits_fault allow.now deny.now byuid.now portacl.now) tt }
 {
     if Allow::over(allow.len()) {
         return Err(Allow::refusal(Fault::OverLimit, 0));
@@ -35,7 +36,7 @@ fn check_limits(allow: &[u8], deny: &[u8], byuid: &[u8], portacl: &[u8]) -> Resu
 
 // The check of the counts of the tables: cut short is 1, bytes after the last table are 3.
 pub fn check_frame(tables: &[u8]) -> Result<(), Refusal>
-    ensures { result ≡ checked_of (tables_frame tables.now) }
+    ensures { result ≡ refusing (tables_frame tables.now) tt }
 {
     match entry::frame(tables) {
         Framing::Sound => Ok(()),
@@ -57,7 +58,7 @@ pub fn checked_by(pass: Result<Option<Answer>, Refusal>) -> Result<(), Refusal>
 
 // The check of the entries of a portacl text.
 fn check_portacl(text: &[u8]) -> Result<(), Refusal>
-    ensures { result ≡ checked_of (portacl_fault text.now) }
+    ensures { result ≡ refusing (portacl_fault text.now) tt }
 {
     match portacl::check(text) {
         Err(refusal) => Err(refusal),
@@ -67,7 +68,7 @@ fn check_portacl(text: &[u8]) -> Result<(), Refusal>
 
 // The check of the lines of a byuid text.
 fn check_byuid(text: &[u8]) -> Result<(), Refusal>
-    ensures { result ≡ checked_of (byuid_fault text.now) }
+    ensures { result ≡ refusing (byuid_fault text.now) tt }
 {
     match byuid::check(text) {
         Err(refusal) => Err(refusal),
@@ -77,7 +78,7 @@ fn check_byuid(text: &[u8]) -> Result<(), Refusal>
 
 // The check of the texts of the port decisions.
 fn check_ports(byuid: &[u8], portacl: &[u8]) -> Result<(), Refusal>
-    ensures { result ≡ checked_of (portacl_fault portacl.now or_else byuid_fault byuid.now) }
+    ensures { result ≡ refusing (portacl_fault portacl.now or_else byuid_fault byuid.now) tt }
 {
     match check_portacl(portacl) {
         Err(refusal) => Err(refusal),
@@ -89,7 +90,7 @@ fn check_ports(byuid: &[u8], portacl: &[u8]) -> Result<(), Refusal>
 fn check_in_order(allow: &[u8], deny: &[u8], byuid: &[u8], portacl: &[u8], tables: &[u8]) -> Result<(), Refusal>
     requires { tables_frame tables.now ≡ None }
     ensures { result
-        ≡ checked_of (contents_fault allow.now deny.now byuid.now portacl.now tables.now) }
+        ≡ refusing (contents_fault allow.now deny.now byuid.now portacl.now tables.now) tt }
 {
     match checked_by(naming::check_lines(allow, deny)) {
         Err(refusal) => Err(refusal),
@@ -107,7 +108,7 @@ fn check_in_order(allow: &[u8], deny: &[u8], byuid: &[u8], portacl: &[u8], table
 fn check_contents(allow: &[u8], deny: &[u8], byuid: &[u8], portacl: &[u8], tables: &[u8]) -> Result<(), Refusal>
     requires { tables_frame tables.now ≡ None }
     ensures { result
-        ≡ checked_of (contents_fault allow.now deny.now byuid.now portacl.now tables.now) }
+        ≡ refusing (contents_fault allow.now deny.now byuid.now portacl.now tables.now) tt }
 {
     if are_sound(allow, deny, tables) {
         return check_ports(byuid, portacl);
@@ -124,7 +125,7 @@ pub fn check_texts(
     tables: &[u8],
 ) -> Result<(), Refusal>
     ensures { result
-        ≡ checked_of (texts_fault (texts allow.now deny.now byuid.now portacl.now tables.now)) }
+        ≡ refusing (texts_fault (texts allow.now deny.now byuid.now portacl.now tables.now)) tt }
 {
     match check_limits(allow, deny, byuid, portacl) {
         Err(refusal) => Err(refusal),

@@ -1,15 +1,15 @@
 // Unpacking a sheet.
 //   unpack(sheet) == the place and length of each text of an accepted sheet; every other one is refused
 ghost use Rattle.std.specs.Prelude.{◌≡◌};
-ghost use Rattle.sheet.specs.Sheet.{texts_at, texts_fault, unpack as unpackOf, unpacked_of};
-ghost use Rattle.sheet.specs.Code.{checked_of};
+ghost use Rattle.section.specs.Refusal.{refusing};
+ghost use Rattle.sheet.specs.Sheet.{texts_at, texts_fault, unpack as unpackOf};
 
 use crate::{Parts, frame, texts};
 use section::{Refusal, part_of};
 
 // The first refusal of the texts that stand in a sheet, if there is one.
 fn check_parts(sheet: &[u8], parts: Parts) -> Result<(), Refusal>
-    ensures { result ≡ checked_of (texts_fault (texts_at sheet.now parts)) }
+    ensures { result ≡ refusing (texts_fault (texts_at sheet.now parts)) tt }
 {
     texts::check_texts(
         part_of(sheet, parts.allow),
@@ -22,7 +22,7 @@ fn check_parts(sheet: &[u8], parts: Parts) -> Result<(), Refusal>
 
 // The place and length of each text of a sheet.
 pub fn unpack(sheet: &[u8]) -> Result<Parts, Refusal>
-    ensures { result ≡ unpacked_of (unpackOf sheet.now) }
+    ensures { result ≡ unpackOf sheet.now }
 {
     match frame::frame(sheet) {
         Err(refusal) => Err(refusal),

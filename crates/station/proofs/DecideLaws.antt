@@ -43,15 +43,13 @@ use Rattle.rules.specs.Code.{contents_fault as textsContents}
 use Rattle.rules.proofs.NamingLaws.{or_else_none}
 use Rattle.rules.proofs.PlaceLaws.{file_length, search_within}
 use Rattle.byuid.specs.declared.Mark.TheVariants.{Plain}
-use Rattle.byuid.specs.Byuid.{Bind as ByuidBind, from_file, byuid_fault, decide_byuid, byuid_ruling}
-use Rattle.byuid.specs.Code.{checked_of as byuidCheckedOf}
+use Rattle.byuid.specs.Byuid.{Bind as ByuidBind, from_file, byuid_fault, decide_byuid}
 use Rattle.portacl.specs.declared.Settings.{Settings}
-use Rattle.portacl.specs.Code.{checked_of as portaclCheckedOf}
-use Rattle.portacl.specs.Portacl.{Bind as PortaclBind, portacl_fault, decide_portacl, portacl_ruling}
+use Rattle.portacl.specs.Portacl.{Bind as PortaclBind, portacl_fault, decide_portacl}
 use Rattle.sheet.specs.declared.Parts.{Parts}
-use Rattle.sheet.specs.Sheet.{texts_at, texts_fault, frame, unpack, unpacked_of}
+use Rattle.sheet.specs.Sheet.{texts_at, texts_fault, frame, unpack}
 use Rattle.station.specs.Station.{file_place, in_sheet, decide_sheet, looked_sheet, decide_byuid_sheet, decide_portacl_sheet}
-use Rattle.sheet.specs.Code.{framed_of, limits_fault, contents_fault}
+use Rattle.sheet.specs.Code.{limits_fault, contents_fault}
 use Rattle.station.specs.Code.{framed_fault, refused_by}
 use Rattle.sheet.proofs.FrameLaws.{SectionAt, frame_answered, refusing_answered, take_drop_take}
 use Rattle.sheet.proofs.TextsLaws.{texts_fault_parts}
@@ -59,56 +57,56 @@ use Rattle.sheet.proofs.UnpackLaws.{framed_refused, unpacked_refused, unpacked_p
 
 -- ## The port decisions
 
-module _ (sheet : List ℕ) (x : Result Parts Refusal) (is_x : x ≡ unpacked_of (unpack sheet)) where
+module _ (sheet : List ℕ) (x : Result Parts Refusal) (is_x : x ≡ (unpack sheet)) where
   module _ (o : Option ByuidBind) where
-    pub byuid_refused : (g : Refusal) → x ≡ Err g → Err g ≡ byuid_ruling (decide_byuid_sheet sheet o)
+    pub byuid_refused : (g : Refusal) → x ≡ Err g → Err g ≡ decide_byuid_sheet sheet o
     unfolding decide_byuid_sheet
     byuid_refused g e = rw (unpacked_refused (unpack sheet) g (sym is_x ∙ e))
 
     pub byuid_decided : (p : Parts) → x ≡ Ok p → (t : List ℕ) → t ≡ bytes_at sheet p.byuid
-        → (y : Result Decision Refusal) → y ≡ byuid_ruling (decide_byuid t (from_file Plain o)) → y ≡ byuid_ruling (decide_byuid_sheet sheet o)
+        → (y : Result Decision Refusal) → y ≡ decide_byuid t (from_file Plain o) → y ≡ decide_byuid_sheet sheet o
     unfolding decide_byuid_sheet
     byuid_decided p e t is-t y is_y = is_y ∙ rw (unpacked_parts (unpack sheet) p (sym is_x ∙ e), is-t)
 
   module _ (s : Settings) (o : Option PortaclBind) where
-    pub portacl_refused : (g : Refusal) → x ≡ Err g → Err g ≡ portacl_ruling (decide_portacl_sheet sheet s o)
+    pub portacl_refused : (g : Refusal) → x ≡ Err g → Err g ≡ decide_portacl_sheet sheet s o
     unfolding decide_portacl_sheet
     portacl_refused g e = rw (unpacked_refused (unpack sheet) g (sym is_x ∙ e))
 
     pub portacl_decided : (p : Parts) → x ≡ Ok p → (t : List ℕ) → t ≡ bytes_at sheet p.portacl
-        → (y : Result Decision Refusal) → y ≡ portacl_ruling (decide_portacl t s o) → y ≡ portacl_ruling (decide_portacl_sheet sheet s o)
+        → (y : Result Decision Refusal) → y ≡ decide_portacl t s o → y ≡ decide_portacl_sheet sheet s o
     unfolding decide_portacl_sheet
     portacl_decided p e t is-t y is_y = is_y ∙ rw (unpacked_parts (unpack sheet) p (sym is_x ∙ e), is-t)
 
 -- ## What is found by texts
 
-module _ (o : Option Refusal) (c : Result Unit Refusal) (is_c : c ≡ portaclCheckedOf o) where
+module _ (o : Option Refusal) (c : Result Unit Refusal) (is_c : c ≡ refusing o tt) where
   bad_entry : (g : Refusal) → c ≡ Err g → o ≡ Some g
   bad_entry g e = by o (sym is_c ∙ e)
     where
-      by : (o : Option Refusal) → portaclCheckedOf o ≡ Err g → o ≡ Some g
+      by : (o : Option Refusal) → refusing o tt ≡ Err g → o ≡ Some g
       by None k = let z : ◌≡◌ {A = ℕ} 0 1 = cc in absurd (omega arith)
       by (Some h) k = cc
 
   entries : c ≡ (Ok tt) → o ≡ None
   entries e = by o (sym is_c ∙ e)
     where
-      by : (o : Option Refusal) → portaclCheckedOf o ≡ (Ok tt) → o ≡ None
+      by : (o : Option Refusal) → refusing o tt ≡ Ok tt → o ≡ None
       by None k = refl
       by (Some h) k = let z : ◌≡◌ {A = ℕ} 0 1 = cc in absurd (omega arith)
 
-module _ (o : Option Refusal) (c : Result Unit Refusal) (is_c : c ≡ byuidCheckedOf o) where
+module _ (o : Option Refusal) (c : Result Unit Refusal) (is_c : c ≡ refusing o tt) where
   bad_line_lem : (g : Refusal) → c ≡ Err g → o ≡ Some g
   bad_line_lem g e = by o (sym is_c ∙ e)
     where
-      by : (o : Option Refusal) → byuidCheckedOf o ≡ Err g → o ≡ Some g
+      by : (o : Option Refusal) → refusing o tt ≡ Err g → o ≡ Some g
       by None k = let z : ◌≡◌ {A = ℕ} 0 1 = cc in absurd (omega arith)
       by (Some h) k = cc
 
   grants : c ≡ (Ok tt) → o ≡ None
   grants e = by o (sym is_c ∙ e)
     where
-      by : (o : Option Refusal) → byuidCheckedOf o ≡ (Ok tt) → o ≡ None
+      by : (o : Option Refusal) → refusing o tt ≡ Ok tt → o ≡ None
       by None k = refl
       by (Some h) k = let z : ◌≡◌ {A = ℕ} 0 1 = cc in absurd (omega arith)
 
@@ -120,12 +118,12 @@ finds_last : (x : Option Refusal) (g : Refusal) (b : Searched) → None ≡ find
 finds_last None g b = refl
 finds_last (Some f) g b = refl
 
-module _ (a d bu po t : List ℕ) (b : Searched) (c : Result Unit Refusal) (is_c : c ≡ portaclCheckedOf (portacl_fault po)) where
+module _ (a d bu po t : List ℕ) (b : Searched) (c : Result Unit Refusal) (is_c : c ≡ refusing (portacl_fault po) tt) where
   pub find_entry : (g : Refusal) → c ≡ Err g → None ≡ finding_of (contents_fault a d bu po t) b
   unfolding contents_fault
   find_entry g e = rw (bad_entry (portacl_fault po) c is_c g e) (finds_doubt (lines_fault a d) (tables_fault a d t) (byuid_fault bu) g b)
 
-  module _ (e : c ≡ Ok tt) (k : Result Unit Refusal) (is-k : k ≡ byuidCheckedOf (byuid_fault bu)) where
+  module _ (e : c ≡ Ok tt) (k : Result Unit Refusal) (is-k : k ≡ refusing (byuid_fault bu) tt) where
     pub find_retired : (g : Refusal) → k ≡ Err g → None ≡ finding_of (contents_fault a d bu po t) b
     unfolding contents_fault
     find_retired g h =
@@ -166,7 +164,7 @@ pub placed_in_sheet : (p : Parts) (a : Answer) (n : ℕ) → n ≡ file_place p 
     → answer a.verdict a.file a.line (part (n + a.command.place) a.command.len) ≡ in_sheet p a
 placed_in_sheet p a n is-n = rw is-n
 
-module _ (sheet : List ℕ) (x : Result Parts Refusal) (is_x : x ≡ unpacked_of (unpack sheet)) where
+module _ (sheet : List ℕ) (x : Result Parts Refusal) (is_x : x ≡ (unpack sheet)) where
   pub refuse_refused : (g : Refusal) → x ≡ Err g → (y : Reported) → y ≡ refused_report g → y ≡ refused_by (unpack sheet)
   refuse_refused g e y is_y = is_y ∙ rw (unpacked_refused (unpack sheet) g (sym is_x ∙ e))
 
@@ -301,7 +299,7 @@ command_bytes_lem sheet p framed r b ts e =
         let f = frame_answered sheet p framed in
         sym (in_part sheet p.deny b.command (omega (arith, length_text f.deny)))
 
-pub decide_unframed : (sheet : List ℕ) (x : Result Parts Refusal) → x ≡ framed_of (frame sheet) → (r : Request) (g : Refusal) → x ≡ Err g
+pub decide_unframed : (sheet : List ℕ) (x : Result Parts Refusal) → x ≡ frame sheet → (r : Request) (g : Refusal) → x ≡ Err g
     → (y : Reported) → y ≡ refused_report g → y ≡ reported (decide_sheet sheet (Some r)) (looked_sheet sheet (Some r))
 unfolding decide_sheet unpack
 decide_unframed sheet x is_x r g e y is_y = is_y ∙ rw (framed_refused (frame sheet) g (sym is_x ∙ e))

@@ -16,10 +16,9 @@ use Rattle.section.specs.Section as S
 use Rattle.section.specs.Section.{bytes_at, over_limit}
 use Rattle.portacl.specs.declared.Decision.{Decision}
 use Rattle.portacl.specs.declared.Settings.{Settings}
-use Rattle.portacl.specs.Portacl.{Bind, entries, entry_fault, portacl_fault, portacl_decision, groups_fit, decide_portacl, portacl_ruling}
+use Rattle.portacl.specs.Portacl.{Bind, entries, entry_fault, portacl_fault, portacl_decision, groups_fit, decide_portacl}
 use Rattle.sheet.specs.declared.Parts.{Parts}
 use Rattle.sheet.specs.Sheet.{Texts, texts, texts_at, texts_fault, frame, unpack}
-use Rattle.sheet.specs.Code.{checked_of, framed_of}
 use Rattle.sheet.proofs.TextsLaws.{checked_sound, checked_refused, or_else_none}
 use Rattle.sheet.proofs.UnpackLaws.{framed_refused}
 use Rattle.station.specs.Station.{decide_portacl_sheet}
@@ -36,7 +35,7 @@ decided_sound t s o d = by (over_limit S.portacl t) (portacl_fault t)
     by None (Some g) e = let z : ◌≡◌ {A = ℕ} 0 1 = cc in absurd (omega arith)
     by (Some g) b e = let z : ◌≡◌ {A = ℕ} 0 1 = cc in absurd (omega arith)
 
-ruled : (o : Outcome Decision) (d : Decision) → portacl_ruling o ≡ Ok d → o ≡ Ok d
+ruled : (o : Outcome Decision) (d : Decision) → o ≡ Ok d → o ≡ Ok d
 ruled (Err g) d e = let z : ◌≡◌ {A = ℕ} 0 1 = cc in absurd (omega arith)
 ruled (Ok c) d e = cc
 
@@ -51,8 +50,8 @@ unfolding texts_fault
 same_fault a d b t f o e = rw (o, e, no_entries)
 
 module _ (sheet : List ℕ) (p : Parts) (framed : frame sheet ≡ Ok p) (s : Settings) (o : Option Bind) (t : List ℕ) (is-t : t ≡ bytes_at sheet p.portacl)
-    (y : Result Decision Refusal) (is_y : y ≡ portacl_ruling (decide_portacl t s o)) (d : Decision) (e : y ≡ Ok d)
-    (c : Result Unit Refusal) (is_c : c ≡ checked_of (texts_fault (without_list (texts_at sheet p)))) where
+    (y : Result Decision Refusal) (is_y : y ≡ (decide_portacl t s o)) (d : Decision) (e : y ≡ Ok d)
+    (c : Result Unit Refusal) (is_c : c ≡ refusing (texts_fault (without_list (texts_at sheet p))) tt) where
   decided : decide_portacl (bytes_at sheet p.portacl) s o ≡ Ok d
   decided = ap (λ (u : List ℕ). decide_portacl u s o) (sym is-t) ∙ ruled (decide_portacl t s o) d (sym is_y ∙ e)
 
@@ -62,20 +61,20 @@ module _ (sheet : List ℕ) (p : Parts) (framed : frame sheet ≡ Ok p) (s : Set
       same_fault (bytes_at sheet p.allow) (bytes_at sheet p.deny) (bytes_at sheet p.byuid) (bytes_at sheet p.portacl) (bytes_at sheet p.tables) k.0
       k.1
 
-  pub others_refused : (g : Refusal) → c ≡ Err g → Err g ≡ portacl_ruling (decide_portacl_sheet sheet s o)
+  pub others_refused : (g : Refusal) → c ≡ Err g → Err g ≡ decide_portacl_sheet sheet s o
   unfolding decide_portacl_sheet unpack
   others_refused g h = rw (framed, others, checked_refused (texts_fault (without_list (texts_at sheet p))) g (sym is_c ∙ h))
 
-  pub others_sound : c ≡ (Ok tt) → Ok d ≡ portacl_ruling (decide_portacl_sheet sheet s o)
+  pub others_sound : c ≡ Ok tt → Ok d ≡ decide_portacl_sheet sheet s o
   unfolding decide_portacl_sheet unpack
   others_sound h = rw (framed, others, checked_sound (texts_fault (without_list (texts_at sheet p))) (sym is_c ∙ h), decided)
 
-pub list_unframed : (sheet : List ℕ) (x : Result Parts Refusal) → x ≡ framed_of (frame sheet) → (s : Settings) (o : Option Bind) (g : Refusal) → x ≡ Err g
-    → Err g ≡ portacl_ruling (decide_portacl_sheet sheet s o)
+pub list_unframed : (sheet : List ℕ) (x : Result Parts Refusal) → x ≡ frame sheet → (s : Settings) (o : Option Bind) (g : Refusal) → x ≡ Err g
+    → Err g ≡ decide_portacl_sheet sheet s o
 unfolding decide_portacl_sheet unpack
 list_unframed sheet x is_x s o g e = rw (framed_refused (frame sheet) g (sym is_x ∙ e))
 
 pub others_checked : (sheet : List ℕ) (p : Parts) (a d b q t : List ℕ) → a ≡ bytes_at sheet p.allow → d ≡ bytes_at sheet p.deny
     → b ≡ bytes_at sheet p.byuid → q ≡ [] → t ≡ bytes_at sheet p.tables
-    → (x : Result Unit Refusal) → x ≡ checked_of (texts_fault (texts a d b q t)) → x ≡ checked_of (texts_fault (without_list (texts_at sheet p)))
+    → (x : Result Unit Refusal) → x ≡ refusing (texts_fault (texts a d b q t)) tt → x ≡ refusing (texts_fault (without_list (texts_at sheet p))) tt
 others_checked sheet p a d b q t is-a is_d is_b is-q is-t x is_x = is_x ∙ rw (is-a, is_d, is_b, is-q, is-t)

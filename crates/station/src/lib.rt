@@ -6,6 +6,7 @@
 #![tactic(auto)]
 
 ghost use Rattle.std.specs.Prelude.{◌≡◌, ◌+◌, ◌<◌};
+ghost use Rattle.section.specs.Refusal.{refusing};
 ghost use Rattle.section.specs.Section.{bytes_at};
 ghost use Rattle.elements.specs.Places.{request_at};
 ghost use Rattle.tables.specs.Table.{tables_of, match_of};
@@ -14,10 +15,10 @@ ghost use Rattle.tables.specs.Tried.{capped};
 ghost use Rattle.rules.specs.Search.{search as searchBy};
 ghost use Rattle.rules.specs.Looked.{looked, reported};
 ghost use Rattle.rules.specs.Code.{searched, finding_of};
-ghost use Rattle.byuid.specs.Byuid.{bind as byuid_bind, byuid_ruling};
-ghost use Rattle.portacl.specs.Portacl.{bind as portacl_bind, portacl_ruling};
+ghost use Rattle.byuid.specs.Byuid.{bind as byuid_bind};
+ghost use Rattle.portacl.specs.Portacl.{bind as portacl_bind};
 ghost use Rattle.sheet.specs.Sheet.{texts_at, texts_fault, frame as frame_of, unpack as unpackOf};
-ghost use Rattle.sheet.specs.Code.{checked_of, contents_fault};
+ghost use Rattle.sheet.specs.Code.{contents_fault};
 ghost use Rattle.station.specs.Station.{file_place, in_sheet, decide_sheet, looked_sheet, decide_byuid_sheet, decide_portacl_sheet};
 ghost use Rattle.station.specs.Code.{framed_fault, refused_by, without_list};
 
@@ -180,7 +181,7 @@ pub fn command(sheet: &[u8], answer: Answer) -> &[u8]
 
 // Whether a caller may bind a port at an address, by the byuid text of a sheet, which is the plain file.
 pub fn decide_byuid(sheet: &[u8], port: u16, addr: Addr, uid: u32) -> Result<byuid::Decision, Refusal>
-    ensures { result ≡ byuid_ruling (decide_byuid_sheet sheet.now (Some (byuid_bind port addr uid))) }
+    ensures { result ≡ decide_byuid_sheet sheet.now (Some (byuid_bind port addr uid)) }
 {
     match unpack::unpack(sheet) {
         Err(refusal) => Err(refusal),
@@ -203,7 +204,7 @@ fn decide_unpacked(
     protocol: portacl::Protocol,
     port: u16,
 ) -> Result<portacl::Decision, Refusal>
-    ensures { result ≡ portacl_ruling (decide_portacl_sheet sheet.now settings (Some (portacl_bind uid groups.now protocol port))) }
+    ensures { result ≡ decide_portacl_sheet sheet.now settings (Some (portacl_bind uid groups.now protocol port)) }
 {
     match unpack::unpack(sheet) {
         Err(refusal) => Err(refusal),
@@ -220,7 +221,7 @@ fn decide_unpacked(
 
 // The check of the texts of a sheet without its portacl list: an empty list is as sound as one that gave a decision.
 fn check_others(sheet: &[u8], parts: Parts) -> Result<(), Refusal>
-    ensures { result ≡ checked_of (texts_fault (without_list (texts_at sheet.now parts))) }
+    ensures { result ≡ refusing (texts_fault (without_list (texts_at sheet.now parts))) tt }
 {
     let allow = part_of(sheet, parts.allow);
     let deny = part_of(sheet, parts.deny);
@@ -241,7 +242,7 @@ fn decide_framed(
     port: u16,
 ) -> Result<portacl::Decision, Refusal>
     requires { frame_of sheet.now ≡ Ok parts }
-    ensures { result ≡ portacl_ruling (decide_portacl_sheet sheet.now settings (Some (portacl_bind uid groups.now protocol port))) }
+    ensures { result ≡ decide_portacl_sheet sheet.now settings (Some (portacl_bind uid groups.now protocol port)) }
 {
     let list = part_of(sheet, parts.portacl);
     match portacl::decide(list, settings, uid, groups, protocol, port) {
@@ -264,7 +265,7 @@ pub fn decide_portacl(
     protocol: portacl::Protocol,
     port: u16,
 ) -> Result<portacl::Decision, Refusal>
-    ensures { result ≡ portacl_ruling (decide_portacl_sheet sheet.now settings (Some (portacl_bind uid groups.now protocol port))) }
+    ensures { result ≡ decide_portacl_sheet sheet.now settings (Some (portacl_bind uid groups.now protocol port)) }
 {
     match frame::frame(sheet) {
         Err(refusal) => Err(refusal),

@@ -24,7 +24,7 @@ use Rattle.tables.specs.declared.check.TextCheck.{TextCheck}
 use Rattle.tables.specs.declared.check.TablesCheck.{TablesCheck}
 use Rattle.tables.specs.Table.{Table, table, table_named, is_missing, is_table_name, table_name}
 use Rattle.tables.specs.Table.{patterns, pattern_with, is_bad_pattern, is_misnamed, is_unsound, first_table}
-use Rattle.tables.specs.Code.{entries, table_count, tables_in, entry_span, entry_table, after_entry, place_named, place_of, words, first_word, after_word}
+use Rattle.tables.specs.Code.{entries, table_count, tables_in, entry_span, entry_table, after_entry, place_named, words, first_word, after_word}
 use Rattle.tables.specs.Code.{text_checked, word_missing, words_checked, plain_bad, named_before, first_number, number_or, tables_checked, CleanWords, CleanTexts}
 use Rattle.tables.proofs.EntryLaws.{Reached, reached_start, reached_cut, reached_here, reached_more, reached_end}
 use Rattle.tables.proofs.WordLaws.{words_none, words_more}
@@ -43,15 +43,15 @@ place_some (t ∷ ts) n = by (equal_fold n t.name) (place_named ts n) (table_nam
     by false None p e = e
     by false (Some i) p e = e
 
-place_missing : (o : Option ℕ) → place_of o ≡ None → o ≡ None
+place_missing : (o : Option ℕ) → o ≡ None → o ≡ None
 place_missing None e = refl
 place_missing (Some i) e = let z : ◌≡◌ {A = ℕ} 0 1 = cc in absurd (omega arith)
 
-place_at : (o : Option ℕ) (k : ℕ) → place_of o ≡ Some k → o ≡ Some k
+place_at : (o : Option ℕ) (k : ℕ) → o ≡ Some k → o ≡ Some k
 place_at None k e = let z : ◌≡◌ {A = ℕ} 0 1 = cc in absurd (omega arith)
 place_at (Some i) k e = cc
 
-module _ (ts : List Table) (n : List ℕ) (p : Option ℕ) (is-p : p ≡ place_of (place_named ts n)) where
+module _ (ts : List Table) (n : List ℕ) (p : Option ℕ) (is-p : p ≡ (place_named ts n)) where
   pub missing_none : p ≡ None → true ≡ is_missing ts n
   missing_none e = sym (ap not (sym (place_some ts n) ∙ ap is_some (place_missing (place_named ts n) (sym is-p ∙ e))))
 

@@ -19,7 +19,7 @@ use Rattle.tables.specs.declared.entry.Framing.{Framing}
 use Rattle.tables.specs.declared.entry.Framing.TheVariants as Framing
 use Rattle.tables.specs.Table.{Table, table, after_count, read_table, read_each, read_tables}
 use Rattle.tables.specs.Code.{entries, table_count, tables_in, cut_entry, span_of, entry_span, entry_or, entry_table, after_entry, frame_of}
-use Rattle.tables.specs.Code.{place_named, place_of, shifted, SoughtFrom}
+use Rattle.tables.specs.Code.{place_named, shifted, SoughtFrom}
 
 pub none_some : {A : Type 0} {a : A} → ◌≡◌ {A = Option A} None (Some a) → ⊥
 none_some e = let z : ◌≡◌ {A = ℕ} 0 1 = cc in omega arith
@@ -398,17 +398,17 @@ sought_first t name rest is-rest =
     }
 
 module _ (t name : List ℕ) (n : ℕ) (rest : List ℕ) (i : ℕ) (so_far : Sought t name n rest i) where
-  missing : drop i (tables_in t) ≡ [] → None ≡ place_of (place_named (tables_in t) name)
+  missing : drop i (tables_in t) ≡ [] → None ≡ place_named (tables_in t) name
   unfolding place_named
   missing e =
       let z : place_named (tables_in t) name ≡ None = so_far.place ∙ rw e in
-      sym (ap place_of z)
+      sym (z)
 
-  pub sought_end : n ≤ i → None ≡ place_of (place_named (tables_in t) name)
+  pub sought_end : n ≤ i → None ≡ place_named (tables_in t) name
   sought_end h = missing (reached_end t n rest i so_far.reached h)
 
   module _ (more : i < n) (span : EntrySpan) (is-span : span ≡ entry_span rest) where
-    pub sought_cut : span.cut ≡ true → None ≡ place_of (place_named (tables_in t) name)
+    pub sought_cut : span.cut ≡ true → None ≡ place_named (tables_in t) name
     sought_cut e = missing (reached_cut t n rest i so_far.reached more span is-span e)
 
     module _ (whole : span.cut ≡ false) (other : List ℕ) (is-other : other ≡ (entry_table rest).name) (x : Bool) (is_x : x ≡ equal_fold name other) where
@@ -417,11 +417,11 @@ module _ (t name : List ℕ) (n : ℕ) (rest : List ℕ) (i : ℕ) (so_far : Sou
       unfolding place_named
       here = rw (reached_here t n rest i so_far.reached more span is-span whole, is_x, is-other)
 
-      pub sought_found : x ≡ true → Some i ≡ place_of (place_named (tables_in t) name)
+      pub sought_found : x ≡ true → Some i ≡ place_named (tables_in t) name
       sought_found e =
           let z : place_named (tables_in t) name ≡ Some (i + 0) = so_far.place ∙ rw (here, e) in
           let m : i + 0 ≡ i = omega arith in
-          sym (ap place_of z ∙ ap Some m)
+          sym (z ∙ ap Some m)
 
       pub sought_more : x ≡ false → (next : List ℕ) → next ≡ after_entry rest → Sought t name n next (i + 1)
       sought_more e next is-next =

@@ -18,7 +18,7 @@ use Rattle.text.proofs.ScanLaws.{eq_of_equal, take_rest}
 use Rattle.tables.specs.declared.entry.EntrySpan.{EntrySpan}
 use Rattle.tables.specs.Table.{Table, table, read_table}
 use Rattle.tables.specs.Code.{entries, table_count, tables_in, entry_span, entry_table, after_entry, followed}
-use Rattle.tables.specs.Code.{place_named, place_of, shifted, SoughtFrom, key_from, key_of, StartOf, Starts}
+use Rattle.tables.specs.Code.{place_named, shifted, SoughtFrom, key_from, key_of, StartOf, Starts}
 use Rattle.tables.proofs.NameLaws.{lower_rest}
 use Rattle.tables.proofs.EntryLaws.{Reached, reached_start, reached_cut, reached_end, reached_here, reached_more, count_all, shifted_none}
 use Rattle.tables.proofs.EntryLaws.{rest_part}
@@ -297,12 +297,12 @@ module _ (t s : List ℕ) (are : Starts t s) (k : ℕ) (small : k < 256) where
     over = passed_over (table_count t - get_or s k 0) (tables_in t) name
         (λ j l m. key_other name (get_or (tables_in t) j no_table).name (λ e. start.start_first j l m (e ∙ sym is-k)))
 
-    pub start_none : get_or s k 0 ≡ 0 → None ≡ place_of (place_named (tables_in t) name)
+    pub start_none : get_or s k 0 ≡ 0 → None ≡ place_named (tables_in t) name
     unfolding place_named entries
     start_none z =
         let d : drop (table_count t - get_or s k 0) (tables_in t) ≡ [] = start.start_left ∙ rw z in
         let e : place_named (tables_in t) name ≡ None = over ∙ rw d in
-        sym (ap place_of e)
+        sym (e)
 
     pub start_sought : (get_or s k 0 ≡ 0 → ⊥) → (n : ℕ) → n ≡ table_count t
         → SoughtFrom t name (take (length t - get_or s (256 + k) 0) (drop (get_or s (256 + k) 0) t)) (n - get_or s k 0)

@@ -64,10 +64,6 @@ unfoldable pub place_named : List Table → List ℕ → Option ℕ
 place_named [] n = None
 place_named (t ∷ ts) n = when equal_fold n t.name then Some 0 else (place_named ts n >>= λ i. Some (suc i))
 
-abbrev pub place_of : Option ℕ → Option ℕ
-place_of None = None
-place_of (Some i) = Some i
-
 -- how many places further, a place found
 abbrev pub shifted : ℕ → Option ℕ → Option ℕ
 shifted i o = o >>= λ k. Some (i + k)

@@ -6,7 +6,7 @@ ghost use Rattle.std.specs.Prelude.{◌≡◌, false, ◌≤◌, length, take, d
 ghost use Rattle.text.specs.Number.{from_digits};
 ghost use Rattle.text.specs.Text.{equal_fold};
 ghost use Rattle.tables.specs.Table.{read_tables};
-ghost use Rattle.tables.specs.Code.{table_count, tables_in, cut_entry, entry_span, entry_table, after_entry, frame_of, place_named, place_of};
+ghost use Rattle.tables.specs.Code.{table_count, tables_in, cut_entry, entry_span, entry_table, after_entry, frame_of, place_named};
 
 use text::equal_fold;
 
@@ -183,7 +183,7 @@ pub fn is_named(name: &[u8], other: &[u8]) -> bool
 
 // The place of the first table so named.
 pub fn find(tables: &[u8], name: &[u8]) -> Option<usize>
-    ensures { result ≡ place_of (place_named (tables_in tables.now) name.now) }
+    ensures { result ≡ place_named (tables_in tables.now) name.now }
 {
     let n = table_count(tables);
     let mut rest = after_count(tables);

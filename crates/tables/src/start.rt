@@ -3,7 +3,7 @@
 //   note_starts(tables, made)      == where to begin, for each number
 //   find_by(tables, starts, name)  == what find(tables, name) is
 ghost use Rattle.std.specs.Prelude.{◌≡◌, ◌<◌, replicate};
-ghost use Rattle.tables.specs.Code.{tables_in, place_named, place_of, SoughtFrom, key_of, Starts};
+ghost use Rattle.tables.specs.Code.{tables_in, place_named, SoughtFrom, key_of, Starts};
 
 use super::entry::after_count;
 use super::entry::after_entry;
@@ -53,7 +53,7 @@ pub fn note_starts(tables: &[u8], made: &mut [usize; 512])
 // The place of the first table so named, from the place start on: from holds the tables from there, and none before it has the name.
 fn find_from(tables: &[u8], name: &[u8], from: &[u8], start: usize) -> Option<usize>
     requires { SoughtFrom tables.now name.now from.now start }
-    ensures { result ≡ place_of (place_named (tables_in tables.now) name.now) }
+    ensures { result ≡ place_named (tables_in tables.now) name.now }
 {
     let n = table_count(tables);
     let mut rest = from;
@@ -76,7 +76,7 @@ fn find_from(tables: &[u8], name: &[u8], from: &[u8], start: usize) -> Option<us
 // The place of the first table so named.
 pub fn find_by(tables: &[u8], starts: &[usize; 512], name: &[u8]) -> Option<usize>
     requires { Starts tables.now starts.now }
-    ensures { result ≡ place_of (place_named (tables_in tables.now) name.now) }
+    ensures { result ≡ place_named (tables_in tables.now) name.now }
 {
     let k = key(name);
     let left = starts[k];

@@ -2,7 +2,6 @@
 -- public promises of the chapters are stated over Text and Number, and only inner contracts cite these definitions.
 --   span_len p s  == how many leading bytes of s satisfy p
 --   index_of b s  == the first place of b in s, the length where there is none
---   as_number o   == o as the code answers it
 --   put_at d at s == the output d with s written over it from the place `at` on
 --   after t d    == the output d with t written over its front
 -- Assumes nothing: these are definitions.
@@ -16,10 +15,6 @@ span_len p (x ∷ s) = when p x then suc (span_len p s) else 0
 
 unfoldable pub index_of : ℕ → List ℕ → ℕ
 index_of b s = span_len (λ (x : ℕ). not (eqb x b)) s
-
-abbrev pub as_number : Option ℕ → Option ℕ
-as_number None = None
-as_number (Some n) = Some n
 
 unfoldable pub put_at : List ℕ → ℕ → List ℕ → List ℕ
 put_at d at s = paste d at s (length s)

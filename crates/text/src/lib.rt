@@ -4,7 +4,7 @@
 ghost use Rattle.std.specs.Prelude.{◌≡◌, ◌&&◌, ◌+◌, ◌-◌, ◌≤◌, eqb, ltb, length, drop};
 ghost use Rattle.text.specs.Text.{is_digit, is_letter};
 ghost use Rattle.text.specs.Text.{lower as lowerOf, equal as equalTo, equal_fold};
-ghost use Rattle.text.specs.Scan.{index_of, as_number, put_at};
+ghost use Rattle.text.specs.Scan.{index_of, put_at};
 ghost use Rattle.text.specs.Number.{decimal, read_decimal};
 
 // b in lower case.
@@ -109,7 +109,7 @@ pub fn ends_with_fold(s: &[u8], suffix: &[u8]) -> bool
 
 // The number of at most max that s writes in fewest decimal digits.
 pub fn read_decimal(s: &[u8], max: u32) -> Option<u32>
-    ensures { result ≡ as_number (read_decimal max s.now) }
+    ensures { result ≡ read_decimal max s.now }
 {
     if s.len() == 0 {
         return None;

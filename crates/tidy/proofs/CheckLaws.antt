@@ -36,7 +36,7 @@ use Rattle.rules.specs.FileCode.{pass_of}
 use Rattle.rules.specs.Check.{line_fault, hosts_fault, naming_fault, missing_fault, depth_fault, tables_fault}
 use Rattle.rules.specs.Code.{lines_fault, contents_fault}
 use Rattle.tidy.specs.Tidy.{named, accepts, proposal, dropped, section_of, with_section, file_fault, propose, accepted_bytes, numbers_of, drop_rules}
-use Rattle.tidy.specs.Code.{checked_of, checked_by, texts_fault, section_fault, drop_sound, Sound, flag, Marked, marked_here, marked_from, marked_bytes}
+use Rattle.tidy.specs.Code.{checked_by, texts_fault, section_fault, drop_sound, Sound, flag, Marked, marked_here, marked_from, marked_bytes}
 use Rattle.tidy.specs.Code.{names_marked, set_named, Named, kept_here, kept_line, kept_bytes}
 use Rattle.tidy.proofs.ProposalLaws.{Ascend, accepts_proposed}
 use Rattle.tidy.proofs.NumberLaws.{marked_proposal, named_by}
@@ -55,60 +55,60 @@ module _ (p : Result (Option Answer) Refusal) where
 
 module _ (allow deny five : List ℕ) (f : Framing) (is_f : f ≡ frame_of (read_tables five)) where
   pub checked_cut : f ≡ Framing.Cut → (g : Refusal) → g ≡ refusal F.CutShort 5 0
-      → Err g ≡ checked_of (tables_frame five or_else contents_fault allow deny five)
+      → Err g ≡ refusing (tables_frame five or_else contents_fault allow deny five) tt
   checked_cut k g is-g = rw (frame_cut five f is_f k, is-g)
 
   pub checked_trailing : f ≡ Framing.Trailing → (g : Refusal) → g ≡ placeless F.TrailingBytes
-      → Err g ≡ checked_of (tables_frame five or_else contents_fault allow deny five)
+      → Err g ≡ refusing (tables_frame five or_else contents_fault allow deny five) tt
   checked_trailing k g is-g = rw (frame_trailing five f is_f k, is-g)
 
-  pub checked_contents : f ≡ Framing.Sound → (c : Result Unit Refusal) → c ≡ checked_of (contents_fault allow deny five)
-      → c ≡ checked_of (tables_frame five or_else contents_fault allow deny five)
+  pub checked_contents : f ≡ Framing.Sound → (c : Result Unit Refusal) → c ≡ refusing (contents_fault allow deny five) tt
+      → c ≡ refusing (tables_frame five or_else contents_fault allow deny five) tt
   checked_contents k c is_c = is_c ∙ sym (rw (frame_sound five f is_f k))
 
   pub checked_whole : f ≡ Framing.Sound → tables_in five ≡ tables_of five
   checked_whole k = tables_in_of five (sym is_f ∙ k)
 
 module _ (o : Option Refusal) where
-  pub whole_sound : (x : Bool) → x ≡ not (is_some o) → x ≡ true → Ok tt ≡ checked_of o
+  pub whole_sound : (x : Bool) → x ≡ not (is_some o) → x ≡ true → Ok tt ≡ refusing o tt
   whole_sound x is_x e = by o (sym is_x ∙ e)
     where
-      by : (o : Option Refusal) → not (is_some o) ≡ true → Ok tt ≡ checked_of o
+      by : (o : Option Refusal) → not (is_some o) ≡ true → Ok tt ≡ refusing o tt
       by None h = refl
       by (Some g) h = absurd (true≢false (sym h))
 
-  pub whole_passed : (p : Result (Option Answer) Refusal) → p ≡ pass_of o None → (c : Result Unit Refusal) → c ≡ checked_by p → c ≡ checked_of o
+  pub whole_passed : (p : Result (Option Answer) Refusal) → p ≡ pass_of o None → (c : Result Unit Refusal) → c ≡ checked_by p → c ≡ refusing o tt
   whole_passed p is-p c is_c = is_c ∙ (ap checked_by is-p ∙ by o)
     where
-      by : (o : Option Refusal) → checked_by (pass_of o None) ≡ checked_of o
+      by : (o : Option Refusal) → checked_by (pass_of o None) ≡ refusing o tt
       by None = refl
       by (Some g) = refl
 
 module _ (allow deny five : List ℕ) (o : Bool) (is-o : o ≡ ltb 16384 (length allow)) where
-  pub over_allow : o ≡ true → (g : Refusal) → g ≡ refusal F.OverLimit 1 0 → Err g ≡ checked_of (texts_fault allow deny five)
+  pub over_allow : o ≡ true → (g : Refusal) → g ≡ refusal F.OverLimit 1 0 → Err g ≡ refusing (texts_fault allow deny five) tt
   unfolding texts_fault
   over_allow e g is-g = rw (← is-o, e, is-g)
 
   module _ (e : o ≡ false) (x : Bool) (is_x : x ≡ ltb 16384 (length deny)) where
-    pub over_deny : x ≡ true → (g : Refusal) → g ≡ refusal F.OverLimit 2 0 → Err g ≡ checked_of (texts_fault allow deny five)
+    pub over_deny : x ≡ true → (g : Refusal) → g ≡ refusal F.OverLimit 2 0 → Err g ≡ refusing (texts_fault allow deny five) tt
     unfolding texts_fault
     over_deny k g is-g = rw (← is-o, e, ← is_x, k, is-g)
 
-    pub over_none : x ≡ false → (c : Result Unit Refusal) → c ≡ checked_of (tables_frame five or_else contents_fault allow deny five)
-        → c ≡ checked_of (texts_fault allow deny five)
+    pub over_none : x ≡ false → (c : Result Unit Refusal) → c ≡ refusing (tables_frame five or_else contents_fault allow deny five) tt
+        → c ≡ refusing (texts_fault allow deny five) tt
     unfolding texts_fault
     over_none k c is_c = is_c ∙ rw (← is-o, e, ← is_x, k)
 
 module _ (n : ℕ) (text five : List ℕ) where
-  pub section_allow : n ≡ 1 → (c : Result Unit Refusal) → c ≡ checked_of (texts_fault text (take 0 text) five) → c ≡ checked_of (section_fault n text five)
+  pub section_allow : n ≡ 1 → (c : Result Unit Refusal) → c ≡ refusing (texts_fault text (take 0 text) five) tt → c ≡ refusing (section_fault n text five) tt
   unfolding section_fault
   section_allow e c is_c = is_c ∙ rw (eq-eqb n 1 e)
 
-  pub section_deny : (n ≡ 1 → ⊥) → n ≡ 2 → (c : Result Unit Refusal) → c ≡ checked_of (texts_fault (take 0 text) text five) → c ≡ checked_of (section_fault n text five)
+  pub section_deny : (n ≡ 1 → ⊥) → n ≡ 2 → (c : Result Unit Refusal) → c ≡ refusing (texts_fault (take 0 text) text five) tt → c ≡ refusing (section_fault n text five) tt
   unfolding section_fault
   section_deny d e c is_c = is_c ∙ rw (ne_eqb n 1 d, eq-eqb n 2 e)
 
-  pub section_none : (n ≡ 1 → ⊥) → (n ≡ 2 → ⊥) → (g : Refusal) → g ≡ placeless F.BadRequest → Err g ≡ checked_of (section_fault n text five)
+  pub section_none : (n ≡ 1 → ⊥) → (n ≡ 2 → ⊥) → (g : Refusal) → g ≡ placeless F.BadRequest → Err g ≡ refusing (section_fault n text five) tt
   unfolding section_fault
   section_none d e g is-g = rw (ne_eqb n 1 d, ne_eqb n 2 e, is-g)
 
@@ -250,11 +250,11 @@ sound_text n t five e = by (eqb n 1) (eqb n 2) e
     by false true k = of S.deny refl (sym (file_deny t five) ∙ k)
     by false false k = let z : ◌≡◌ {A = ℕ} 0 1 = cc k in absurd (omega arith)
 
-checked_none : (o : Option Refusal) (c : Result Unit Refusal) → c ≡ checked_of o → c ≡ (Ok tt) → o ≡ None
+checked_none : (o : Option Refusal) (c : Result Unit Refusal) → c ≡ refusing o tt → c ≡ Ok tt → o ≡ None
 checked_none None c e f = refl
 checked_none (Some g) c e f = let z : ◌≡◌ {A = ℕ} 0 1 = cc (sym e ∙ f) in absurd (omega arith)
 
-checked_some : (o : Option Refusal) (c : Result Unit Refusal) (g : Refusal) → c ≡ checked_of o → c ≡ Err g → o ≡ Some g
+checked_some : (o : Option Refusal) (c : Result Unit Refusal) (g : Refusal) → c ≡ refusing o tt → c ≡ Err g → o ≡ Some g
 checked_some None c g e f = let z : ◌≡◌ {A = ℕ} 0 1 = cc (sym e ∙ f) in absurd (omega arith)
 checked_some (Some h) c g e f = let z : h ≡ g = cc (sym e ∙ f) in ap Some z
 
@@ -306,7 +306,7 @@ module _ (t marks out : List ℕ) (short : length t ≤ 16384) (m : Marked marks
       → o ≡ lent_after out (within_room (length out) (word_bytes (proposal t)))
   numbers_written o h = h ∙ ap (λ (b : List ℕ). lent_after out (within_room (length out) b)) marked_are
 
-module _ (n : ℕ) (t five : List ℕ) (c : Result Unit Refusal) (is_c : c ≡ checked_of (section_fault n t five)) where
+module _ (n : ℕ) (t five : List ℕ) (c : Result Unit Refusal) (is_c : c ≡ refusing (section_fault n t five) tt) where
   pub passed_short : c ≡ (Ok tt) → length t ≤ 16384
   passed_short e = (sound_text n t five (checked_none (section_fault n t five) c is_c e)).0
 

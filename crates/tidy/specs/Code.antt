@@ -32,10 +32,6 @@ use Rattle.tidy.specs.Tidy.{same_list, all_alone, rule_of, dropped, accepted_byt
 
 -- ## The checks
 
-abbrev pub checked_of : Option Refusal → Result Unit Refusal
-checked_of None = Ok tt
-checked_of (Some r) = Err r
-
 unfoldable pub texts_fault : List ℕ → List ℕ → List ℕ → Option Refusal
 texts_fault allow deny five = over_limit S.allow allow or_else over_limit S.deny deny or_else tables_frame five or_else contents_fault allow deny five
 

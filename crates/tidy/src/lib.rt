@@ -10,14 +10,14 @@ pub mod repeats;
 pub mod same;
 
 ghost use Rattle.std.specs.Prelude.{◌≡◌, ◌≤◌, length};
-ghost use Rattle.section.specs.Refusal.{written_of, lent_after, within_room};
+ghost use Rattle.section.specs.Refusal.{written_of, lent_after, within_room, refusing};
 ghost use Rattle.text.specs.Basics.{◌or_else◌};
 ghost use Rattle.tables.specs.Table.{tables_frame, tables_of};
 ghost use Rattle.tables.specs.Code.{tables_in};
 ghost use Rattle.rules.specs.Code.{contents_fault};
 ghost use Rattle.text.specs.Words.{word_bytes};
 ghost use Rattle.tidy.specs.Tidy.{propose as proposeOf, proposal, drop_rules};
-ghost use Rattle.tidy.specs.Code.{checked_of, checked_by, texts_fault, section_fault, Sound, drop_sound};
+ghost use Rattle.tidy.specs.Code.{checked_by, texts_fault, section_fault, Sound, drop_sound};
 
 use crate::kept::write_kept;
 use crate::numbers::{name_lines, write_numbers};
@@ -42,7 +42,7 @@ fn check_by(pass: Result<Option<Answer>, Refusal>) -> Result<(), Refusal>
 // The checks of the contents of two texts and of a section five whose frame is sound; what is sound is read once.
 fn check_whole(allow: &[u8], deny: &[u8], tables: &[u8]) -> Result<(), Refusal>
     requires { tables_in tables.now ≡ tables_of tables.now }
-    ensures { result ≡ checked_of (contents_fault allow.now deny.now tables.now) }
+    ensures { result ≡ refusing (contents_fault allow.now deny.now tables.now) tt }
 {
     if are_sound(allow, deny, tables) {
         return Ok(());
@@ -53,7 +53,7 @@ fn check_whole(allow: &[u8], deny: &[u8], tables: &[u8]) -> Result<(), Refusal>
 // The checks of two texts within their limits and a section five: its frame, then the contents.
 fn check_framed(allow: &[u8], deny: &[u8], tables: &[u8]) -> Result<(), Refusal>
     ensures { result
-        ≡ checked_of (tables_frame tables.now or_else contents_fault allow.now deny.now tables.now) }
+        ≡ refusing (tables_frame tables.now or_else contents_fault allow.now deny.now tables.now) tt }
 {
     match tables::entry::frame(tables) {
         Framing::Cut => Err(section::Tables::refusal(Fault::CutShort, 0)),
@@ -64,7 +64,7 @@ fn check_framed(allow: &[u8], deny: &[u8], tables: &[u8]) -> Result<(), Refusal>
 
 // The checks of two texts and a section five.
 fn check_texts(allow: &[u8], deny: &[u8], tables: &[u8]) -> Result<(), Refusal>
-    ensures { result ≡ checked_of (texts_fault allow.now deny.now tables.now) }
+    ensures { result ≡ refusing (texts_fault allow.now deny.now tables.now) tt }
 {
     if section::Allow::over(allow.len()) {
         return Err(section::Allow::refusal(Fault::OverLimit, 0));
@@ -77,7 +77,7 @@ fn check_texts(allow: &[u8], deny: &[u8], tables: &[u8]) -> Result<(), Refusal>
 
 // The checks of the text of a section, and of a section five.
 fn check_file(text: &[u8], tables: &[u8], section: u32) -> Result<(), Refusal>
-    ensures { result ≡ checked_of (section_fault section text.now tables.now) }
+    ensures { result ≡ refusing (section_fault section text.now tables.now) tt }
 {
     if section == 1 {
         return check_texts(text, &text[..0], tables);

@@ -18,7 +18,7 @@ use Rattle.text.proofs.BasicLaws.{or_false as or_none}
 use Rattle.text.proofs.ScanLaws.{eq_of_equal, equal_fold_lengths, take_rest}
 use Rattle.tables.specs.declared.entry.EntrySpan.{EntrySpan}
 use Rattle.tables.specs.Table.{Table, table, read_table}
-use Rattle.tables.specs.Code.{table_count, tables_in, entries, entry_span, entry_table, after_entry, place_named, place_of, shifted}
+use Rattle.tables.specs.Code.{table_count, tables_in, entries, entry_span, entry_table, after_entry, place_named, shifted}
 use Rattle.tables.proofs.EntryLaws.{table_count_none, Whole, read_whole, read_count, Entry, entry_of}
 use Rattle.tables.proofs.EntryLaws.{Reached, reached_start, reached_cut, reached_end, reached_here, reached_more, count_all, shifted_none}
 use Rattle.tables.proofs.StartLaws.{EndOf, end_at, end_more, entry_rest_is}
@@ -318,16 +318,16 @@ module _ (t notes n : List ℕ) (h : NamesNoted t notes) where
   unfolding noted_place
   noted_place_lem = rw (eq-eqb (length notes) 259 h.names_long) (found_from 64 0 refl ∙ sym (shifted_none (place_named (tables_in t) n)))
 
-  pub named_place_is : (p : Option ℕ) → p ≡ place_of (noted_place t notes n) → p ≡ place_of (place_named (tables_in t) n)
-  named_place_is p is-p = is-p ∙ ap place_of noted_place_lem
+  pub named_place_is : (p : Option ℕ) → p ≡ noted_place t notes n → p ≡ place_named (tables_in t) n
+  named_place_is p is-p = is-p ∙ noted_place_lem
 
 -- notes of another length tell no names
 pub other_place : (t notes n : List ℕ) → (length notes ≡ 259 → ⊥) → noted_place t notes n ≡ place_named (tables_in t) n
 unfolding noted_place
 other_place t notes n d = rw (ne_eqb (length notes) 259 d)
 
-pub other_found : (t notes n : List ℕ) → (length notes ≡ 259 → ⊥) → (p : Option ℕ) → p ≡ place_of (place_named (tables_in t) n) → p ≡ place_of (noted_place t notes n)
-other_found t notes n d p is-p = is-p ∙ ap place_of (sym (other_place t notes n d))
+pub other_found : (t notes n : List ℕ) → (length notes ≡ 259 → ⊥) → (p : Option ℕ) → p ≡ place_named (tables_in t) n → p ≡ noted_place t notes n
+other_found t notes n d p is-p = is-p ∙ (sym (other_place t notes n d))
 
 -- ## Places skipped
 
@@ -419,12 +419,12 @@ module _ (t notes n : List ℕ) (sought : ℕ) (is-sought : sought ≡ hash_of n
   }
 
 module _ (t notes n : List ℕ) (sought i : ℕ) (s : Seeking t notes n sought i) where
-  pub seeking_end : 64 ≤ i → None ≡ place_of (noted_place t notes n)
+  pub seeking_end : 64 ≤ i → None ≡ noted_place t notes n
   unfolding hashed_from
   seeking_end l =
       let z : 64 - i ≡ 0 = omega arith in
       let e : noted_place t notes n ≡ None = s.seeking_left ∙ rw z in
-      sym (ap place_of e)
+      sym (e)
 
   module _ (more : i < 64) (x : Bool) (is_x : x ≡ is_named_at t n (get_or notes (195 + i) 0)) where
     here_left : noted_place t notes n ≡ (when x then Some i else hashed_from t notes n (64 - suc i) (suc i))
@@ -433,8 +433,8 @@ module _ (t notes n : List ℕ) (sought i : ℕ) (s : Seeking t notes n sought i
         let z : 64 - i ≡ suc (64 - suc i) = omega arith in
         s.seeking_left ∙ rw (z, eq-eqb (get_or notes (131 + i) 0) (hash_of n) (s.seeking_here more ∙ s.seeking_hash), ← is_x)
 
-    pub seeking_found : x ≡ true → Some i ≡ place_of (noted_place t notes n)
-    seeking_found e = let z : noted_place t notes n ≡ Some i = here_left ∙ rw e in sym (ap place_of z)
+    pub seeking_found : x ≡ true → Some i ≡ noted_place t notes n
+    seeking_found e = let z : noted_place t notes n ≡ Some i = here_left ∙ rw e in sym (z)
 
     pub seeking_more : x ≡ false → (r : ℕ) → Skipped notes sought (i + 1) r → (r < 64 → get_or notes (131 + r) 0 ≡ sought) → Seeking t notes n sought r
     seeking_more e r k f = record {

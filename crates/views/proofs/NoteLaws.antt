@@ -13,7 +13,7 @@ use Rattle.text.specs.Basics.{when◌then◌else◌, given, is_some, is_empty, h
 use Rattle.text.specs.Text.{first_among}
 use Rattle.text.proofs.ScanLaws.{take_rest}
 use Rattle.tables.specs.Table.{Table, is_table_name, table_name}
-use Rattle.tables.specs.Code.{place_named, place_of, first_word, after_word}
+use Rattle.tables.specs.Code.{place_named, first_word, after_word}
 use Rattle.tables.proofs.WordLaws.{words_none, words_more}
 use Rattle.views.specs.declared.Naming.{Naming}
 use Rattle.views.specs.declared.Naming.TheVariants as Naming
@@ -85,7 +85,7 @@ no_count k (Some i) = let l : length {A = ℕ} [] ≤ 3 + 64 * k + i = omega ari
     by true x e = e
     by false x e = refl
 
-pub place_none : (o : Option ℕ) → None ≡ place_of o → o ≡ None
+pub place_none : (o : Option ℕ) → None ≡ o → o ≡ None
 place_none None e = refl
 place_none (Some i) e = let z : ◌≡◌ {A = ℕ} 0 1 = cc in absurd (omega arith)
 
@@ -93,7 +93,7 @@ abbrev place_in : Option ℕ → ℕ
 place_in None = 0
 place_in (Some i) = i
 
-pub place_some : (i : ℕ) (o : Option ℕ) → Some i ≡ place_of o → o ≡ Some i
+pub place_some : (i : ℕ) (o : Option ℕ) → Some i ≡ o → o ≡ Some i
 place_some i None e = let z : ◌≡◌ {A = ℕ} 0 1 = cc in absurd (omega arith)
 place_some i (Some k) e = ap Some (sym (ap place_in e))
 
@@ -119,10 +119,10 @@ module _ (k : ℕ) (t : List ℕ) (notes n : List ℕ) where
     unfolding reference_of naming_of noted_match noted_tried
     judged o e = rw (full_notes notes full, e)
 
-    pub look_missing : (p : Option ℕ) → p ≡ place_of (noted_place t notes n) → p ≡ None → reference Naming.Missing false 0 ≡ reference_of k t notes n
+    pub look_missing : (p : Option ℕ) → p ≡ noted_place t notes n → p ≡ None → reference Naming.Missing false 0 ≡ reference_of k t notes n
     look_missing p is-p e = sym (judged None (place_none (noted_place t notes n) (sym e ∙ is-p)))
 
-    pub look_found : (p : Option ℕ) → p ≡ place_of (noted_place t notes n) → (i : ℕ) → p ≡ Some i → (x : Naming) → x ≡ naming_at notes i
+    pub look_found : (p : Option ℕ) → p ≡ noted_place t notes n → (i : ℕ) → p ≡ Some i → (x : Naming) → x ≡ naming_at notes i
         → (m : Bool) → m ≡ marked_at k notes i → (c : ℕ) → c ≡ counted_at k notes i → reference x m c ≡ reference_of k t notes n
     look_found p is-p i e x is_x m is_m c is_c =
         ap₂ (λ (y : Naming) (b : Bool). reference y b c) is_x is_m ∙ ap (reference (naming_at notes i) (marked_at k notes i)) is_c
@@ -153,7 +153,7 @@ named_full [] x is_x e = absurd (true≢false (sym e ∙ is_x))
 named_full (b ∷ w) x is_x e = omega arith
 
 module _ (ts : List Table) (p : ℕ → Bool) where
-  module _ (n : List ℕ) (q : Option ℕ) (is-q : q ≡ place_of (place_named ts n)) where
+  module _ (n : List ℕ) (q : Option ℕ) (is-q : q ≡ (place_named ts n)) where
     pub leads_missing : q ≡ None → false ≡ name_leads ts p n
     unfolding name_leads
     leads_missing f = rw (place_none (place_named ts n) (sym f ∙ is-q))

@@ -18,7 +18,7 @@ use Rattle.patterns.specs.Pattern.{host_pattern}
 use Rattle.patterns.specs.Code.{matches_pattern, pattern_seen, host_matches}
 use Rattle.patterns.specs.declared.HostSeen.{HostSeen}
 use Rattle.tables.specs.Table.{Table, table_name}
-use Rattle.tables.specs.Code.{table_count, tables_in, entry_span, entry_table, after_entry, place_named, place_of, words, first_word, after_word}
+use Rattle.tables.specs.Code.{table_count, tables_in, entry_span, entry_table, after_entry, place_named, words, first_word, after_word}
 use Rattle.tables.specs.Code.{text_checked, words_checked, CleanWords, CleanTexts}
 use Rattle.tables.specs.declared.entry.EntrySpan.{EntrySpan}
 use Rattle.tables.proofs.EntryLaws.{Reached, reached_start, reached_cut, reached_end, reached_more, count_all}
@@ -34,7 +34,7 @@ use Rattle.views.proofs.DeepLaws.{table_here, place_here, place_below}
 
 -- ## A pattern
 
-module _ (ts : List Table) (n : List ℕ) (q : Option ℕ) (is-q : q ≡ place_of (place_named ts n)) where
+module _ (ts : List Table) (n : List ℕ) (q : Option ℕ) (is-q : q ≡ (place_named ts n)) where
   pub bit_missing : q ≡ None → Marks 0 64 (is_named ts n)
   unfolding Marks is_named
   bit_missing f j h = bit_none j ∙ rw (place_none (place_named ts n) (sym f ∙ is-q))

@@ -16,7 +16,7 @@ use Rattle.text.specs.Basics.{when◌then◌else◌, ◌>>=◌, is_some, holds}
 use Rattle.text.proofs.BasicLaws.{and_true as and_both}
 use Rattle.tables.specs.Table.{Table, table_name}
 use Rattle.tables.specs.Tried.{capped}
-use Rattle.tables.specs.Code.{table_count, tables_in, entry_span, entry_table, after_entry, place_named, place_of, words, first_word, after_word}
+use Rattle.tables.specs.Code.{table_count, tables_in, entry_span, entry_table, after_entry, place_named, words, first_word, after_word}
 use Rattle.tables.specs.declared.entry.EntrySpan.{EntrySpan}
 use Rattle.tables.proofs.EntryLaws.{Reached, reached_start, reached_cut, reached_end, reached_more, count_all}
 use Rattle.tables.proofs.WordLaws.{words_none, words_more}
@@ -31,11 +31,11 @@ use Rattle.views.proofs.CountLaws.{capped_lt, capped_small, capped_then, within_
 -- ## The place that a word names
 
 module _ (ts : List Table) (w : List ℕ) (x : Bool) (is_x : x ≡ is_some (table_name w)) where
-  pub placed_none : x ≡ false → None ≡ place_of (word_place ts w)
+  pub placed_none : x ≡ false → None ≡ word_place ts w
   unfolding word_place
   placed_none e = sym (rw (unnamed_word w x is_x e))
 
-  pub placed_named : x ≡ true → (p : Option ℕ) → p ≡ place_of (place_named ts (take (length w - 1) (drop 1 w))) → p ≡ place_of (word_place ts w)
+  pub placed_named : x ≡ true → (p : Option ℕ) → p ≡ place_named ts (take (length w - 1) (drop 1 w)) → p ≡ word_place ts w
   unfolding word_place
   placed_named e p is-p = is-p ∙ sym (rw (named_word w x is_x e))
 
@@ -104,13 +104,13 @@ module _ (k : ℕ) (ts : List Table) (notes : List ℕ) (n : ℕ) (text : List �
   unfolding sum_within
   tallying_done e = tallying_all (rw e)
 
-  module _ (w next : List ℕ) (more : words rest ≡ w ∷ words next) (p : Option ℕ) (is-p : p ≡ place_of (word_place ts w)) (r : Tally)
+  module _ (w next : List ℕ) (more : words rest ≡ w ∷ words next) (p : Option ℕ) (is-p : p ≡ (word_place ts w)) (r : Tally)
       (is-r : r ≡ tallied (marked_by k notes p) (counted_by k notes p) t) where
     told : r ≡ tallied (ends k ts notes w) (placed_count k notes (word_place ts w)) t
     told = is-r ∙ ap (λ (q : Option ℕ). tallied (marked_by k notes q) (counted_by k notes q) t) is-p ∙ by (word_place ts w)
       where
         by : (o : Option ℕ)
-            → tallied (marked_by k notes (place_of o)) (counted_by k notes (place_of o)) t ≡ tallied (holds (marked_at k notes) o) (placed_count k notes o) t
+            → tallied (marked_by k notes (o)) (counted_by k notes (o)) t ≡ tallied (holds (marked_at k notes) o) (placed_count k notes o) t
         by None = refl
         by (Some i) = refl
 
@@ -171,7 +171,7 @@ module _ (ts : List Table) (notes : List ℕ) (client server : ℕ) (text : List
       ap₂ counts (tallying_done 0 ts notes client text c rest so_far.both_client (eqb-true c.left 0 b.0))
       (tallying_done 1 ts notes server text s rest so_far.both_server (eqb-true s.left 0 b.1))
 
-  pub both_more : (length w ≡ 0 → ⊥) → (p : Option ℕ) → p ≡ place_of (word_place ts w) → (d : Tally) → d ≡ tallied (marked_by 0 notes p) (counted_by 0 notes p) c
+  pub both_more : (length w ≡ 0 → ⊥) → (p : Option ℕ) → p ≡ word_place ts w → (d : Tally) → d ≡ tallied (marked_by 0 notes p) (counted_by 0 notes p) c
       → (r : Tally) → r ≡ tallied (marked_by 1 notes p) (counted_by 1 notes p) s → (next : List ℕ) → next ≡ after_word rest
       → Both ts notes client server text d r next
   both_more full p is-p d is_d r is-r next is-next =

@@ -3,7 +3,7 @@
 // A table that does not lead on keeps what is told of it. Of the others the texts are gone over in order, no further than to the first pattern
 // of their own that matches: a pattern that names a table counts one and what is tried there, and ends the count where that table matches.
 ghost use Rattle.std.specs.Prelude.{◌≡◌, ◌&&◌, ◌+◌, ◌≤◌, ◌<◌, eqb, length, get_or};
-ghost use Rattle.tables.specs.Code.{tables_in, words, place_of};
+ghost use Rattle.tables.specs.Code.{tables_in, words};
 ghost use Rattle.tables.specs.Tried.{capped};
 ghost use Rattle.views.specs.Names.{NamesNoted};
 ghost use Rattle.views.specs.View.{NamesOf};
@@ -45,7 +45,7 @@ fn add(a: u64, b: u64) -> u64
 // The place of the table that the pattern w names.
 fn word_place(tables: &[u8], named: &[u64; 259], w: &[u8]) -> Option<usize>
     requires { NamesNoted tables.now named.now }
-    ensures { result ≡ place_of (word_place (tables_in tables.now) w.now) }
+    ensures { result ≡ word_place (tables_in tables.now) w.now }
 {
     if names_table(w) {
         return find_named(tables, named, &w[1..]);

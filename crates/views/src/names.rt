@@ -4,7 +4,7 @@
 //   find_noted(tables, notes, name)  == the place of the table of that name, by the notes where they tell names
 // Names of up to seven bytes that may be names have different numbers, so that few names are compared whole.
 ghost use Rattle.std.specs.Prelude.{◌≡◌, ◌+◌, ◌≤◌, ◌<◌, eqb, length, replicate, get_or};
-ghost use Rattle.tables.specs.Code.{tables_in, place_named, place_of};
+ghost use Rattle.tables.specs.Code.{tables_in, place_named};
 ghost use Rattle.views.specs.Names.{hash_of, is_named_at, near_by, Skipped, noted_place, NamesNoted, Told};
 
 use tables::entry::after_count;
@@ -121,7 +121,7 @@ fn next_place(notes: &[u64], sought: u64, start: usize) -> usize
 
 // The place of the first table so named, by notes that tell the names of tables; else by going over them.
 pub fn find_noted(tables: &[u8], notes: &[u64], name: &[u8]) -> Option<usize>
-    ensures { result ≡ place_of (noted_place tables.now notes.now name.now) }
+    ensures { result ≡ noted_place tables.now notes.now name.now }
 {
     if notes.len() != 259 {
         return find(tables, name);
@@ -140,7 +140,7 @@ pub fn find_noted(tables: &[u8], notes: &[u64], name: &[u8]) -> Option<usize>
 // The same, by notes that tell the names of all tables.
 pub fn find_named(tables: &[u8], notes: &[u64; 259], name: &[u8]) -> Option<usize>
     requires { NamesNoted tables.now notes.now }
-    ensures { result ≡ place_of (place_named (tables_in tables.now) name.now) }
+    ensures { result ≡ place_named (tables_in tables.now) name.now }
 {
     find_noted(tables, notes, name)
 }
