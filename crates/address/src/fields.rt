@@ -5,7 +5,6 @@
 ghost use Rattle.std.specs.Prelude.{◌≡◌, false, ◌<◌, ◌≤◌, length, drop};
 ghost use Rattle.address.specs.Fields.{ended_address, step_of, run_from};
 
-
 // What one byte does: the pass fails, stops before it, or goes on in another state.
 #[derive(Clone, Copy)]
 pub enum Step {

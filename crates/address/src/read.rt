@@ -126,16 +126,11 @@ fn last_v4(s: &[u8], count: u32, w: Words) -> Option<(u32, Words)>
     requires { (count < 8) × (number_of w < 65536 ^ count) }
     ensures { result ≡ groups_from count (number_of w) (read_tail s.now) }
 {
-    let v = read_v4(s);
-    match v {
-        None => None,
-        Some(n) => {
-            if count == 7 {
-                None
-            } else {
-                Some((count + 2, push_v4(w, n)))
-            }
-        }
+    let n = read_v4(s)?;
+    if count == 7 {
+        None
+    } else {
+        Some((count + 2, push_v4(w, n)))
     }
 }
 
@@ -146,13 +141,7 @@ fn last_group(s: &[u8], tail: bool, count: u32, w: Words) -> Option<(u32, Words)
 {
     let v = read_group(s);
     match v {
-        None => {
-            if tail {
-                last_v4(s, count, w)
-            } else {
-                None
-            }
-        }
+        None => { if tail { last_v4(s, count, w) } else { None } }
         Some(g) => Some((count + 1, push_group(w, g))),
     }
 }
@@ -236,13 +225,9 @@ fn read_compressed(s: &[u8], i: usize) -> Option<(u64, u64)>
     let left = read_groups(&s[..i], false);
     let j = i + 2;
     let right = read_groups(&s[j..], true);
-    match left {
-        None => None,
-        Some((a, l)) => match right {
-            None => None,
-            Some((b, r)) => join(l, a, r, b),
-        },
-    }
+    let (a, l) = left?;
+    let (b, r) = right?;
+    join(l, a, r, b)
 }
 
 // The two words of the IPv6 address that s writes: eight groups, parted by colons, or fewer about one `::`.
@@ -253,16 +238,11 @@ pub fn read_v6(s: &[u8]) -> Option<(u64, u64)>
     if i < s.len() {
         return read_compressed(s, i);
     }
-    let g = read_groups(s, true);
-    match g {
-        None => None,
-        Some((count, w)) => {
-            if count == 8 {
-                Some((w.high, w.low))
-            } else {
-                None
-            }
-        }
+    let (count, w) = read_groups(s, true)?;
+    if count == 8 {
+        Some((w.high, w.low))
+    } else {
+        None
     }
 }
 

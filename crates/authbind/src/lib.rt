@@ -13,8 +13,7 @@ ghost use Rattle.authbind.specs.Code.{is_access, settled_by, turn_at, count_test
 ghost use Rattle.authbind.specs.Code.{test_of, read_of, step_at};
 
 use address::Addr;
-use section::Fault;
-use section::Refusal;
+use section::{Fault, Refusal};
 
 // What an access test found; a byte for each, in this order from 0 on.
 #[derive(Clone, Copy)]

@@ -57,10 +57,7 @@ pub fn check(text: &[u8]) -> Result<(), Refusal>
     ensures { result ≡ refusing (byuid_fault text.now) tt }
 {
     match walk_lines(text, Addr::Unknown, 0) {
-        Err(number) => Err(section::Byuid::refusal(
-            Fault::RetiredForm,
-            number,
-        )),
+        Err(number) => Err(section::Byuid::refusal(Fault::RetiredForm, number)),
         Ok(_) => Ok(()),
     }
 }
@@ -127,10 +124,7 @@ pub fn decide(text: &[u8], mark: Mark, port: u16, addr: Addr, uid: u32) -> Resul
     }
     let held_against = searched_for(mark, port, addr, uid);
     match walk_lines(text, held_against, port) {
-        Err(number) => Err(section::Byuid::refusal(
-            Fault::RetiredForm,
-            number,
-        )),
+        Err(number) => Err(section::Byuid::refusal(Fault::RetiredForm, number)),
         Ok(granted) => answer_by(port, addr, uid, granted),
     }
 }

@@ -11,8 +11,7 @@ ghost use Rattle.byuid.specs.Code.{front_v4, form_of, range_from, held_v6, held_
 use address::Addr;
 use address::fields::{Run, ended_address, run_over};
 use address::prefix::{clear_beyond_v4, clear_beyond_v6, same_prefix_v4, same_prefix_v6};
-use address::read::read_v4;
-use address::read::read_v6;
+use address::read::{read_v4, read_v6};
 
 // Whether a is at most b.
 fn at_most(a_high: u64, a_low: u64, b_high: u64, b_low: u64) -> bool
@@ -28,15 +27,9 @@ fn at_most(a_high: u64, a_low: u64, b_high: u64, b_low: u64) -> bool
 fn between(min: Option<(u64, u64)>, max: Option<(u64, u64)>, high: u64, low: u64) -> Option<bool>
     ensures { result ≡ between_of min max (high * 2 ^ 64 + low) }
 {
-    match min {
-        None => None,
-        Some((a, b)) => match max {
-            None => None,
-            Some((c, d)) => Some(
-                at_most(a, b, high, low) & at_most(high, low, c, d),
-            ),
-        },
-    }
+    let (a, b) = min?;
+    let (c, d) = max?;
+    Some(at_most(a, b, high, low) & at_most(high, low, c, d))
 }
 
 // Whether the range of IPv6 addresses from x to y holds one.
@@ -65,13 +58,9 @@ fn port_ends_hold(x: &[u8], y: &[u8], port: u16) -> Option<bool>
     ensures { result ≡ membership (inside port) (ends_of read_port x.now y.now) }
 {
     let p = port as u32;
-    match text::read_decimal(x, 65535) {
-        None => None,
-        Some(min) => match text::read_decimal(y, 65535) {
-            None => None,
-            Some(max) => Some((min <= p) & (p <= max)),
-        },
-    }
+    let min = text::read_decimal(x, 65535)?;
+    let max = text::read_decimal(y, 65535)?;
+    Some((min <= p) & (p <= max))
 }
 
 // Whether the ports pmin[-pmax] in s hold one.
@@ -82,26 +71,19 @@ fn ports_hold(s: &[u8], port: u16) -> Option<bool>
     if hyphen < s.len() {
         return port_ends_hold(&s[..hyphen], &s[hyphen + 1..], port);
     }
-    match text::read_decimal(s, 65535) {
-        None => None,
-        Some(n) => Some(n == port as u32),
-    }
+    let n = text::read_decimal(s, 65535)?;
+    Some(n == port as u32)
 }
 
 // Whether the net of an IPv4 address, with its length in t, holds one.
 fn len_holds_v4(t: &[u8], net: u32, addr: u32) -> Option<bool>
     ensures { result ≡ membership (inside addr) (net_from 32 net t.now) }
 {
-    let v = text::read_decimal(t, 32);
-    match v {
-        None => None,
-        Some(n) => {
-            if clear_beyond_v4(net, n) {
-                Some(same_prefix_v4(net, addr, n))
-            } else {
-                None
-            }
-        }
+    let n = text::read_decimal(t, 32)?;
+    if clear_beyond_v4(net, n) {
+        Some(same_prefix_v4(net, addr, n))
+    } else {
+        None
     }
 }
 
@@ -109,16 +91,11 @@ fn len_holds_v4(t: &[u8], net: u32, addr: u32) -> Option<bool>
 fn len_holds_v6(t: &[u8], net_high: u64, net_low: u64, high: u64, low: u64) -> Option<bool>
     ensures { result ≡ membership (inside (high * 2 ^ 64 + low)) (net_from 128 (net_high * 2 ^ 64 + net_low) t.now) }
 {
-    let v = text::read_decimal(t, 128);
-    match v {
-        None => None,
-        Some(n) => {
-            if clear_beyond_v6(net_high, net_low, n) {
-                Some(same_prefix_v6(net_high, net_low, high, low, n))
-            } else {
-                None
-            }
-        }
+    let n = text::read_decimal(t, 128)?;
+    if clear_beyond_v6(net_high, net_low, n) {
+        Some(same_prefix_v6(net_high, net_low, high, low, n))
+    } else {
+        None
     }
 }
 
@@ -158,13 +135,9 @@ fn addresses_hold_v6(s: &[u8], high: u64, low: u64) -> Option<bool>
 fn both(a: Option<bool>, b: Option<bool>) -> Option<bool>
     ensures { result ≡ both_of a b }
 {
-    match a {
-        None => None,
-        Some(x) => match b {
-            None => None,
-            Some(y) => Some(x & y),
-        },
-    }
+    let x = a?;
+    let y = b?;
+    Some(x & y)
 }
 
 // The IPv4 address that the digits and dots at the front of s write, and the place after them.
@@ -175,11 +148,8 @@ fn front_v4(s: &[u8]) -> Option<(u32, usize)>
     match run {
         Run::Failed => None,
         Run::At(j, n, k, v, begun) => {
-            let a = ended_address(n, k, v, begun);
-            match a {
-                None => None,
-                Some(m) => Some((m, j)),
-            }
+            let m = ended_address(n, k, v, begun)?;
+            Some((m, j))
         }
     }
 }
@@ -202,20 +172,15 @@ fn net_form_v4(t: &[u8], net: u32, addr: u32, port: u16) -> Option<bool>
 fn range_form_v4(t: &[u8], min: u32, addr: u32, port: u16) -> Option<bool>
     ensures { result ≡ membership (inside_both addr port) (form_of (range_from read_v4 min) t.now) }
 {
-    let front = front_v4(t);
-    match front {
-        None => None,
-        Some((max, i)) => {
-            if t.len() <= i {
-                return None;
-            }
-            if t[i] == b',' {
-                let p = ports_hold(&t[i + 1..], port);
-                both(Some((min <= addr) & (addr <= max)), p)
-            } else {
-                None
-            }
-        }
+    let (max, i) = front_v4(t)?;
+    if t.len() <= i {
+        return None;
+    }
+    if t[i] == b',' {
+        let p = ports_hold(&t[i + 1..], port);
+        both(Some((min <= addr) & (addr <= max)), p)
+    } else {
+        None
     }
 }
 
@@ -224,27 +189,22 @@ fn range_form_v4(t: &[u8], min: u32, addr: u32, port: u16) -> Option<bool>
 fn comma_form_v4(l: &[u8], addr: u32, port: u16) -> Option<bool>
     ensures { result ≡ membership (inside_both addr port) (read_comma_form 32 read_v4 l.now) }
 {
-    let front = front_v4(l);
-    match front {
-        None => None,
-        Some((a, i)) => {
-            if l.len() <= i {
-                return None;
-            }
-            let mark = l[i];
-            if mark == b'/' {
-                return net_form_v4(&l[i + 1..], a, addr, port);
-            }
-            if mark == b'-' {
-                return range_form_v4(&l[i + 1..], a, addr, port);
-            }
-            if mark == b',' {
-                let p = ports_hold(&l[i + 1..], port);
-                both(Some(a == addr), p)
-            } else {
-                None
-            }
-        }
+    let (a, i) = front_v4(l)?;
+    if l.len() <= i {
+        return None;
+    }
+    let mark = l[i];
+    if mark == b'/' {
+        return net_form_v4(&l[i + 1..], a, addr, port);
+    }
+    if mark == b'-' {
+        return range_form_v4(&l[i + 1..], a, addr, port);
+    }
+    if mark == b',' {
+        let p = ports_hold(&l[i + 1..], port);
+        both(Some(a == addr), p)
+    } else {
+        None
     }
 }
 
@@ -323,12 +283,6 @@ pub(crate) fn look(l: &[u8], addr: Addr, port: u16) -> Option<bool>
 {
     match held(l, addr, port) {
         Some(b) => Some(b),
-        None => {
-            if is_retired(l) {
-                None
-            } else {
-                Some(false)
-            }
-        }
+        None => { if is_retired(l) { None } else { Some(false) } }
     }
 }

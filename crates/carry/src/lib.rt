@@ -101,7 +101,12 @@ fn put_span(out: &mut [u8], tcp: &[u8], udp: &[u8], from: usize, count: usize) -
 }
 
 // Writes both texts, where both have room.
-fn write_texts(plain: &mut [u8], marked: &mut [u8], tcp: &[u8], udp: &[u8]) -> Result<(usize, usize), Refusal>
+fn write_texts(
+    plain: &mut [u8],
+    marked: &mut [u8],
+    tcp: &[u8],
+    udp: &[u8],
+) -> Result<(usize, usize), Refusal>
     ensures answer { result
         ≡ written_two_of
         (within_rooms (length plain.old) (length marked.old)
@@ -127,7 +132,12 @@ fn write_texts(plain: &mut [u8], marked: &mut [u8], tcp: &[u8], udp: &[u8]) -> R
 }
 
 // Writes the byuid lines for the user id at the front of both outputs: the plain file's and the marked file's. A refusal leaves both as they were.
-pub fn carry(plain: &mut [u8], marked: &mut [u8], text: &[u8], uid: u32) -> Result<(usize, usize), Refusal>
+pub fn carry(
+    plain: &mut [u8],
+    marked: &mut [u8],
+    text: &[u8],
+    uid: u32,
+) -> Result<(usize, usize), Refusal>
     ensures answer { result
         ≡ written_two_of (carryOf text.now uid (length plain.old) (length marked.old)) }
     ensures lower { plain.new
@@ -140,13 +150,9 @@ pub fn carry(plain: &mut [u8], marked: &mut [u8], text: &[u8], uid: u32) -> Resu
     }
     let mut tcp = [0u8; 1024];
     let mut udp = [0u8; 1024];
-    match portacl::note_ports(&mut tcp, &mut udp, text, uid) {
-        Err(refusal) => Err(refusal),
-        Ok(()) => {
-            if uid == 0 {
-                return Err(section::placeless(Fault::BadRequest));
-            }
-            write_texts(plain, marked, &tcp, &udp)
-        }
+    portacl::note_ports(&mut tcp, &mut udp, text, uid)?;
+    if uid == 0 {
+        return Err(section::placeless(Fault::BadRequest));
     }
+    write_texts(plain, marked, &tcp, &udp)
 }

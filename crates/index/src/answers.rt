@@ -9,9 +9,7 @@ ghost use Rattle.sheet.specs.Sheet.{unpack as unpackOf};
 ghost use Rattle.index.specs.Index.{index_bytes, read_requests, answer_bytes, answers_to, lone_answer};
 ghost use Rattle.index.specs.Code.{searched_at, known_part, user_part, named_at, numbers_in, found_numbers, unfit_numbers, Ready, all_answers, Fitting};
 
-use crate::requests::Fields;
-use crate::requests::four_at;
-use crate::requests::request_at;
+use crate::requests::{Fields, four_at, request_at};
 use crate::search::search;
 use crate::table::put_two;
 use codes::GateAnswer;

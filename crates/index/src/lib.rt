@@ -15,8 +15,7 @@ ghost use Rattle.section.specs.Refusal.{within_room, written_of, lent_after};
 ghost use Rattle.sheet.specs.Sheet.{unpack as unpackOf};
 ghost use Rattle.index.specs.Index.{rule_table, two_bytes, table_bytes, index_bytes, write_index, read_requests, answer_all, verdicts as verdictsBy};
 
-use section::Fault;
-use section::part_of;
+use section::{Fault, part_of};
 use sheet::Parts;
 use sheet::unpack::unpack;
 
@@ -96,10 +95,8 @@ pub fn write_index(out: &mut [u8], sheet: &[u8]) -> Result<usize, Refusal>
     ensures answer { result ≡ written_of (write_index sheet.now (length out.old)) }
     ensures holds { out.new ≡ lent_after out.old (write_index sheet.now (length out.old)) }
 {
-    match unpack(sheet) {
-        Err(refusal) => Err(refusal),
-        Ok(parts) => write_parts(out, sheet, parts),
-    }
+    let parts = unpack(sheet)?;
+    write_parts(out, sheet, parts)
 }
 
 // Answers the requests by a sheet that is accepted with these parts, and its index.
@@ -127,20 +124,21 @@ fn answer_parts(
 }
 
 // Writes the answers to up to 32 requests by a sheet and its index at the front of out; a refusal leaves out as it was.
-pub fn verdicts(out: &mut [u8], sheet: &[u8], index: &[u8], requests: &[u8]) -> Result<usize, Refusal>
+pub fn verdicts(
+    out: &mut [u8],
+    sheet: &[u8],
+    index: &[u8],
+    requests: &[u8],
+) -> Result<usize, Refusal>
     ensures answer { result
         ≡ written_of (verdictsBy sheet.now index.now requests.now (length out.old)) }
     ensures holds { out.new
         ≡ lent_after out.old
         (verdictsBy sheet.now index.now requests.now (length out.old)) }
 {
-    match unpack(sheet) {
-        Err(refusal) => Err(refusal),
-        Ok(parts) => {
-            if table::is_index(index, sheet, parts) {
-                return answer_parts(out, sheet, parts, index, requests);
-            }
-            Err(section::placeless(Fault::WrongIndex))
-        }
+    let parts = unpack(sheet)?;
+    if table::is_index(index, sheet, parts) {
+        return answer_parts(out, sheet, parts, index, requests);
     }
+    Err(section::placeless(Fault::WrongIndex))
 }

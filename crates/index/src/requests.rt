@@ -94,13 +94,11 @@ fn host_at(bytes: &[u8], at: usize) -> Option<HostFields>
     if bytes.len() - at < 18 {
         return None;
     }
-    match text_at(bytes, at + 18) {
-        None => None,
-        Some(name) => Some(HostFields {
-            numbers: numbers_at(bytes, at),
-            name,
-        }),
-    }
+    let name = text_at(bytes, at + 18)?;
+    Some(HostFields {
+        numbers: numbers_at(bytes, at),
+        name,
+    })
 }
 
 // The fields of a request, read from its user on.
@@ -112,17 +110,15 @@ fn user_from(bytes: &[u8], daemon: Part, client: HostFields, server: HostFields)
     if bytes.len() <= at {
         return None;
     }
-    match text_at(bytes, at + 1) {
-        None => None,
-        Some(name) => Some(Fields {
-            daemon,
-            client,
-            server,
-            user: byte_at(bytes, at) as u32,
-            user_name: name,
-            end: name.place + name.len,
-        }),
-    }
+    let name = text_at(bytes, at + 1)?;
+    Some(Fields {
+        daemon,
+        client,
+        server,
+        user: byte_at(bytes, at) as u32,
+        user_name: name,
+        end: name.place + name.len,
+    })
 }
 
 // The fields of a request, read from its client on.
@@ -130,23 +126,17 @@ fn client_from(bytes: &[u8], daemon: Part) -> Option<Fields>
     requires { daemon.place + daemon.len ≤ length bytes.now }
     ensures { result ≡ hosts_from daemon bytes.now }
 {
-    match host_at(bytes, daemon.place + daemon.len) {
-        None => None,
-        Some(client) => match host_at(bytes, client.name.place + client.name.len) {
-            None => None,
-            Some(server) => user_from(bytes, daemon, client, server),
-        },
-    }
+    let client = host_at(bytes, daemon.place + daemon.len)?;
+    let server = host_at(bytes, client.name.place + client.name.len)?;
+    user_from(bytes, daemon, client, server)
 }
 
 // The fields of the request that bytes begin with.
 pub fn request_at(bytes: &[u8]) -> Option<Fields>
     ensures { result ≡ fields_at bytes.now }
 {
-    match text_at(bytes, 0) {
-        None => None,
-        Some(daemon) => client_from(bytes, daemon),
-    }
+    let daemon = text_at(bytes, 0)?;
+    client_from(bytes, daemon)
 }
 
 // How many requests there are, at most 32.
@@ -159,17 +149,11 @@ pub fn count_requests(bytes: &[u8]) -> Option<u8>
         if count == 32 {
             return None;
         }
-        match request_at(rest) {
-            None => {
-                return None;
-            }
-            Some(fields) => {
-                let end = fields.end;
-                let next = &rest[end..];
-                rest = next;
-                count += 1;
-            }
-        }
+        let fields = request_at(rest)?;
+        let end = fields.end;
+        let next = &rest[end..];
+        rest = next;
+        count += 1;
     }
     Some(count)
 }

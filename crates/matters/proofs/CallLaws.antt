@@ -110,7 +110,7 @@ module _ (o : Option Refusal) (ts : List Table) (allow deny : List ℕ) (r : Req
     where
       by : (o : Option Refusal) (b : Bool) → b ≡ false
           → refused_by (reported (o before (when b then Ok found else Err (placeless F.BadRequest))) n).ruling
-          ≡  ((o before (when b then Ok found else Err (placeless F.BadRequest)))
+          ≡ ((o before (when b then Ok found else Err (placeless F.BadRequest)))
           >>= λ a. when b then Ok settles else Err (placeless F.BadRequest))
       by (Some f) b e = refl
       by None true e = absurd (true≢false e)

@@ -131,4 +131,3 @@ name_matters_sheet sheet o = do
   a ← decide_sheet sheet o
   p ← unpack sheet
   matters_over (tables_of (bytes_at sheet p.tables)) (bytes_at sheet p.allow) (bytes_at sheet p.deny) o
-

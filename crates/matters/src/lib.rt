@@ -19,11 +19,7 @@ pub mod tell;
 
 use elements::User;
 use elements::request::{Request, fits, held};
-use rules::Answer;
-use rules::File;
-use rules::Verdict;
-use rules::decide;
-use rules::decide_tables;
+use rules::{Answer, File, Verdict, decide, decide_tables};
 use section::{Fault, Refusal, part_of};
 use sheet::Parts;
 use tell::settle;
@@ -77,10 +73,8 @@ fn unfetched(request: Request) -> Request
 fn refuse(ruling: Result<Answer, Refusal>) -> Result<Option<Place>, Refusal>
     ensures { result ≡ refused_by ruling }
 {
-    match ruling {
-        Err(refusal) => Err(refusal),
-        Ok(_) => Err(section::placeless(Fault::BadRequest)),
-    }
+    ruling?;
+    Err(section::placeless(Fault::BadRequest))
 }
 
 // What the answer to a request whose user is not fetched tells, by sound texts.
@@ -117,7 +111,12 @@ fn settle_by(
 }
 
 // Whether the name matters, by the allow and deny files. There are no tables.
-pub fn name_matters(allow: &[u8], deny: &[u8], names: &[u8], request: Request) -> Result<Option<Place>, Refusal>
+pub fn name_matters(
+    allow: &[u8],
+    deny: &[u8],
+    names: &[u8],
+    request: Request,
+) -> Result<Option<Place>, Refusal>
     ensures { result
         ≡ name_matters allow.now deny.now (Some (request_at names.now request)) }
 {
@@ -127,11 +126,8 @@ pub fn name_matters(allow: &[u8], deny: &[u8], names: &[u8], request: Request) -
         return refuse(refused);
     }
     let asked = decide(allow, deny, names, unfetched(request));
-    let ruling = asked.ruling;
-    match ruling {
-        Err(refusal) => Err(refusal),
-        Ok(answer) => settle_by(answer, allow, deny, &allow[..0], names, request),
-    }
+    let answer = asked.ruling?;
+    settle_by(answer, allow, deny, &allow[..0], names, request)
 }
 
 // The same with the tables of a section five.
@@ -152,11 +148,8 @@ pub fn name_matters_tables(
         return refuse(refused);
     }
     let asked = decide_tables(allow, deny, tables, names, unfetched(request));
-    let ruling = asked.ruling;
-    match ruling {
-        Err(refusal) => Err(refusal),
-        Ok(answer) => settle_by(answer, allow, deny, tables, names, request),
-    }
+    let answer = asked.ruling?;
+    settle_by(answer, allow, deny, tables, names, request)
 }
 
 // What the answer tells, by the texts that stand in a sheet.
@@ -183,19 +176,26 @@ fn settle_in_parts(
 }
 
 // What the answer tells, by a sheet that gave it.
-fn settle_in_sheet(sheet: &[u8], answer: Answer, names: &[u8], request: Request) -> Result<Option<Place>, Refusal>
+fn settle_in_sheet(
+    sheet: &[u8],
+    answer: Answer,
+    names: &[u8],
+    request: Request,
+) -> Result<Option<Place>, Refusal>
     requires request_value { well_formed (request_at names.now request) ≡ true }
     requires request_value_2 { decide_sheet sheet.now (Some (request_at names.now (unfetched_at request))) ≡ Ok answer }
     ensures { result ≡ name_matters_sheet sheet.now (Some (request_at names.now request)) }
 {
-    match sheet::frame::frame(sheet) {
-        Err(refusal) => Err(refusal),
-        Ok(parts) => settle_in_parts(sheet, parts, answer, names, request),
-    }
+    let parts = sheet::frame::frame(sheet)?;
+    settle_in_parts(sheet, parts, answer, names, request)
 }
 
 // Whether the name matters, by a sheet.
-pub fn name_matters_sheet(sheet: &[u8], names: &[u8], request: Request) -> Result<Option<Place>, Refusal>
+pub fn name_matters_sheet(
+    sheet: &[u8],
+    names: &[u8],
+    request: Request,
+) -> Result<Option<Place>, Refusal>
     ensures { result ≡ name_matters_sheet sheet.now (Some (request_at names.now request)) }
 {
     if !fits(names, request) {
@@ -204,9 +204,6 @@ pub fn name_matters_sheet(sheet: &[u8], names: &[u8], request: Request) -> Resul
         return refuse(refused);
     }
     let asked = station::decide(sheet, names, unfetched(request));
-    let ruling = asked.ruling;
-    match ruling {
-        Err(refusal) => Err(refusal),
-        Ok(answer) => settle_in_sheet(sheet, answer, names, request),
-    }
+    let answer = asked.ruling?;
+    settle_in_sheet(sheet, answer, names, request)
 }

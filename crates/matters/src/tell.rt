@@ -19,9 +19,7 @@ ghost use Rattle.matters.specs.Code.{finder_at, name_agrees, half_agrees, asked_
 ghost use Rattle.matters.specs.Code.{settled_by};
 ghost use Rattle.matters.specs.Code.{asked_half, was_tried, noted_count, noted_places, tried_by, places_by};
 
-use super::Place;
-use super::Telling;
-use super::Told;
+use super::{Place, Telling, Told};
 use classes::element_at;
 use elements::request::Request;
 use elements::{Found, User, element};
@@ -512,7 +510,13 @@ fn tell(
 }
 
 // Whether the name matters to a request that is held, by sound texts.
-pub fn settle(allow: &[u8], deny: &[u8], tables: &[u8], names: &[u8], request: Request) -> Result<Option<Place>, Refusal>
+pub fn settle(
+    allow: &[u8],
+    deny: &[u8],
+    tables: &[u8],
+    names: &[u8],
+    request: Request,
+) -> Result<Option<Place>, Refusal>
     requires tables_value { tables_in tables.now ≡ tables_of tables.now }
     requires tables_value_2 { contents_fault allow.now deny.now tables.now ≡ None }
     ensures { result

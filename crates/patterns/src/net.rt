@@ -11,8 +11,7 @@ use super::{Host, HostSeen};
 use address::Addr;
 use address::fields::{Run, ended_address, run_over};
 use address::prefix::{in_net, leading_ones_v4, same_prefix_v6};
-use address::read::read_v4;
-use address::read::read_v6;
+use address::read::{read_v4, read_v6};
 
 // A mask: as an address, or as the number of its leading ones.
 fn read_mask(s: &[u8]) -> Option<u32>
@@ -20,10 +19,10 @@ fn read_mask(s: &[u8]) -> Option<u32>
 {
     match read_v4(s) {
         Some(mask) => Some(mask),
-        None => match text::read_decimal(s, 32) {
-            None => None,
-            Some(m) => Some(leading_ones_v4(m)),
-        },
+        None => {
+            let m = text::read_decimal(s, 32)?;
+            Some(leading_ones_v4(m))
+        }
     }
 }
 
@@ -40,13 +39,9 @@ fn leading_net(n: u32, count: u32) -> Option<(u32, u32)>
 fn pair_net(net: Option<u32>, mask: Option<u32>) -> Option<(u32, u32)>
     ensures { result ≡ pair_net net mask }
 {
-    match net {
-        None => None,
-        Some(n) => match mask {
-            None => None,
-            Some(m) => Some((n, m)),
-        },
-    }
+    let n = net?;
+    let m = mask?;
+    Some((n, m))
 }
 
 // The net of a dotted pattern without a slash, by the state of the pass over its fields: an address, as the net of that address alone, or one
@@ -103,13 +98,9 @@ fn read_length(s: &[u8]) -> Option<u32>
 fn pair_prefix(address: Option<(u64, u64)>, length: Option<u32>) -> Option<(u64, u64, u32)>
     ensures { result ≡ prefix_with address length }
 {
-    match address {
-        None => None,
-        Some((high, low)) => match length {
-            None => None,
-            Some(m) => Some((high, low, m)),
-        },
-    }
+    let (high, low) = address?;
+    let m = length?;
+    Some((high, low, m))
 }
 
 // The prefix of a bracketed pattern: what stands between its first byte and the first closing bracket, and after that.

@@ -53,15 +53,13 @@ struct Entry {
 fn read_port(group: bool, id: u32, protocol: Protocol, s: &[u8]) -> Option<Entry>
     ensures { result ≡ port_data group id protocol s.now }
 {
-    match text::read_decimal(s, 65535) {
-        None => None,
-        Some(port) => Some(Entry {
-            group,
-            id,
-            protocol,
-            port,
-        }),
-    }
+    let port = text::read_decimal(s, 65535)?;
+    Some(Entry {
+        group,
+        id,
+        protocol,
+        port,
+    })
 }
 
 // An entry from its protocol on.
@@ -91,10 +89,8 @@ fn read_id(group: bool, s: &[u8]) -> Option<Entry>
         return None;
     }
     let after = colon + 1;
-    match text::read_decimal(&s[..colon], 4294967295) {
-        None => None,
-        Some(id) => read_protocol(group, id, &s[after..]),
-    }
+    let id = text::read_decimal(&s[..colon], 4294967295)?;
+    read_protocol(group, id, &s[after..])
 }
 
 // The entry that s writes, idtype:id:protocol:port.
@@ -179,7 +175,13 @@ fn grants(entry: Entry, uid: u32, groups: &[u32], protocol: Protocol, port: u16)
 }
 
 // Every entry is read, and held against the bind.
-fn walk_entries(text: &[u8], uid: u32, groups: &[u32], protocol: Protocol, port: u16) -> Result<bool, usize>
+fn walk_entries(
+    text: &[u8],
+    uid: u32,
+    groups: &[u32],
+    protocol: Protocol,
+    port: u16,
+) -> Result<bool, usize>
     ensures { result ≡ walk (bind uid groups.now protocol port) 1 false (entries_data text.now) }
 {
     if text.len() == 0 {
@@ -230,10 +232,7 @@ pub fn note_ports(tcp: &mut [u8], udp: &mut [u8], text: &[u8], uid: u32) -> Resu
     while at <= text.len() {
         let end = at + text::index_of(&text[at..], b',');
         match read_entry(&text[at..end]) {
-            None => return Err(section::Portacl::refusal(
-                Fault::BadEntry,
-                number,
-            )),
+            None => return Err(section::Portacl::refusal(Fault::BadEntry, number)),
             Some(entry) => {
                 note(tcp, entry, uid, Protocol::Tcp);
                 note(udp, entry, uid, Protocol::Udp);

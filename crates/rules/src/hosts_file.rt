@@ -114,13 +114,11 @@ fn examine_rule(
     let seen = lists::pass::pass_rule(class, tables, notes, t, search, names, request);
     let check = seen.check;
     let found = seen.found;
-    match check {
-        Err(f) => Err(f),
-        Ok(()) => Ok(Looked {
-            found,
-            looked: seen.looked,
-        }),
-    }
+    check?;
+    Ok(Looked {
+        found,
+        looked: seen.looked,
+    })
 }
 
 // What the rule in a line with dropped pairs tells.
@@ -450,7 +448,12 @@ pub fn is_faulty(
 }
 
 // The refusal of a text at its lowest faulty line, if it has one; the notes say which tables may be named.
-pub fn check_file(tables: &[u8], notes: &[u64], text: &[u8], order: u8) -> Result<Option<Answer>, Refusal>
+pub fn check_file(
+    tables: &[u8],
+    notes: &[u64],
+    text: &[u8],
+    order: u8,
+) -> Result<Option<Answer>, Refusal>
     ensures { result ≡ pass_of (hosts_fault_at order (view_of tables.now notes.now) text.now) None }
 {
     let tally = pass_file(

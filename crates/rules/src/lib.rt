@@ -27,8 +27,7 @@ ghost use Rattle.rules.specs.Code.{contents_fault, refused_by};
 
 use elements::count;
 use elements::request::{Request, held};
-use hosts_file::Tally;
-use hosts_file::tallied;
+use hosts_file::{Tally, tallied};
 use search::find;
 use section::{Fault, Part, Refusal, part_of};
 use tables::entry::Framing;
@@ -76,7 +75,10 @@ fn is_unmatched(pass: Result<Option<Answer>, Refusal>) -> bool
 }
 
 // The pass over some lines, then over what follows them.
-pub fn combine(found: Result<Option<Answer>, Refusal>, rest: Result<Option<Answer>, Refusal>) -> Result<Option<Answer>, Refusal>
+pub fn combine(
+    found: Result<Option<Answer>, Refusal>,
+    rest: Result<Option<Answer>, Refusal>,
+) -> Result<Option<Answer>, Refusal>
     ensures { result ≡ combined found rest }
 {
     match found {

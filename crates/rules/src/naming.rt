@@ -20,7 +20,12 @@ use tables::entry::count;
 use views::deep_notes;
 
 // The refusal of both files, where the notes say which tables may be named.
-fn check_both(tables: &[u8], notes: &[u64], allow: &[u8], deny: &[u8]) -> Result<Option<Answer>, Refusal>
+fn check_both(
+    tables: &[u8],
+    notes: &[u64],
+    allow: &[u8],
+    deny: &[u8],
+) -> Result<Option<Answer>, Refusal>
     ensures { result ≡ pass_of (lines_fault_by (view_of tables.now notes.now) allow.now deny.now) None }
 {
     let first = check_file(tables, notes, allow, Allow::ORDER);
@@ -62,7 +67,12 @@ pub fn check_section_five(tables: &[u8]) -> Result<Option<Answer>, Refusal>
 }
 
 // From 16 on, of texts that name no table that is missing.
-fn check_depth(allow: &[u8], deny: &[u8], tables: &[u8], unsound: usize) -> Result<Option<Answer>, Refusal>
+fn check_depth(
+    allow: &[u8],
+    deny: &[u8],
+    tables: &[u8],
+    unsound: usize,
+) -> Result<Option<Answer>, Refusal>
     requires named { Named allow.now deny.now tables.now }
     requires tables_value { table_name_fault (tables_of tables.now) ≡ None }
     ensures { result ≡ pass_of (from_depth allow.now deny.now tables.now unsound) None }

@@ -12,8 +12,7 @@ ghost use Rattle.tables.specs.Tried.{capped};
 ghost use Rattle.rules.specs.Looked.{looked as lookedBy};
 ghost use Rattle.rules.specs.Code.{contents_fault, Noted, NotedBy, NamingNoted, searched, finding_of, finding_by, tables_over, tables_doubtful};
 
-use super::hosts_file::Tally;
-use super::hosts_file::nobody;
+use super::hosts_file::{Tally, nobody};
 use super::{Answer, File, Verdict, pass_both};
 use elements::request::Request;
 use section::{Part, part_of};
@@ -104,7 +103,13 @@ fn are_doubtful(tables: &[u8], clean: bool) -> bool
 }
 
 // The answer by two texts and at most 64 tables. What the tables are to the request is found first: that tells most often that they are sound.
-fn find_among(allow: &[u8], deny: &[u8], tables: &[u8], names: &[u8], request: Request) -> Option<Searched>
+fn find_among(
+    allow: &[u8],
+    deny: &[u8],
+    tables: &[u8],
+    names: &[u8],
+    request: Request,
+) -> Option<Searched>
     requires tables_value { tables_in tables.now ≡ tables_of tables.now }
     requires tables_len_bound { length (tables_in tables.now) ≤ 64 }
     ensures { result
@@ -122,7 +127,13 @@ fn find_among(allow: &[u8], deny: &[u8], tables: &[u8], names: &[u8], request: R
 }
 
 // The answer by two texts and the tables of a section five whose frame is sound, or of none.
-pub fn find(allow: &[u8], deny: &[u8], tables: &[u8], names: &[u8], request: Request) -> Option<Searched>
+pub fn find(
+    allow: &[u8],
+    deny: &[u8],
+    tables: &[u8],
+    names: &[u8],
+    request: Request,
+) -> Option<Searched>
     requires { tables_in tables.now ≡ tables_of tables.now }
     ensures { result
         ≡ finding_of (contents_fault allow.now deny.now tables.now)

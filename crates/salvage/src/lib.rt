@@ -13,14 +13,8 @@ ghost use Rattle.salvage.specs.Code.{made_texts, made_list, sizes_of, grown_by, 
 
 use rules::naming::check_section_five;
 use rules::search::naming_notes;
-use section::Allow;
-use section::Byuid;
-use section::Deny;
-use section::Fault;
-use section::Portacl;
-use section::part_of;
-use sheet::texts::check_frame;
-use sheet::texts::checked_by;
+use section::{Allow, Byuid, Deny, Fault, Portacl, part_of};
+use sheet::texts::{check_frame, checked_by};
 use sheet::{Parts, frame};
 use write::{Sizes, measure_list, measure_texts, put_list, put_sheet};
 
@@ -31,10 +25,8 @@ mod write;
 fn check_five(tables: &[u8]) -> Result<(), Refusal>
     ensures { result ≡ refusing (five_fault tables.now) tt }
 {
-    match check_frame(tables) {
-        Err(refusal) => Err(refusal),
-        Ok(()) => checked_by(check_section_five(tables)),
-    }
+    check_frame(tables)?;
+    checked_by(check_section_five(tables))
 }
 
 // Whether each new text is within its section's limit.
@@ -83,22 +75,16 @@ fn write_both(
         portacl.now tables.now)) (made_list (view_of tables.now notes.now) (texts allow.now deny.now byuid.now portacl.now tables.now)) (length out.old) (length list.old)) }
 {
     let sizes = measure_texts(allow, deny, byuid, portacl, tables, notes);
-    match check_sizes(sizes) {
-        Err(refusal) => Err(refusal),
-        Ok(()) => {
-            if out.len()
-                < 16 + sizes.allow + sizes.deny + sizes.byuid + sizes.portacl + tables.len()
-            {
-                return Err(section::placeless(Fault::NoRoom));
-            }
-            if list.len() < measure_list(allow, deny, byuid, portacl, tables, notes) {
-                return Err(section::placeless(Fault::NoRoom));
-            }
-            let bytes = put_sheet(out, allow, deny, byuid, portacl, tables, notes, sizes);
-            let listed = put_list(list, allow, deny, byuid, portacl, tables, notes);
-            Ok((bytes, listed))
-        }
+    check_sizes(sizes)?;
+    if out.len() < 16 + sizes.allow + sizes.deny + sizes.byuid + sizes.portacl + tables.len() {
+        return Err(section::placeless(Fault::NoRoom));
     }
+    if list.len() < measure_list(allow, deny, byuid, portacl, tables, notes) {
+        return Err(section::placeless(Fault::NoRoom));
+    }
+    let bytes = put_sheet(out, allow, deny, byuid, portacl, tables, notes, sizes);
+    let listed = put_list(list, allow, deny, byuid, portacl, tables, notes);
+    Ok((bytes, listed))
 }
 
 // The same of texts within their limits: section five is checked first.
@@ -122,17 +108,18 @@ fn salvage_texts(
         ≡ second_after list.old
         (salvage_texts (texts allow.now deny.now byuid.now portacl.now tables.now) (length out.old) (length list.old)) }
 {
-    match check_five(tables) {
-        Err(refusal) => Err(refusal),
-        Ok(()) => {
-            let notes = naming_notes(tables);
-            write_both(out, list, allow, deny, byuid, portacl, tables, &notes)
-        }
-    }
+    check_five(tables)?;
+    let notes = naming_notes(tables);
+    write_both(out, list, allow, deny, byuid, portacl, tables, &notes)
 }
 
 // The same of the texts that stand in a sheet.
-fn salvage_parts(out: &mut [u8], list: &mut [u8], sheet: &[u8], parts: Parts) -> Result<(usize, usize), Refusal>
+fn salvage_parts(
+    out: &mut [u8],
+    list: &mut [u8],
+    sheet: &[u8],
+    parts: Parts,
+) -> Result<(usize, usize), Refusal>
     requires { Small (texts_at sheet.now parts) }
     ensures answer { result
         ≡ written_two_of
@@ -164,8 +151,6 @@ pub fn salvage(out: &mut [u8], list: &mut [u8], sheet: &[u8]) -> Result<(usize, 
     ensures changes { list.new
         ≡ second_after list.old (salvageOf sheet.now (length out.old) (length list.old)) }
 {
-    match frame::frame(sheet) {
-        Err(refusal) => Err(refusal),
-        Ok(parts) => salvage_parts(out, list, sheet, parts),
-    }
+    let parts = frame::frame(sheet)?;
+    salvage_parts(out, list, sheet, parts)
 }

@@ -81,16 +81,14 @@ fn from_portacl(sheet: &[u8], allow: Part, deny: Part, byuid: Part) -> Result<Pa
     requires { part_end byuid ≤ length sheet.now }
     ensures { result ≡ from_portacl sheet.now allow deny byuid }
 {
-    match section_at(sheet, Portacl::cursor(byuid.place + byuid.len)) {
-        Err(refusal) => Err(refusal),
-        Ok(portacl) => Ok(Parts {
-            allow,
-            deny,
-            byuid,
-            portacl,
-            tables: rest_after(sheet, portacl),
-        }),
-    }
+    let portacl = section_at(sheet, Portacl::cursor(byuid.place + byuid.len))?;
+    Ok(Parts {
+        allow,
+        deny,
+        byuid,
+        portacl,
+        tables: rest_after(sheet, portacl),
+    })
 }
 
 // The frame, read from byuid on.
@@ -98,10 +96,8 @@ fn from_byuid(sheet: &[u8], allow: Part, deny: Part) -> Result<Parts, Refusal>
     requires { part_end deny ≤ length sheet.now }
     ensures { result ≡ from_byuid sheet.now allow deny }
 {
-    match section_at(sheet, Byuid::cursor(deny.place + deny.len)) {
-        Err(refusal) => Err(refusal),
-        Ok(byuid) => from_portacl(sheet, allow, deny, byuid),
-    }
+    let byuid = section_at(sheet, Byuid::cursor(deny.place + deny.len))?;
+    from_portacl(sheet, allow, deny, byuid)
 }
 
 // The frame, read from deny on.
@@ -109,18 +105,14 @@ fn from_deny(sheet: &[u8], allow: Part) -> Result<Parts, Refusal>
     requires { part_end allow ≤ length sheet.now }
     ensures { result ≡ from_deny sheet.now allow }
 {
-    match section_at(sheet, Deny::cursor(allow.place + allow.len)) {
-        Err(refusal) => Err(refusal),
-        Ok(deny) => from_byuid(sheet, allow, deny),
-    }
+    let deny = section_at(sheet, Deny::cursor(allow.place + allow.len))?;
+    from_byuid(sheet, allow, deny)
 }
 
 // The parts of all sections; the last goes to the sheet's end.
 pub fn frame(sheet: &[u8]) -> Result<Parts, Refusal>
     ensures { result ≡ frame_of sheet.now }
 {
-    match section_at(sheet, Allow::cursor(0)) {
-        Err(refusal) => Err(refusal),
-        Ok(allow) => from_deny(sheet, allow),
-    }
+    let allow = section_at(sheet, Allow::cursor(0))?;
+    from_deny(sheet, allow)
 }

@@ -74,15 +74,9 @@ pub fn pack(
         (packOf (texts allow.now deny.now byuid.now portacl.now tables.now)
         (length out.old)) }
 {
-    match crate::texts::check_texts(allow, deny, byuid, portacl, tables) {
-        Err(refusal) => Err(refusal),
-        Ok(()) => {
-            if out.len()
-                < 16 + allow.len() + deny.len() + byuid.len() + portacl.len() + tables.len()
-            {
-                return Err(section::placeless(Fault::NoRoom));
-            }
-            Ok(put_sheet(out, allow, deny, byuid, portacl, tables))
-        }
+    crate::texts::check_texts(allow, deny, byuid, portacl, tables)?;
+    if out.len() < 16 + allow.len() + deny.len() + byuid.len() + portacl.len() + tables.len() {
+        return Err(section::placeless(Fault::NoRoom));
     }
+    Ok(put_sheet(out, allow, deny, byuid, portacl, tables))
 }

@@ -60,52 +60,52 @@ pub fn checked_by(pass: Result<Option<Answer>, Refusal>) -> Result<(), Refusal>
 fn check_portacl(text: &[u8]) -> Result<(), Refusal>
     ensures { result ≡ refusing (portacl_fault text.now) tt }
 {
-    match portacl::check(text) {
-        Err(refusal) => Err(refusal),
-        Ok(()) => Ok(()),
-    }
+    portacl::check(text)?;
+    Ok(())
 }
 
 // The check of the lines of a byuid text.
 fn check_byuid(text: &[u8]) -> Result<(), Refusal>
     ensures { result ≡ refusing (byuid_fault text.now) tt }
 {
-    match byuid::check(text) {
-        Err(refusal) => Err(refusal),
-        Ok(()) => Ok(()),
-    }
+    byuid::check(text)?;
+    Ok(())
 }
 
 // The check of the texts of the port decisions.
 fn check_ports(byuid: &[u8], portacl: &[u8]) -> Result<(), Refusal>
     ensures { result ≡ refusing (portacl_fault portacl.now or_else byuid_fault byuid.now) tt }
 {
-    match check_portacl(portacl) {
-        Err(refusal) => Err(refusal),
-        Ok(()) => check_byuid(byuid),
-    }
+    check_portacl(portacl)?;
+    check_byuid(byuid)
 }
 
 // The check of the lines and entries of the rules and of portacl, then of the tables and of what names them, then of the lines of byuid.
-fn check_in_order(allow: &[u8], deny: &[u8], byuid: &[u8], portacl: &[u8], tables: &[u8]) -> Result<(), Refusal>
+fn check_in_order(
+    allow: &[u8],
+    deny: &[u8],
+    byuid: &[u8],
+    portacl: &[u8],
+    tables: &[u8],
+) -> Result<(), Refusal>
     requires { tables_frame tables.now ≡ None }
     ensures { result
         ≡ refusing (contents_fault allow.now deny.now byuid.now portacl.now tables.now) tt }
 {
-    match checked_by(naming::check_lines(allow, deny)) {
-        Err(refusal) => Err(refusal),
-        Ok(()) => match check_portacl(portacl) {
-            Err(refusal) => Err(refusal),
-            Ok(()) => match checked_by(naming::check_naming(allow, deny, tables)) {
-                Err(refusal) => Err(refusal),
-                Ok(()) => check_byuid(byuid),
-            },
-        },
-    }
+    checked_by(naming::check_lines(allow, deny))?;
+    check_portacl(portacl)?;
+    checked_by(naming::check_naming(allow, deny, tables))?;
+    check_byuid(byuid)
 }
 
 // The same, where rules that are sound are read once.
-fn check_contents(allow: &[u8], deny: &[u8], byuid: &[u8], portacl: &[u8], tables: &[u8]) -> Result<(), Refusal>
+fn check_contents(
+    allow: &[u8],
+    deny: &[u8],
+    byuid: &[u8],
+    portacl: &[u8],
+    tables: &[u8],
+) -> Result<(), Refusal>
     requires { tables_frame tables.now ≡ None }
     ensures { result
         ≡ refusing (contents_fault allow.now deny.now byuid.now portacl.now tables.now) tt }
@@ -127,11 +127,7 @@ pub fn check_texts(
     ensures { result
         ≡ refusing (texts_fault (texts allow.now deny.now byuid.now portacl.now tables.now)) tt }
 {
-    match check_limits(allow, deny, byuid, portacl) {
-        Err(refusal) => Err(refusal),
-        Ok(()) => match check_frame(tables) {
-            Err(refusal) => Err(refusal),
-            Ok(()) => check_contents(allow, deny, byuid, portacl, tables),
-        },
-    }
+    check_limits(allow, deny, byuid, portacl)?;
+    check_frame(tables)?;
+    check_contents(allow, deny, byuid, portacl, tables)
 }

@@ -24,11 +24,7 @@ fn check_parts(sheet: &[u8], parts: Parts) -> Result<(), Refusal>
 pub fn unpack(sheet: &[u8]) -> Result<Parts, Refusal>
     ensures { result ≡ unpackOf sheet.now }
 {
-    match frame::frame(sheet) {
-        Err(refusal) => Err(refusal),
-        Ok(parts) => match check_parts(sheet, parts) {
-            Err(refusal) => Err(refusal),
-            Ok(()) => Ok(parts),
-        },
-    }
+    let parts = frame::frame(sheet)?;
+    check_parts(sheet, parts)?;
+    Ok(parts)
 }

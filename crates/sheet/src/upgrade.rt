@@ -13,16 +13,12 @@ use section::Fault;
 fn check_four(sheet: &[u8]) -> Result<(), Refusal>
     ensures { result ≡ refusing (four_frame sheet.now) tt }
 {
-    match frame::frame(sheet) {
-        Err(refusal) => Err(refusal),
-        Ok(parts) => {
-            let following = parts.tables;
-            if 0 < following.len {
-                return Err(section::placeless(Fault::TrailingBytes));
-            }
-            Ok(())
-        }
+    let parts = frame::frame(sheet)?;
+    let following = parts.tables;
+    if 0 < following.len {
+        return Err(section::placeless(Fault::TrailingBytes));
     }
+    Ok(())
 }
 
 // Writes the sheet and an empty count at the front of out, and answers their length.
@@ -41,13 +37,9 @@ pub fn upgrade(out: &mut [u8], sheet: &[u8]) -> Result<usize, Refusal>
     ensures answer { result ≡ written_of (upgradeOf sheet.now (length out.old)) }
     ensures holds { out.new ≡ lent_after out.old (upgradeOf sheet.now (length out.old)) }
 {
-    match check_four(sheet) {
-        Err(refusal) => Err(refusal),
-        Ok(()) => {
-            if out.len() < sheet.len() + 2 {
-                return Err(section::placeless(Fault::NoRoom));
-            }
-            Ok(put_upgraded(out, sheet))
-        }
+    check_four(sheet)?;
+    if out.len() < sheet.len() + 2 {
+        return Err(section::placeless(Fault::NoRoom));
     }
+    Ok(put_upgraded(out, sheet))
 }

@@ -180,19 +180,22 @@ pub fn command(sheet: &[u8], answer: Answer) -> &[u8]
 }
 
 // Whether a caller may bind a port at an address, by the byuid text of a sheet, which is the plain file.
-pub fn decide_byuid(sheet: &[u8], port: u16, addr: Addr, uid: u32) -> Result<byuid::Decision, Refusal>
+pub fn decide_byuid(
+    sheet: &[u8],
+    port: u16,
+    addr: Addr,
+    uid: u32,
+) -> Result<byuid::Decision, Refusal>
     ensures { result ≡ decide_byuid_sheet sheet.now (Some (byuid_bind port addr uid)) }
 {
-    match unpack::unpack(sheet) {
-        Err(refusal) => Err(refusal),
-        Ok(parts) => byuid::decide(
-            part_of(sheet, parts.byuid),
-            byuid::Mark::Plain,
-            port,
-            addr,
-            uid,
-        ),
-    }
+    let parts = unpack::unpack(sheet)?;
+    byuid::decide(
+        part_of(sheet, parts.byuid),
+        byuid::Mark::Plain,
+        port,
+        addr,
+        uid,
+    )
 }
 
 // The decision on a bind by the portacl text of a sheet, which is unpacked first.
@@ -206,17 +209,15 @@ fn decide_unpacked(
 ) -> Result<portacl::Decision, Refusal>
     ensures { result ≡ decide_portacl_sheet sheet.now settings (Some (portacl_bind uid groups.now protocol port)) }
 {
-    match unpack::unpack(sheet) {
-        Err(refusal) => Err(refusal),
-        Ok(parts) => portacl::decide(
-            part_of(sheet, parts.portacl),
-            settings,
-            uid,
-            groups,
-            protocol,
-            port,
-        ),
-    }
+    let parts = unpack::unpack(sheet)?;
+    portacl::decide(
+        part_of(sheet, parts.portacl),
+        settings,
+        uid,
+        groups,
+        protocol,
+        port,
+    )
 }
 
 // The check of the texts of a sheet without its portacl list: an empty list is as sound as one that gave a decision.
@@ -246,13 +247,11 @@ fn decide_framed(
 {
     let list = part_of(sheet, parts.portacl);
     match portacl::decide(list, settings, uid, groups, protocol, port) {
-        Err(_) => {
-            decide_unpacked(sheet, settings, uid, groups, protocol, port)
+        Err(_) => { decide_unpacked(sheet, settings, uid, groups, protocol, port) }
+        Ok(decision) => {
+            check_others(sheet, parts)?;
+            Ok(decision)
         }
-        Ok(decision) => match check_others(sheet, parts) {
-            Err(refusal) => Err(refusal),
-            Ok(()) => Ok(decision),
-        },
     }
 }
 
@@ -267,10 +266,6 @@ pub fn decide_portacl(
 ) -> Result<portacl::Decision, Refusal>
     ensures { result ≡ decide_portacl_sheet sheet.now settings (Some (portacl_bind uid groups.now protocol port)) }
 {
-    match frame::frame(sheet) {
-        Err(refusal) => Err(refusal),
-        Ok(parts) => {
-            decide_framed(sheet, parts, settings, uid, groups, protocol, port)
-        }
-    }
+    let parts = frame::frame(sheet)?;
+    decide_framed(sheet, parts, settings, uid, groups, protocol, port)
 }

@@ -6,12 +6,7 @@ ghost use Rattle.tables.specs.Table.{is_missing, is_bad_pattern};
 ghost use Rattle.tables.specs.Code.{tables_in, word_missing, words, plain_bad, words_checked, text_checked, named_before, first_number, tables_checked, Starts};
 ghost use Rattle.tables.specs.Code.{CleanWords, CleanTexts};
 
-use super::entry::after_count;
-use super::entry::after_entry;
-use super::entry::entry_name;
-use super::entry::entry_span;
-use super::entry::entry_text;
-use super::entry::table_count;
+use super::entry::{after_count, after_entry, entry_name, entry_span, entry_text, table_count};
 use super::start::{find_by, note_starts};
 use super::word::{after_word, has_slash, is_table_name, word, word_span};
 use address::Addr;

@@ -5,12 +5,7 @@
 ghost use Rattle.std.specs.Prelude.{◌≡◌, ◌<◌, replicate};
 ghost use Rattle.tables.specs.Code.{tables_in, place_named, SoughtFrom, key_of, Starts};
 
-use super::entry::after_count;
-use super::entry::after_entry;
-use super::entry::entry_name;
-use super::entry::entry_span;
-use super::entry::is_named;
-use super::entry::table_count;
+use super::entry::{after_count, after_entry, entry_name, entry_span, is_named, table_count};
 
 // The number of a name, the same whatever its case, which changes none of the low five bits of a byte.
 fn key(name: &[u8]) -> usize

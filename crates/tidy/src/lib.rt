@@ -24,8 +24,7 @@ use crate::numbers::{name_lines, write_numbers};
 use crate::repeats::covered_lines;
 use rules::naming::check_contents;
 use rules::search::are_sound;
-use section::Fault;
-use section::Refusal;
+use section::{Fault, Refusal};
 use tables::entry::Framing;
 
 // A pass that looks for nothing, as a check.
@@ -107,10 +106,8 @@ pub fn propose(out: &mut [u8], text: &[u8], tables: &[u8], section: u32) -> Resu
     ensures holds { out.new
         ≡ lent_after out.old (proposeOf section text.now tables.now (length out.old)) }
 {
-    match check_file(text, tables, section) {
-        Err(refusal) => Err(refusal),
-        Ok(()) => propose_sound(out, text),
-    }
+    check_file(text, tables, section)?;
+    propose_sound(out, text)
 }
 
 // The same of a text that passed its checks.
@@ -142,8 +139,6 @@ pub fn drop_rules(
         ≡ lent_after out.old
         (drop_rules section text.now tables.now proposal.now (length out.old)) }
 {
-    match check_file(text, tables, section) {
-        Err(refusal) => Err(refusal),
-        Ok(()) => drop_sound(out, text, proposal),
-    }
+    check_file(text, tables, section)?;
+    drop_sound(out, text, proposal)
 }

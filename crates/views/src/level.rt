@@ -11,11 +11,7 @@ ghost use Rattle.views.specs.Level.{word_place, marked_by, counted_by, tallied, 
 
 use super::names::find_named;
 use super::{counted_at, has_bit, is_marked, step};
-use tables::entry::after_count;
-use tables::entry::after_entry;
-use tables::entry::entry_span;
-use tables::entry::entry_text;
-use tables::entry::table_count;
+use tables::entry::{after_count, after_entry, entry_span, entry_text, table_count};
 use tables::word::{after_word, names_table, word, word_span};
 
 // How many words of a text are left to try for a host, and what was tried.

@@ -19,12 +19,7 @@ ghost use Rattle.views.specs.View.{naming_at, marked_at, counted_at, reference_o
 use names::{find_named, find_noted, note_names, put_told};
 use patterns::Host;
 use patterns::pattern::host_read;
-use tables::entry::after_count;
-use tables::entry::after_entry;
-use tables::entry::entry_span;
-use tables::entry::entry_text;
-use tables::entry::find;
-use tables::entry::table_count;
+use tables::entry::{after_count, after_entry, entry_span, entry_text, find, table_count};
 use tables::word::{after_word, has_slash, names_table, word, word_span};
 use text::equal_fold;
 

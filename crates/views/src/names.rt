@@ -7,12 +7,7 @@ ghost use Rattle.std.specs.Prelude.{◌≡◌, ◌+◌, ◌≤◌, ◌<◌, eqb,
 ghost use Rattle.tables.specs.Code.{tables_in, place_named};
 ghost use Rattle.views.specs.Names.{hash_of, is_named_at, near_by, Skipped, noted_place, NamesNoted, Told};
 
-use tables::entry::after_count;
-use tables::entry::after_entry;
-use tables::entry::entry_name;
-use tables::entry::entry_span;
-use tables::entry::find;
-use tables::entry::table_count;
+use tables::entry::{after_count, after_entry, entry_name, entry_span, find, table_count};
 use text::{equal_fold, lower};
 
 // A number of a name, the same whatever its case.
