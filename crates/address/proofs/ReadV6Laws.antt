@@ -1,6 +1,6 @@
 -- Laws of reading IPv6 text: `::`, its two sides, and addresses of either kind.
 -- Assumes nothing.
-use Rattle.std.specs.Prelude.{Err, None, Ok, Option, Some}
+use Rattle.std.specs.Prelude.{Err, None, Ok, Option, Some, unwrap_or}
 use Prim.Native.Nat.{ℕ, ◌+◌, ◌-◌, ◌*◌, ◌/◌, ◌%◌, ◌^◌, ◌<◌, ◌≤◌, zero, suc}
 use mathlib.Core.Bool.{Bool, true, false, ◌&&◌, true≢false}
 use mathlib.Core.List.{List, [], ◌∷◌, ◌++◌}
@@ -119,11 +119,17 @@ groups_are : (o : Option (List ℕ)) (a : ℕ) (l : Words) → groups_from 0 0 o
 groups_are None a l e = let z : ◌≡◌ {A = ℕ} 0 1 = cc in absurd (omega arith)
 groups_are (Some gs) a l e = by (leb (0 + length gs) 8) refl e
   where
-    by : (b : Bool) → leb (0 + length gs) 8 ≡ b → (when b then Some ((0 + length gs), (words_of (from_digits 65536 0 gs))) else None) ≡ Some (a, l)
+    by : (b : Bool) → leb (0 + length gs) 8 ≡ b → when◌then◌else◌ {A = Option (ℕ × Words)} b (Some (0 + length gs, words_of (from_digits 65536 0 gs))) None ≡ Some (a, l)
         → AreGroups (Some gs) a l
     by true p q =
-        let x : 0 + length gs ≡ a = cc in
-        record { groups = gs; read = refl; count = omega arith; few = omega (arith, leb-true (0 + length gs) 8 p); number = cc }
+        let r : ◌≡◌ {A = ℕ × Words} (0 + length gs, words_of (from_digits 65536 0 gs)) (a, l) = ap (λ o. unwrap_or o (0, l)) q in
+        record {
+          groups = gs;
+          read = refl;
+          count = omega (arith, ap (λ (p : ℕ × Words). p.0) r);
+          few = omega (arith, leb-true (0 + length gs) 8 p);
+          number = sym (ap (λ (p : ℕ × Words). p.1) r)
+        }
     by false p q = let z : ◌≡◌ {A = ℕ} 0 1 = cc in absurd (omega arith)
 
 number_of_groups : (o : Option (List ℕ)) (a : ℕ) (l : Words) (r : AreGroups o a l) → number_of l ≡ from_digits 65536 0 r.groups
@@ -134,7 +140,7 @@ groups_none : (o : Option (List ℕ)) → groups_from 0 0 o ≡ None → (gs : L
 groups_none None e gs q = let z : ◌≡◌ {A = ℕ} 0 1 = cc in absurd (omega arith)
 groups_none (Some hs) e gs q = let r : hs ≡ gs = cc in omega (arith, ap length r, by (leb (0 + length hs) 8) refl e)
   where
-    by : (b : Bool) → leb (0 + length hs) 8 ≡ b → (when b then Some ((0 + length hs), (words_of (from_digits 65536 0 hs))) else None) ≡ None
+    by : (b : Bool) → leb (0 + length hs) 8 ≡ b → when◌then◌else◌ {A = Option (ℕ × Words)} b (Some (0 + length hs, words_of (from_digits 65536 0 hs))) None ≡ None
         → 8 < length hs
     by true p q = let z : ◌≡◌ {A = ℕ} 0 1 = cc in absurd (omega arith)
     by false p q = omega (arith, leb-false (0 + length hs) 8 p)
@@ -392,11 +398,11 @@ as_v6_none (Some n) e = let z : ◌≡◌ {A = ℕ} 0 1 = cc in absurd (omega ar
 pub as_v6_some : (o : Option ℕ) (a b : ℕ) → as_v6 o ≡ Some (a, b) → o ≡ Some (a * 2 ^ 64 + b)
 as_v6_some None a b e = let z : ◌≡◌ {A = ℕ} 0 1 = cc in absurd (omega arith)
 as_v6_some (Some n) a b e =
-    let p : n / 2 ^ 64 ≡ a = cc in
-    let q : n % 2 ^ 64 ≡ b = cc in
+    let p : n / 2 ^ 64 ≡ a = ap (λ (o : Option (ℕ × ℕ)). (unwrap_or {T = ℕ × ℕ} o (0, 0)).0) e in
+    let q : n % 2 ^ 64 ≡ b = ap (λ (o : Option (ℕ × ℕ)). (unwrap_or {T = ℕ × ℕ} o (0, 0)).1) e in
     ap Some (sym (number_of_words_of n) ∙ ap₂ (λ (x y : ℕ). x * 2 ^ 64 + y) p q)
 
-module _ (t : List ℕ) (v : Option ℕ) (is_v : v ≡ (read_v4 t)) where
+module _ (t : List ℕ) (v : Option ℕ) (is_v : v ≡ read_v4 t) where
   pub address_v4 : (n : ℕ) → v ≡ Some n → Ok (A.V4 n) ≡ read_address t
   unfolding read_address
   address_v4 n e = sym (rw (as_number_some (read_v4 t) n (sym is_v ∙ e)))

@@ -166,5 +166,5 @@ module _ (l : Words) (a : ℕ) (r : Words) (b : ℕ) (ha : a ≤ 8) (hl : number
     pub join_low : w.low + r.low < 18446744073709551616
     join_low = rw is_low (mod-lt joined {m = 2 ^ 64} (omega arith))
 
-    pub join_value : Some ((w.high + r.high), (w.low + r.low)) ≡ as_v6 (given (ltb (a + b) 8) joined)
-    join_value = ap₂ Some (is_high, is_low) ∙ sym (rw (lt-ltb (a + b) 8 h))
+    pub join_value : Some (w.high + r.high, w.low + r.low) ≡ as_v6 (given (ltb (a + b) 8) joined)
+    join_value = ap₂ (λ (x y : ℕ). Some (x, y)) is_high is_low ∙ sym (rw (lt-ltb (a + b) 8 h))

@@ -46,7 +46,7 @@ first_group t = group_at (index_of 58 t) (ltb (index_of 58 t) (length t)) (group
 
 abbrev pub groups_from : ℕ → ℕ → Option (List ℕ) → Option (ℕ × Words)
 groups_from k n None = None
-groups_from k n (Some gs) = when leb (k + length gs) 8 then Some ((k + length gs), (words_of (from_digits 65536 n gs))) else None
+groups_from k n (Some gs) = when leb (k + length gs) 8 then Some (k + length gs, words_of (from_digits 65536 n gs)) else None
 
 -- IPv4 text as two groups
 abbrev pub read_tail : List ℕ → Option (List ℕ)
@@ -72,4 +72,4 @@ of_groups o = o >>= λ gs. given (eqb (length gs) 8) (from_digits 65536 0 gs)
 
 abbrev pub as_v6 : Option ℕ → Option (ℕ × ℕ)
 as_v6 None = None
-as_v6 (Some n) = Some ((n / 2 ^ 64), (n % 2 ^ 64))
+as_v6 (Some n) = Some (n / 2 ^ 64, n % 2 ^ 64)

@@ -10,8 +10,8 @@ read_compressed-requires c = outright (search (v6_two, rules))
 pub returns-then-i-s : goal.returns-then-i-s
 returns-then-i-s c = outright (search (v6_compressed, rules))
 
-pub returns-in-None : goal.returns-in-None
-returns-in-None c = outright (search (v6_nothing, rules))
+pub returns-in_err-count : goal.returns-in_err-count
+returns-in_err-count c = outright (search (v6_nothing, rules))
 
 pub returns-then-count-eq8 : goal.returns-then-count-eq8
 returns-then-count-eq8 c = outright (search (v6_eight, rules))
