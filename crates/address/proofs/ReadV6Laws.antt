@@ -128,7 +128,7 @@ groups_are (Some gs) a l e = by (leb (0 + length gs) 8) refl e
           read = refl;
           count = omega (arith, ap (λ (p : ℕ × Words). p.0) r);
           few = omega (arith, leb-true (0 + length gs) 8 p);
-          number = sym (ap (λ (p : ℕ × Words). p.1) r)
+          number = sym (ap (λ (p : ℕ × Words). p.1) r);
         }
     by false p q = let z : ◌≡◌ {A = ℕ} 0 1 = cc in absurd (omega arith)
 

@@ -15,7 +15,7 @@ ghost use Rattle.address.specs.Address.{hex_groups, compress, text_v4, text_v6, 
 ghost use Rattle.address_format.specs.WriteCode.{colon_groups, longer_zeros, longer_run, longest_run};
 
 use address::Addr;
-use section::Fault;
+use section::{Fault, Refusal};
 
 // A run of zeros among the groups of an IPv6 address.
 #[derive(Clone, Copy)]

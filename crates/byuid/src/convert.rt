@@ -7,7 +7,7 @@ ghost use Rattle.byuid.specs.Convert.{convert_line, convert_text};
 ghost use Rattle.byuid.specs.Convert.{convert as convert_of};
 
 use crate::line::is_retired;
-use section::{Byuid, Fault};
+use section::{Byuid, Fault, Refusal};
 
 // Writes a line from at on, the two marks exchanged where it is of the retired form.
 pub fn put_line(out: &mut [u8], at: usize, l: &[u8])

@@ -8,7 +8,7 @@ ghost use Rattle.section.specs.Refusal.{within_rooms, first_after, second_after,
 ghost use Rattle.carry.specs.Carry.{port_lines, span_lines, plain_text, marked_text, carry as carryOf};
 ghost use Rattle.carry.specs.Code.{in_both, lines_if, address_line};
 
-use section::Fault;
+use section::{Fault, Refusal};
 
 // Whether a port is noted in both sets.
 fn is_in_both(tcp: &[u8], udp: &[u8], port: usize) -> bool

@@ -23,7 +23,7 @@ use address_format::put_address;
 use elements::request::{Request, fits};
 use lines::command::{has_bad_percent, trim};
 use lines::line::{join_into, joined};
-use section::{Fault, Part};
+use section::{Fault, Part, Refusal};
 
 // Whether b is one of the marks `@%-_=+:,./`.
 fn is_safe_mark(b: u8) -> bool

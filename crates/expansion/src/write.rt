@@ -8,7 +8,7 @@ ghost use Rattle.section.specs.Refusal.{within_room, written_of, lent_after};
 ghost use Rattle.expansion.specs.Code.{texts_at, Short, expansion_by};
 
 use crate::directive::{Given, inserted_length, put_inserted};
-use section::Fault;
+use section::{Fault, Refusal};
 
 // The byte at k, 0 past the end, which no directive is.
 fn byte_at(s: &[u8], k: usize) -> u8

@@ -15,7 +15,7 @@ ghost use Rattle.section.specs.Refusal.{within_room, written_of, lent_after};
 ghost use Rattle.sheet.specs.Sheet.{unpack as unpackOf};
 ghost use Rattle.index.specs.Index.{rule_table, two_bytes, table_bytes, index_bytes, write_index, read_requests, answer_all, verdicts as verdictsBy};
 
-use section::{Fault, part_of};
+use section::{Fault, Refusal, part_of};
 use sheet::Parts;
 use sheet::unpack::unpack;
 

@@ -29,7 +29,7 @@ use lists::walk::{clients_included, daemons_included};
 use rules::hosts_file::{LineKind, kind_of_line};
 use rules::search::notes_on;
 use rules::{File, Verdict};
-use section::{Part, part_of};
+use section::{Part, Refusal, part_of};
 
 // Whether two findings are the same.
 fn same_found(f: Found, g: Found) -> bool

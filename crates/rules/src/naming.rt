@@ -14,7 +14,8 @@ ghost use Rattle.rules.specs.Code.{contents_fault, lines_fault, lines_fault_by, 
 
 use super::combine;
 use super::hosts_file::check_file;
-use section::{Allow, Deny, Fault, Tables};
+use crate::Answer;
+use section::{Allow, Deny, Fault, Refusal, Tables};
 use tables::check::check_tables;
 use tables::entry::count;
 use views::deep_notes;

@@ -13,7 +13,7 @@ ghost use Rattle.salvage.specs.Code.{made_texts, made_list, sizes_of, grown_by, 
 
 use rules::naming::check_section_five;
 use rules::search::naming_notes;
-use section::{Allow, Byuid, Deny, Fault, Portacl, part_of};
+use section::{Allow, Byuid, Deny, Fault, Portacl, Refusal, part_of};
 use sheet::texts::{check_frame, checked_by};
 use sheet::{Parts, frame};
 use write::{Sizes, measure_list, measure_texts, put_list, put_sheet};

@@ -7,7 +7,7 @@ ghost use Rattle.section.specs.Refusal.{written_of, lent_after};
 ghost use Rattle.sheet.specs.Sheet.{texts, counted, sheet_of};
 ghost use Rattle.sheet.specs.Sheet.{pack as packOf};
 
-use section::Fault;
+use section::{Fault, Refusal};
 
 // Writes the last 32 bits of n as four bytes, most significant first, from at on, and answers the place after them.
 pub fn put_count(out: &mut [u8], at: usize, n: usize) -> usize

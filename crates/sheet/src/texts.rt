@@ -9,8 +9,8 @@ ghost use Rattle.portacl.specs.Portacl.{portacl_fault};
 ghost use Rattle.sheet.specs.Sheet.{texts, texts_fault};
 ghost use Rattle.sheet.specs.Code.{checked_by, limits_fault, contents_fault};
 
-use rules::naming;
 use rules::search::are_sound;
+use rules::{Answer, naming};
 use section::{Allow, Byuid, Deny, Fault, Portacl, Refusal, Tables};
 use tables::entry;
 use tables::entry::Framing;

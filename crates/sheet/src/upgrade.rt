@@ -7,7 +7,7 @@ ghost use Rattle.sheet.specs.Sheet.{four_frame};
 ghost use Rattle.sheet.specs.Sheet.{upgrade as upgradeOf};
 
 use crate::frame;
-use section::Fault;
+use section::{Fault, Refusal};
 
 // The check of the frame of a sheet of four sections: no byte follows the fourth.
 fn check_four(sheet: &[u8]) -> Result<(), Refusal>

@@ -24,9 +24,9 @@ ghost use Rattle.station.specs.Code.{framed_fault, refused_by, without_list};
 
 use address::Addr;
 use elements::request::Request;
-use rules::search::find;
+use rules::search::{Searched, find};
 use rules::{Answer, File, Reported};
-use section::{Fault, Part, part_of};
+use section::{Fault, Part, Refusal, part_of};
 use sheet::texts::check_texts;
 use sheet::{Parts, frame, unpack};
 use tables::entry::Framing;

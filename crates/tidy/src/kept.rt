@@ -7,7 +7,7 @@ ghost use Rattle.lines.specs.Line.{lines};
 ghost use Rattle.tidy.specs.Code.{size_here, kept_here, kept_bytes, Sound};
 
 use lines::line;
-use section::Fault;
+use section::{Fault, Refusal};
 
 // How many bytes of a line of so many stay.
 fn kept_size(marks: &[u8; 16385], n: usize, size: usize) -> usize

@@ -22,6 +22,7 @@ ghost use Rattle.tidy.specs.Code.{checked_by, texts_fault, section_fault, Sound,
 use crate::kept::write_kept;
 use crate::numbers::{name_lines, write_numbers};
 use crate::repeats::covered_lines;
+use rules::Answer;
 use rules::naming::check_contents;
 use rules::search::are_sound;
 use section::{Fault, Refusal};

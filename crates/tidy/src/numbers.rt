@@ -9,7 +9,7 @@ ghost use Rattle.section.specs.Refusal.{written_of, within_room, lent_after};
 ghost use Rattle.tidy.specs.Tidy.{numbers_of};
 ghost use Rattle.tidy.specs.Code.{marked_here, marked_from, marked_bytes, names_marked, set_named};
 
-use section::Fault;
+use section::{Fault, Refusal};
 
 // How many numbers line n adds.
 fn mark_count(marks: &[u8], n: usize) -> usize
