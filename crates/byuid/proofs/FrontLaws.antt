@@ -127,7 +127,7 @@ module _ (s : List ℕ) (r : Run) (is-r : r ≡ run_from 0 0 0 0 false s) where
     unfolding front_v4
     front_value m e =
         let f : i ≡ address_end s = omega (arith, ended.0) in
-        rw (ended.1 ∙ as_number_some (ended_address n k v d) m (sym is-a ∙ e)) (ap (SOMEN2 m) f)
+        rw (ended.1 ∙ as_number_some (ended_address n k v d) m (sym is-a ∙ e)) (ap (λ (j : ℕ). Some (m, j)) f)
 
 -- ## The text around the byte after an address
 

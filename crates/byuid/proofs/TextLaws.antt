@@ -16,7 +16,7 @@ use Rattle.text.specs.Scan.{index_of}
 use Rattle.text.proofs.ScanLaws.{take_rest, split_mark, split_no_mark}
 use Rattle.section.specs.declared.Fault.TheVariants as F
 use Rattle.section.specs.declared.Refusal.{Refusal}
-use Rattle.section.specs.Refusal.{refusal, placeless, fitting, refusing}
+use Rattle.section.specs.Refusal.{refusal, placeless, fitting, checked_of}
 use Rattle.address.specs.declared.Addr.{Addr}
 use Rattle.address.specs.declared.Addr.TheVariants as A
 use Rattle.byuid.specs.Byuid.{line_grants, is_retired, retired_fault, byuid_fault, is_ruled, in_span, byuid_decision, bind, file_bind, address_known, decide_byuid}
@@ -143,14 +143,14 @@ module _ (t : List ℕ) (a : Addr) (p : ℕ) (w : Result Bool ℕ) (is-w : w ≡
     fault_retired : byuid_fault t ≡ Some r
     fault_retired = byuid_fault_walk ∙ rw (e, is-r)
 
-    pub check_retired : Err r ≡ refusing (byuid_fault t) tt
+    pub check_retired : Err r ≡ checked_of (byuid_fault t)
     check_retired = rw fault_retired
 
   module _ (g : Bool) (e : w ≡ Ok g) where
     fault_none : byuid_fault t ≡ None
     fault_none = byuid_fault_walk ∙ rw e
 
-    pub check_sound : (Ok tt) ≡ refusing (byuid_fault t) tt
+    pub check_sound : (Ok tt) ≡ checked_of (byuid_fault t)
     check_sound = rw fault_none
 
     granting : g ≡ any (line_grants a p) (split "\n" t)

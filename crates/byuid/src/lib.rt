@@ -5,7 +5,7 @@
 #![tactic(auto)]
 
 ghost use Rattle.std.specs.Prelude.{false, ◌≡◌};
-ghost use Rattle.section.specs.Refusal.{refusing};
+ghost use Rattle.section.specs.Refusal.{checked_of};
 ghost use Rattle.text.specs.Text.{split};
 ghost use Rattle.byuid.specs.Byuid.{is_ruled, in_span, byuid_fault, bind, file_bind, decide_byuid};
 ghost use Rattle.byuid.specs.Code.{walk, searched_for, decision_by, answer_by};
@@ -54,7 +54,7 @@ fn walk_lines(text: &[u8], addr: Addr, port: u16) -> Result<bool, usize>
 
 // The refusal of the first line of the retired form.
 pub fn check(text: &[u8]) -> Result<(), Refusal>
-    ensures { result ≡ refusing (byuid_fault text.now) tt }
+    ensures { result ≡ checked_of (byuid_fault text.now) }
 {
     match walk_lines(text, Addr::Unknown, 0) {
         Err(number) => Err(section::Byuid::refusal(Fault::RetiredForm, number)),

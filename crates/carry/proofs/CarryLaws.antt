@@ -1,6 +1,6 @@
 -- Laws of the two texts: what is written where both have room, and that what is noted is what the list has.
 -- Assumes nothing.
-use Rattle.std.specs.Prelude.{Err, None, Ok, Result}
+use Rattle.std.specs.Prelude.{Err, None, Ok, Result, ⊤}
 use Prim.Native.Nat.{ℕ, zero, suc, ◌+◌, ◌<◌, ◌≤◌}
 use mathlib.Core.Bool.{Bool, true, false, ◌&&◌, ◌||◌}
 use mathlib.Core.List.{List, [], ◌∷◌, ◌++◌}
@@ -13,7 +13,7 @@ use Rattle.text.specs.Basics.{when◌then◌else◌, holds, any}
 use Rattle.text.specs.Scan.{after}
 use Rattle.section.specs.declared.Fault.TheVariants as F
 use Rattle.section.specs.declared.Refusal.{Refusal}
-use Rattle.section.specs.Refusal.{Outcome, refusal, placeless, within_rooms, first_after, second_after, written_two_of, refusing}
+use Rattle.section.specs.Refusal.{Outcome, refusal, placeless, within_rooms, first_after, second_after, written_two_of, checked_of}
 use Rattle.section.specs.Section as S
 use Rattle.portacl.specs.declared.Protocol.{Protocol}
 use Rattle.portacl.specs.declared.Protocol.TheVariants.{Tcp, Udp}
@@ -92,7 +92,7 @@ module _ (t : List ℕ) (uid : ℕ) (d e : List ℕ) (o : Bool) (is-o : o ≡ lt
   unfolding carry
   carry_over h r is-r = (rw (← is-o, h, is-r), (rw (← is-o, h), rw (← is-o, h)))
 
-  module _ (h : o ≡ false) (c : Result Unit Refusal) (is_c : c ≡ refusing (portacl_fault t) tt) where
+  module _ (h : o ≡ false) (c : Result ⊤ Refusal) (is_c : c ≡ checked_of (portacl_fault t)) where
     pub carry_bad : (r : Refusal) → c ≡ Err r → Did d e outcome (Err r) d e
     unfolding carry
     carry_bad r q =

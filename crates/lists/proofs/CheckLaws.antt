@@ -1,6 +1,6 @@
 -- Laws of checking one list and one rule, shaped as the calls and tests of the code hand their facts over.
 -- Assumes nothing.
-use Rattle.std.specs.Prelude.{Err, None, Ok, Option, Result, Some}
+use Rattle.std.specs.Prelude.{Err, None, Ok, Option, Result, Some, ⊤}
 use Prim.Native.Nat.{ℕ, ◌≤◌, ◌<◌}
 use mathlib.Core.Bool.{Bool, true, false, not, ◌&&◌, ◌||◌, true≢false, or-false, and-true, and-false, and_assoc, or_assoc}
 use mathlib.Core.List.{List, [], ◌∷◌}
@@ -127,7 +127,7 @@ module _ (d c : ListCheck) (bad : Bool) where
           unfolding lowest_of
           lowest_of_percent i = rw (e, f, g, h, i)
 
-          pub lowest_of_naming : bad ≡ false → (r : Result Unit Fault) → r ≡ naming_fault_of d c → r ≡ lowest_of d c bad
+          pub lowest_of_naming : bad ≡ false → (r : Result ⊤ Fault) → r ≡ naming_fault_of d c → r ≡ lowest_of d c bad
           unfolding lowest_of
           lowest_of_naming i r is-r = rw (e, f, g, h, i) is-r
 
@@ -271,7 +271,7 @@ bad_command_after_is j s k is-k t is-t b is_b = rw (← is-k, ← is-t) is_b
 
 pub rest_fault_is : (v : View) (s : List ℕ) (j : ℕ) (d : ListCheck) → j ≡ separator_index false s → (c : ListCheck)
     → c ≡ list_check (client_kind v) (words (take j s))
-    → (b : Bool) → b ≡ bad_command_after j s → (r : Result Unit Fault) → r ≡ lowest_of d c b → r ≡ rest_fault v d s
+    → (b : Bool) → b ≡ bad_command_after j s → (r : Result ⊤ Fault) → r ≡ lowest_of d c b → r ≡ rest_fault v d s
 unfolding rest_fault
 rest_fault_is v s j d is-j c is_c b is_b r is-r = rw (is-r, is_c, is_b, is-j)
 
@@ -281,7 +281,7 @@ module _ (v : View) (t : List ℕ) (i : ℕ) (is-i : i ≡ separator_index false
   check_rule_none l = rw (parse_rule_none t i is-i l)
 
   pub check_rule_some : NoNewline t → i < length t → (d : ListCheck) → d ≡ list_check (daemon_kind v) (words (take i t))
-      → (s : List ℕ) → s ≡ after_separator i t → (r : Result Unit Fault) → r ≡ rest_fault v d s → r ≡ checked_of (judged_fault v (parse_rule t))
+      → (s : List ℕ) → s ≡ after_separator i t → (r : Result ⊤ Fault) → r ≡ rest_fault v d s → r ≡ checked_of (judged_fault v (parse_rule t))
   unfolding rest_fault
   check_rule_some joined l d is_d s is-s r is-r =
       let k : List ℕ = after_separator (separator_index false s) s in

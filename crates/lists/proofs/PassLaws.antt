@@ -1,7 +1,7 @@
 -- Laws of the one pass over a list and a rule, in which it is checked and looked at; shaped as the calls and tests of the code hand their
 -- facts over.
 -- Assumes nothing.
-use Rattle.std.specs.Prelude.{Err, Result}
+use Rattle.std.specs.Prelude.{Err, Result, ⊤}
 use Prim.Native.Nat.{ℕ, ◌+◌, ◌≤◌, ◌<◌}
 use native.Mathlib.Omega.{arith}
 use mathlib.Core.Bool.{Bool, true, false, not}
@@ -292,10 +292,10 @@ module _ (v : View) (names : List ℕ) (q : Places) (search : Bool) (ws : List (
 
 -- ## One rule
 
-abbrev rule_all : Result Unit Fault → Found → ℕ → RuleSeen
+abbrev rule_all : Result ⊤ Fault → Found → ℕ → RuleSeen
 rule_all c f n = record { check = c; found = f; looked = n }
 
-rule_same : {a b : (Result Unit Fault)} {f g : Found} {m n : ℕ} → a ≡ b → f ≡ g → m ≡ n → rule_all a f m ≡ rule_all b g n
+rule_same : {a b : (Result ⊤ Fault)} {f g : Found} {m n : ℕ} → a ≡ b → f ≡ g → m ≡ n → rule_all a f m ≡ rule_all b g n
 rule_same p q r = rw (p, q, r)
 
 sought_yes : (d c : Found) → then_found d (sought (is_yes d) c) ≡ then_found d c
@@ -330,7 +330,7 @@ counted_none false = refl
 pub rest_seen_is : (v : View) (q : Request) (d : ListSeen) (s : List ℕ) (j : ℕ) → j ≡ separator_index false s
     → (y : Bool) → y ≡ is_yes d.found
     → (c : ListSeen) → c ≡ list_seen (client_kind v) (client_finds v q.client q.user q.user_name) y (words (take j s))
-    → (b : Bool) → b ≡ bad_command_after j s → (k : Result Unit Fault) → k ≡ lowest_of d.check c.check b → (f : Found) → f ≡ then_found d.found c.found
+    → (b : Bool) → b ≡ bad_command_after j s → (k : Result ⊤ Fault) → k ≡ lowest_of d.check c.check b → (f : Found) → f ≡ then_found d.found c.found
     → (n : ℕ) → n ≡ capped (d.looked + c.looked)
     → rule_all k f n ≡ rest_seen v q d s
 unfolding rest_seen list_seen

@@ -5,7 +5,7 @@
 --   line_found v r t, line_looked v r t == what the rule in the joined line t finds of the request r, by the view v of the tables, and looks at
 --   judged_fault v o == the lowest fault of the rule o, and else of the tables that it names
 -- Assumes nothing: these are definitions.
-use Rattle.std.specs.Prelude.{ℕ, Bool, not, true, false, List, ◌≡◌, eqb, Err, None, Ok, Option, Result, Some}
+use Rattle.std.specs.Prelude.{ℕ, Bool, not, true, false, List, ◌≡◌, eqb, Err, None, Ok, Option, Result, Some, ⊤}
 use Rattle.text.specs.Basics.{when◌then◌else◌, ◌or_else◌, given, all}
 use Rattle.section.specs.declared.Fault.{Fault}
 use Rattle.section.specs.declared.Fault.TheVariants as F
@@ -20,7 +20,7 @@ use Rattle.lists.specs.Check.{rule_fault, rule_names}
 use Rattle.lists.specs.Walk.{rule_found_by}
 use Rattle.lists.specs.Looked.{rule_looked_by}
 
-abbrev pub checked_of : Option Fault → Result Unit Fault
+abbrev pub checked_of : Option Fault → Result ⊤ Fault
 checked_of None = Ok tt
 checked_of (Some f) = Err f
 

@@ -12,7 +12,7 @@
 --   list_looked m c ws, rest_looked m c ws == what the list ws finds and looks at, before and after an element of it matched
 --   looked_more n l           == l, and n elements that were looked at before it
 -- Assumes nothing: these are definitions.
-use Rattle.std.specs.Prelude.{ℕ, ◌+◌, Bool, true, false, not, ◌&&◌, ◌||◌, List, [], take, Err, Ok, Result}
+use Rattle.std.specs.Prelude.{ℕ, ◌+◌, Bool, true, false, not, ◌&&◌, ◌||◌, List, [], take, Err, Ok, Result, ⊤}
 use Rattle.text.specs.Basics.{when◌then◌else◌, is_some, any, all}
 use Rattle.section.specs.declared.Fault.TheVariants as F
 use Rattle.lines.specs.Rule.{is_except}
@@ -104,13 +104,13 @@ list_end c after = checks c.empty (c.misplaced || not after) c.reserved c.unsoun
 
 -- ## Checking a rule
 
-unfoldable pub naming_fault_of : ListCheck → ListCheck → Result Unit Fault
+unfoldable pub naming_fault_of : ListCheck → ListCheck → Result ⊤ Fault
 naming_fault_of d c =
     when d.missing || c.missing then Err F.TableName
     else when d.deep || c.deep then Err F.TooDeep
     else Ok tt
 
-unfoldable pub lowest_of : ListCheck → ListCheck → Bool → Result Unit Fault
+unfoldable pub lowest_of : ListCheck → ListCheck → Bool → Result ⊤ Fault
 lowest_of d c bad =
     when d.empty || c.empty then Err F.NoElement
     else when d.misplaced || c.misplaced then Err F.MisplacedExcept
@@ -126,7 +126,7 @@ client_words s = words (take (separator_index false s) s)
 abbrev pub bad_command_after : ℕ → List ℕ → Bool
 bad_command_after j s = any_bad_percent (trim_blanks (after_separator j s))
 
-unfoldable pub rest_fault : View → ListCheck → List ℕ → Result Unit Fault
+unfoldable pub rest_fault : View → ListCheck → List ℕ → Result ⊤ Fault
 rest_fault v d s = lowest_of d (list_check (client_kind v) (client_words s)) (bad_command_after (separator_index false s) s)
 
 -- ## Looking at a list

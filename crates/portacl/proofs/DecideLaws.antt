@@ -1,6 +1,6 @@
 -- Laws that tie what the code computes to the definitions of the decision.
 -- Assumes nothing.
-use Rattle.std.specs.Prelude.{Err, None, Ok, Option, Result, Some}
+use Rattle.std.specs.Prelude.{Err, None, Ok, Option, Result, Some, ⊤}
 use Prim.Native.Nat.{ℕ, ◌+◌, ◌<◌, ◌≤◌}
 use mathlib.Core.Bool.{Bool, true, false, not, ◌&&◌, ◌||◌, or-false, or_assoc}
 use mathlib.Core.List.{List, [], ◌∷◌, map}
@@ -14,7 +14,7 @@ use Rattle.text.specs.Text.{bytes, split_once, split}
 use Rattle.text.specs.Number.{read_decimal}
 use Rattle.section.specs.declared.Fault.TheVariants as F
 use Rattle.section.specs.declared.Refusal.{Refusal}
-use Rattle.section.specs.Refusal.{refusal, placeless, refusing}
+use Rattle.section.specs.Refusal.{refusal, placeless, checked_of}
 use Rattle.section.specs.Section as S
 use Rattle.portacl.specs.declared.Decision.{Decision}
 use Rattle.portacl.specs.declared.Decision.TheVariants.{NotRuled, Exempt, Granted, Denied}
@@ -93,24 +93,24 @@ module _ (t : List ℕ) (b : Bind) (w : Result Bool ℕ) (is-w : w ≡ walk b 1 
     fault_bad : portacl_fault t ≡ Some r
     fault_bad = portacl_fault_walk ∙ rw (e, is-r)
 
-    pub check_bad : Err r ≡ refusing (portacl_fault t) tt
+    pub check_bad : Err r ≡ checked_of (portacl_fault t)
     check_bad = rw fault_bad
 
   module _ (g : Bool) (e : w ≡ Ok g) where
     fault_none : portacl_fault t ≡ None
     fault_none = portacl_fault_walk ∙ rw e
 
-    pub check_sound : (Ok tt) ≡ refusing (portacl_fault t) tt
+    pub check_sound : (Ok tt) ≡ checked_of (portacl_fault t)
     check_sound = rw fault_none
 
     granting : g ≡ any (holds λ grants. grants b) (entries t)
     granting = rw (entries_entries_data t) (any_walk b 1 false g (entries_data t) (sym is-w ∙ e))
 
-pub checked_of_refused : (o : Option Refusal) (r : Refusal) → refusing o tt ≡ Err r → o ≡ Some r
+pub checked_of_refused : (o : Option Refusal) (r : Refusal) → checked_of o ≡ Err r → o ≡ Some r
 checked_of_refused None r e = let z : ◌≡◌ {A = ℕ} 0 1 = cc in absurd (omega arith)
 checked_of_refused (Some q) r e = cc
 
-pub checked_of_sound : (o : Option Refusal) → refusing o tt ≡ Ok tt → o ≡ None
+pub checked_of_sound : (o : Option Refusal) → checked_of o ≡ Ok tt → o ≡ None
 checked_of_sound None e = refl
 checked_of_sound (Some q) e = let z : ◌≡◌ {A = ℕ} 0 1 = cc in absurd (omega arith)
 
@@ -163,7 +163,7 @@ module _ (t : List ℕ) (s : Settings) (uid : ℕ) (groups : List ℕ) (protocol
   decide_over_lem e r is-r = rw (← is-o, e, is-r)
 
   module _ (e : o ≡ false) where
-    module _ (many : 16 < length groups) (c : Result Unit Refusal) (is_c : c ≡ refusing (portacl_fault t) tt) where
+    module _ (many : 16 < length groups) (c : Result ⊤ Refusal) (is_c : c ≡ checked_of (portacl_fault t)) where
       pub decide_unsound : (r : Refusal) → c ≡ Err r → Err r ≡ ruling
       unfolding decide_portacl
       decide_unsound r q = rw (← is-o, e, checked_of_refused (portacl_fault t) r (sym is_c ∙ q))

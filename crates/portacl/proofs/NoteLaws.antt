@@ -17,7 +17,7 @@ use Rattle.text.specs.Scan.{index_of}
 use Rattle.text.proofs.ScanLaws.{take_rest}
 use Rattle.section.specs.declared.Fault.TheVariants as F
 use Rattle.section.specs.declared.Refusal.{Refusal}
-use Rattle.section.specs.Refusal.{refusal, refusing}
+use Rattle.section.specs.Refusal.{refusal, checked_of}
 use Rattle.section.specs.Section as S
 use Rattle.portacl.specs.declared.Entry.{Entry}
 use Rattle.portacl.specs.declared.Protocol.{Protocol}
@@ -51,7 +51,7 @@ pub record Noting (t : List ℕ) (uid : ℕ) (m₀ u₀ m u : List ℕ) (n at : 
   pub over_tcp : notes uid Tcp (entries_data t) m₀ ≡ notes uid Tcp (entries_from at t) m
   pub over_udp : notes uid Udp (entries_data t) u₀ ≡ notes uid Udp (entries_from at t) u
 
-pub note_empty : (t : List ℕ) → length t ≡ 0 → Ok tt ≡ refusing (portacl_fault t) tt
+pub note_empty : (t : List ℕ) → length t ≡ 0 → Ok tt ≡ checked_of (portacl_fault t)
 unfolding fault_in entries_data
 note_empty [] e = rw (portacl_fault_fault_in [])
 note_empty (x ∷ t) e = absurd (omega arith)
@@ -102,7 +102,7 @@ module _ (uid : ℕ) (p : Protocol) (x : Entry) (m : List ℕ) (s : Bool) (is-s 
 
 module _ (t : List ℕ) (uid : ℕ) (m₀ u₀ m u : List ℕ) (n at : ℕ) (w : Noting t uid m₀ u₀ m u n at) where
   module _ (h : length t < at) where
-    pub noting_end : (Ok tt) ≡ refusing (portacl_fault t) tt
+    pub noting_end : (Ok tt) ≡ checked_of (portacl_fault t)
     unfolding fault_in entries_from
     noting_end = rw (portacl_fault_fault_in t, w.fault, lt-leb at (length t) h)
 
@@ -125,7 +125,7 @@ module _ (t : List ℕ) (uid : ℕ) (m₀ u₀ m u : List ℕ) (n at : ℕ) (w :
       none_read : entry_data (take (at + i - at) (drop at t)) ≡ None
       none_read = as_entry_none (entry_data (take (at + i - at) (drop at t))) (sym is-r ∙ e)
 
-      pub noting_bad : (f : Refusal) → f ≡ refusal F.BadEntry (S.portacl).order n → Err f ≡ refusing (portacl_fault t) tt
+      pub noting_bad : (f : Refusal) → f ≡ refusal F.BadEntry (S.portacl).order n → Err f ≡ checked_of (portacl_fault t)
       unfolding fault_in
       noting_bad f is_f = rw (portacl_fault_fault_in t, w.fault, more, none_read, is_f)
 

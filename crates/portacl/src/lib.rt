@@ -6,7 +6,7 @@
 #![tactic(auto)]
 
 ghost use Rattle.std.specs.Prelude.{false, [], ◌∷◌, ◌≡◌, eqb};
-ghost use Rattle.section.specs.Refusal.{refusing};
+ghost use Rattle.section.specs.Refusal.{checked_of};
 ghost use Rattle.text.specs.Basics.{when◌then◌else◌, is_some, any};
 ghost use Rattle.text.specs.Text.{equal};
 ghost use Rattle.portacl.specs.Portacl.{bind, protocol_word, read_entry, portacl_fault, decide_portacl};
@@ -220,7 +220,7 @@ fn note(ports: &mut [u8], entry: Entry, uid: u32, protocol: Protocol)
 // The refusal of the first entry that is not of its form. Up to it the ports that the entries of the user id grant are noted, those over tcp and
 // those over udp; groups are passed over, and so are ports beyond the lent bytes.
 pub fn note_ports(tcp: &mut [u8], udp: &mut [u8], text: &[u8], uid: u32) -> Result<(), Refusal>
-    ensures answer { result ≡ refusing (portacl_fault text.now) tt }
+    ensures answer { result ≡ checked_of (portacl_fault text.now) }
     ensures over_tcp { tcp.new ≡ notes uid Tcp (entries_data text.now) tcp.old }
     ensures over_udp { udp.new ≡ notes uid Udp (entries_data text.now) udp.old }
 {
@@ -269,7 +269,7 @@ fn by_settings(settings: Settings, uid: u32, port: u16, granted: bool) -> Decisi
 
 // The refusal of the first entry that is not of its form.
 pub fn check(text: &[u8]) -> Result<(), Refusal>
-    ensures { result ≡ refusing (portacl_fault text.now) tt }
+    ensures { result ≡ checked_of (portacl_fault text.now) }
 {
     let groups: [u32; 0] = [];
     match walk_entries(text, 0, &groups, Protocol::Tcp, 0) {

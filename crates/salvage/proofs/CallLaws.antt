@@ -1,6 +1,6 @@
 -- Laws of the call: its checks, its answers, and what the two outputs hold afterwards, shaped as the calls and tests of the code hand their facts over.
 -- Assumes nothing.
-use Rattle.std.specs.Prelude.{Err, None, Ok, Option, Result, Some}
+use Rattle.std.specs.Prelude.{Err, None, Ok, Option, Result, Some, ⊤}
 use Prim.Native.Nat.{ℕ, ◌+◌, ◌<◌, ◌≤◌}
 use mathlib.Core.Bool.{Bool, true, false, ◌||◌}
 use mathlib.Core.List.{List, [], ◌∷◌, ◌++◌}
@@ -18,7 +18,7 @@ use Rattle.text.proofs.PasteLaws.{put_first}
 use Rattle.address_format.proofs.WriteText.{Wrote, front_room, rest_room, rest_all}
 use Rattle.section.specs.declared.Fault.TheVariants as F
 use Rattle.section.specs.declared.Refusal.{Refusal}
-use Rattle.section.specs.Refusal.{Outcome, refusal, placeless, first_after, second_after, written_two_of, refusing}
+use Rattle.section.specs.Refusal.{Outcome, refusal, placeless, first_after, second_after, written_two_of, refusing, checked_of}
 use Rattle.section.specs.Section as S
 use Rattle.section.specs.Section.{bytes_at}
 use Rattle.tables.specs.Table.{Table, tables_of, tables_frame, first_table, table_name_fault, is_unsound, bad_table_fault}
@@ -44,12 +44,12 @@ use Rattle.salvage.proofs.BridgeLaws.{bad_told, made_texts_lem, made_list_lem}
 
 -- ## Section five
 
-pass_checked : (o : Option Refusal) → checked_by (pass_of o None) ≡ refusing o tt
+pass_checked : (o : Option Refusal) → checked_by (pass_of o None) ≡ checked_of o
 pass_checked None = refl
 pass_checked (Some g) = refl
 
-module _ (t : List ℕ) (c : Result Unit Refusal) (is_c : c ≡ refusing (tables_frame t) tt) where
-  pub five_frame : (g : Refusal) → c ≡ Err g → Err g ≡ refusing (five_fault t) tt
+module _ (t : List ℕ) (c : Result ⊤ Refusal) (is_c : c ≡ checked_of (tables_frame t)) where
+  pub five_frame : (g : Refusal) → c ≡ Err g → Err g ≡ checked_of (five_fault t)
   unfolding five_fault
   five_frame g e = rw (checked_refused (tables_frame t) g (sym is_c ∙ e))
 
@@ -57,7 +57,7 @@ module _ (t : List ℕ) (c : Result Unit Refusal) (is_c : c ≡ refusing (tables
     pub five_read : tables_in t ≡ tables_of t
     five_read = tables_read_lem t (checked_sound (tables_frame t) (sym is_c ∙ e))
 
-    pub five_rest : (p : Result (Option Answer) Refusal) → p ≡ pass_of (table_name_fault (tables_of t) or_else bad_table_fault t) None → (r : Result Unit Refusal) → r ≡ checked_by p → r ≡ refusing
+    pub five_rest : (p : Result (Option Answer) Refusal) → p ≡ pass_of (table_name_fault (tables_of t) or_else bad_table_fault t) None → (r : Result ⊤ Refusal) → r ≡ checked_by p → r ≡ checked_of
         (five_fault t)
     unfolding five_fault
     five_rest p is-p r is-r =
@@ -92,26 +92,26 @@ tables_limits t e =
 -- ## Limits
 
 module _ (s : Sizes) (x : Bool) (is_x : x ≡ ltb 16384 s.allow) where
-  pub over_allow : x ≡ true → (g : Refusal) → g ≡ refusal F.OverLimit 1 0 → Err g ≡ refusing (grown_by s) tt
+  pub over_allow : x ≡ true → (g : Refusal) → g ≡ refusal F.OverLimit 1 0 → Err g ≡ checked_of (grown_by s)
   unfolding grown_by
   over_allow e g is-g = rw (← is_x, e, is-g)
 
   module _ (e : x ≡ false) (y : Bool) (is_y : y ≡ ltb 16384 s.deny) where
-    pub over_deny : y ≡ true → (g : Refusal) → g ≡ refusal F.OverLimit 2 0 → Err g ≡ refusing (grown_by s) tt
+    pub over_deny : y ≡ true → (g : Refusal) → g ≡ refusal F.OverLimit 2 0 → Err g ≡ checked_of (grown_by s)
     unfolding grown_by
     over_deny f g is-g = rw (← is_x, e, ← is_y, f, is-g)
 
     module _ (f : y ≡ false) (z : Bool) (is-z : z ≡ ltb 8192 s.byuid) where
-      pub over_byuid : z ≡ true → (g : Refusal) → g ≡ refusal F.OverLimit 3 0 → Err g ≡ refusing (grown_by s) tt
+      pub over_byuid : z ≡ true → (g : Refusal) → g ≡ refusal F.OverLimit 3 0 → Err g ≡ checked_of (grown_by s)
       unfolding grown_by
       over_byuid h g is-g = rw (← is_x, e, ← is_y, f, ← is-z, h, is-g)
 
       module _ (h : z ≡ false) (w : Bool) (is-w : w ≡ ltb 4096 s.portacl) where
-        pub over_portacl : w ≡ true → (g : Refusal) → g ≡ refusal F.OverLimit 4 0 → Err g ≡ refusing (grown_by s) tt
+        pub over_portacl : w ≡ true → (g : Refusal) → g ≡ refusal F.OverLimit 4 0 → Err g ≡ checked_of (grown_by s)
         unfolding grown_by
         over_portacl k g is-g = rw (← is_x, e, ← is_y, f, ← is-z, h, ← is-w, k, is-g)
 
-        pub within_limits : w ≡ false → Ok tt ≡ refusing (grown_by s) tt
+        pub within_limits : w ≡ false → Ok tt ≡ checked_of (grown_by s)
         unfolding grown_by
         within_limits k = rw (← is_x, e, ← is_y, f, ← is-z, h, ← is-w, k)
 
@@ -236,7 +236,7 @@ counted_room o t at count n k e room l is-n = omega arith
 abbrev pub Did : List ℕ → List ℕ → Outcome (List ℕ × List ℕ) → Result (ℕ × ℕ) Refusal → List ℕ → List ℕ → Type 0
 Did d e o r d' e' = (r ≡ written_two_of o) × ((d' ≡ first_after d o) × (e' ≡ second_after e o))
 
-module _ (v : View) (a f b p t d e : List ℕ) (s : Sizes) (is-s : s ≡ sizes_of (made_texts v (texts a f b p t))) (c : Result Unit Refusal) (is_c : c ≡ refusing
+module _ (v : View) (a f b p t d e : List ℕ) (s : Sizes) (is-s : s ≡ sizes_of (made_texts v (texts a f b p t))) (c : Result ⊤ Refusal) (is_c : c ≡ checked_of
     (grown_by s)) where
   abbrev both : Outcome (List ℕ × List ℕ)
   both = handed_out (made_texts v (texts a f b p t)) (made_list v (texts a f b p t)) (length d) (length e)
@@ -286,7 +286,7 @@ module _ (v : View) (a f b p t d e : List ℕ) (s : Sizes) (is-s : s ≡ sizes_o
 
 -- ## Texts within their limits
 
-module _ (t : List ℕ) (c : Result Unit Refusal) (is_c : c ≡ refusing (five_fault t) tt) (q : c ≡ Ok tt) where
+module _ (t : List ℕ) (c : Result ⊤ Refusal) (is_c : c ≡ checked_of (five_fault t)) (q : c ≡ Ok tt) where
   sound : Sound t
   sound = five_sound t (checked_sound (five_fault t) (sym is_c ∙ q))
 
@@ -299,7 +299,7 @@ module _ (t : List ℕ) (c : Result Unit Refusal) (is_c : c ≡ refusing (five_f
   pub five_short : length t ≤ 12288
   five_short = (tables_limits t sound.tabled).1
 
-module _ (a f b p t d e : List ℕ) (c : Result Unit Refusal) (is_c : c ≡ refusing (five_fault t) tt) where
+module _ (a f b p t d e : List ℕ) (c : Result ⊤ Refusal) (is_c : c ≡ checked_of (five_fault t)) where
   abbrev outcome : Outcome (List ℕ × List ℕ)
   outcome = salvage_texts (texts a f b p t) (length d) (length e)
 

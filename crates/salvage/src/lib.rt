@@ -7,7 +7,7 @@
 ghost use Rattle.std.specs.Prelude.{◌≡◌, true, false, ◌≤◌, length};
 ghost use Rattle.elements.specs.Code.{view_of};
 ghost use Rattle.sheet.specs.Sheet.{texts, texts_at};
-ghost use Rattle.section.specs.Refusal.{first_after, second_after, written_two_of, refusing};
+ghost use Rattle.section.specs.Refusal.{first_after, second_after, written_two_of, checked_of};
 ghost use Rattle.salvage.specs.Salvage.{five_fault, grown, handed_out, salvage_texts, salvage as salvageOf};
 ghost use Rattle.salvage.specs.Code.{made_texts, made_list, sizes_of, grown_by, Small};
 
@@ -23,7 +23,7 @@ mod write;
 
 // The refusal of section five by itself: its frame, then 15 and 17.
 fn check_five(tables: &[u8]) -> Result<(), Refusal>
-    ensures { result ≡ refusing (five_fault tables.now) tt }
+    ensures { result ≡ checked_of (five_fault tables.now) }
 {
     check_frame(tables)?;
     checked_by(check_section_five(tables))
@@ -31,7 +31,7 @@ fn check_five(tables: &[u8]) -> Result<(), Refusal>
 
 // Whether each new text is within its section's limit.
 fn check_sizes(sizes: Sizes) -> Result<(), Refusal>
-    ensures { result ≡ refusing (grown_by sizes) tt }
+    ensures { result ≡ checked_of (grown_by sizes) }
 {
     if Allow::over(sizes.allow) {
         return Err(Allow::refusal(Fault::OverLimit, 0));

@@ -3,13 +3,14 @@
 --   lowest cs        == of the faults of cs whose tests hold, the one with the lowest number
 --   Outcome A        == a refusal, or an answer of type A
 --   refusing o a     == the refusal o, else the answer a
+--   checked_of o     == what a check answers: the refusal o, or that there is none
 --   o before c       == the refusal o, else the outcome c of what comes next
 --   fitting p o f    == what f answers to the request in o, where its fields are within their sizes; else 13
 --   within_room n t   == t as output into n bytes
 --   lent_after out o  == what the lent output out holds after the outcome o
 --   within_rooms n m p, first_after, second_after == the same of two outputs
 -- Assumes nothing: these are definitions.
-use Rattle.std.specs.Prelude.{ℕ, Bool, ◌||◌, List, [], ◌∷◌, ◌++◌, length, drop, ltb, Err, None, Ok, Option, Result, Some}
+use Rattle.std.specs.Prelude.{⊤, ℕ, Bool, ◌||◌, List, [], ◌∷◌, ◌++◌, length, drop, ltb, Err, None, Ok, Option, Result, Some}
 use Rattle.text.specs.Basics.{when◌then◌else◌, given}
 use Rattle.section.specs.declared.Fault.{Fault}
 use Rattle.section.specs.declared.Fault.TheVariants as F
@@ -76,6 +77,10 @@ Ok a >>= f = f a
 abbrev pub refusing : {A : Type 0} → Option Refusal → A → Outcome A
 refusing None a = Ok a
 refusing (Some r) a = Err r
+
+-- what a check answers: the refusal o, or that there is none
+abbrev pub checked_of : Option Refusal → Outcome ⊤
+checked_of o = refusing o tt
 
 infixr 15 ◌before◌
 abbrev pub ◌before◌ : {A : Type 0} → Option Refusal → Outcome A → Outcome A

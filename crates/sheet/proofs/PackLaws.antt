@@ -3,7 +3,7 @@
 --   length_sheet_of, sheet_fits == how long a sheet is, and can be
 --   pack_refused, pack_no_room, pack_count == the three answers
 -- Assumes nothing.
-use Rattle.std.specs.Prelude.{Err, None, Ok, Result}
+use Rattle.std.specs.Prelude.{Err, None, Ok, Result, ⊤}
 use Prim.Native.Nat.{ℕ, ◌+◌, ◌/◌, ◌%◌, ◌≤◌, ◌<◌}
 use native.Mathlib.Omega.{arith}
 use mathlib.Core.List.{List, [], ◌∷◌, ◌++◌}
@@ -16,7 +16,7 @@ use Rattle.text.proofs.Digits.{length_to_digits}
 use Rattle.text.proofs.PasteLaws.{put_put, put_first, put_more}
 use Rattle.section.specs.declared.Fault.TheVariants as F
 use Rattle.section.specs.declared.Refusal.{Refusal}
-use Rattle.section.specs.Refusal.{placeless, written_of, lent_after, refusing}
+use Rattle.section.specs.Refusal.{placeless, written_of, lent_after, checked_of}
 use Rattle.sheet.specs.Sheet.{texts, texts_fault, counted, sheet_of, pack}
 use Rattle.sheet.proofs.FrameLaws.{texts_fault_none, answered_pack}
 use Rattle.sheet.proofs.TextsLaws.{checked_sound, checked_refused}
@@ -73,7 +73,7 @@ module _ (out a d b p t : List ℕ) (o₁ o₂ o₃ o₄ o₅ : List ℕ) (n₁ 
 
 -- ## The answers
 
-module _ (a d b p t : List ℕ) (x : Result Unit Refusal) (is_x : x ≡ refusing (texts_fault (texts a d b p t)) tt) where
+module _ (a d b p t : List ℕ) (x : Result ⊤ Refusal) (is_x : x ≡ checked_of (texts_fault (texts a d b p t))) where
   pub pack_refused : (r : Refusal) → x ≡ Err r → (out : List ℕ)
       → (Err r ≡ written_of (pack (texts a d b p t) (length out))) × (out ≡ lent_after out (pack (texts a d b p t) (length out)))
   unfolding pack

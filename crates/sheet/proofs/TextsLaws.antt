@@ -1,7 +1,7 @@
 -- Laws of the checks of five texts, shaped as the calls and tests of the code hand their facts over.
 --   tables_limit, tables_named == what the checks of the tables tell of an accepted section five
 -- Assumes nothing.
-use Rattle.std.specs.Prelude.{Err, None, Ok, Option, Result, Some}
+use Rattle.std.specs.Prelude.{Err, None, Ok, Option, Result, Some, ⊤}
 use Prim.Native.Nat.{ℕ, ◌≤◌}
 use native.Mathlib.Omega.{arith}
 use mathlib.Core.Bool.{Bool, true, false, not, ◌||◌, true≢false}
@@ -13,7 +13,7 @@ use lib.Dec.{ltb}
 use Rattle.text.specs.Basics.{◌>>=◌, ◌or_else◌, given, is_some}
 use Rattle.section.specs.declared.Fault.TheVariants as F
 use Rattle.section.specs.declared.Refusal.{Refusal}
-use Rattle.section.specs.Refusal.{refusal, placeless, refusing}
+use Rattle.section.specs.Refusal.{refusal, placeless, checked_of}
 use Rattle.section.specs.Section as S
 use Rattle.section.specs.Section.{over_limit}
 use Rattle.tables.specs.declared.entry.Framing.{Framing}
@@ -33,39 +33,39 @@ use Rattle.sheet.specs.Code.{checked_by, limits_fault, contents_fault}
 -- ## Limits
 
 module _ (a d b p : List ℕ) (x : Bool) (is_x : x ≡ ltb (S.allow).limit (length a)) where
-  pub over_allow : x ≡ true → (g : Refusal) → g ≡ refusal F.OverLimit (S.allow).order 0 → Err g ≡ refusing (limits_fault a d b p) tt
+  pub over_allow : x ≡ true → (g : Refusal) → g ≡ refusal F.OverLimit (S.allow).order 0 → Err g ≡ checked_of (limits_fault a d b p)
   unfolding limits_fault
   over_allow e g is-g = rw (← is_x, e, is-g)
 
   module _ (e : x ≡ false) (y : Bool) (is_y : y ≡ ltb (S.deny).limit (length d)) where
-    pub over_deny : y ≡ true → (g : Refusal) → g ≡ refusal F.OverLimit (S.deny).order 0 → Err g ≡ refusing (limits_fault a d b p) tt
+    pub over_deny : y ≡ true → (g : Refusal) → g ≡ refusal F.OverLimit (S.deny).order 0 → Err g ≡ checked_of (limits_fault a d b p)
     unfolding limits_fault
     over_deny f g is-g = rw (← is_x, e, ← is_y, f, is-g)
 
     module _ (f : y ≡ false) (z : Bool) (is-z : z ≡ ltb (S.byuid).limit (length b)) where
-      pub over_byuid : z ≡ true → (g : Refusal) → g ≡ refusal F.OverLimit (S.byuid).order 0 → Err g ≡ refusing (limits_fault a d b p) tt
+      pub over_byuid : z ≡ true → (g : Refusal) → g ≡ refusal F.OverLimit (S.byuid).order 0 → Err g ≡ checked_of (limits_fault a d b p)
       unfolding limits_fault
       over_byuid h g is-g = rw (← is_x, e, ← is_y, f, ← is-z, h, is-g)
 
       module _ (h : z ≡ false) (w : Bool) (is-w : w ≡ ltb (S.portacl).limit (length p)) where
-        pub over_portacl : w ≡ true → (g : Refusal) → g ≡ refusal F.OverLimit (S.portacl).order 0 → Err g ≡ refusing (limits_fault a d b p) tt
+        pub over_portacl : w ≡ true → (g : Refusal) → g ≡ refusal F.OverLimit (S.portacl).order 0 → Err g ≡ checked_of (limits_fault a d b p)
         unfolding limits_fault
         over_portacl k g is-g = rw (← is_x, e, ← is_y, f, ← is-z, h, ← is-w, k, is-g)
 
-        pub within_limits : w ≡ false → Ok tt ≡ refusing (limits_fault a d b p) tt
+        pub within_limits : w ≡ false → Ok tt ≡ checked_of (limits_fault a d b p)
         unfolding limits_fault
         within_limits k = rw (← is_x, e, ← is_y, f, ← is-z, h, ← is-w, k)
 
 -- ## The frame of the tables
 
 module _ (t : List ℕ) (f : Framing) (is_f : f ≡ frame_of (read_tables t)) where
-  pub tables_framed : f ≡ Framing.Sound → Ok tt ≡ refusing (tables_frame t) tt
+  pub tables_framed : f ≡ Framing.Sound → Ok tt ≡ checked_of (tables_frame t)
   tables_framed e = rw (frame_sound t f is_f e)
 
-  pub tables_cut_short : f ≡ Framing.Cut → (g : Refusal) → g ≡ refusal F.CutShort (S.tables).order 0 → Err g ≡ refusing (tables_frame t) tt
+  pub tables_cut_short : f ≡ Framing.Cut → (g : Refusal) → g ≡ refusal F.CutShort (S.tables).order 0 → Err g ≡ checked_of (tables_frame t)
   tables_cut_short e g is-g = rw (frame_cut t f is_f e, is-g)
 
-  pub tables_trailing : f ≡ Framing.Trailing → (g : Refusal) → g ≡ placeless F.TrailingBytes → Err g ≡ refusing (tables_frame t) tt
+  pub tables_trailing : f ≡ Framing.Trailing → (g : Refusal) → g ≡ placeless F.TrailingBytes → Err g ≡ checked_of (tables_frame t)
   tables_trailing e g is-g = rw (frame_trailing t f is_f e, is-g)
 
 -- the tables that the code reads are those of a sound frame
@@ -74,41 +74,41 @@ tables_read_lem t e = tables_in_of t (frame_none t e)
 
 -- ## Contents
 
-pub checked_sound : (o : Option Refusal) → refusing o tt ≡ Ok tt → o ≡ None
+pub checked_sound : (o : Option Refusal) → checked_of o ≡ Ok tt → o ≡ None
 checked_sound None e = refl
 checked_sound (Some g) e = let z : ◌≡◌ {A = ℕ} 0 1 = cc in absurd (omega arith)
 
-pub checked_refused : (o : Option Refusal) (g : Refusal) → refusing o tt ≡ Err g → o ≡ Some g
+pub checked_refused : (o : Option Refusal) (g : Refusal) → checked_of o ≡ Err g → o ≡ Some g
 checked_refused None g e = let z : ◌≡◌ {A = ℕ} 0 1 = cc in absurd (omega arith)
 checked_refused (Some h) g e = cc
 
-module _ (o : Option Refusal) (c : Result Unit Refusal) (is_c : c ≡ refusing o tt) where
-  pub entries_refused : (g : Refusal) → c ≡ Err g → Err g ≡ refusing o tt
+module _ (o : Option Refusal) (c : Result ⊤ Refusal) (is_c : c ≡ checked_of o) where
+  pub entries_refused : (g : Refusal) → c ≡ Err g → Err g ≡ checked_of o
   entries_refused g e = by o (sym is_c ∙ e)
     where
-      by : (o : Option Refusal) → refusing o tt ≡ Err g → Err g ≡ refusing o tt
+      by : (o : Option Refusal) → checked_of o ≡ Err g → Err g ≡ checked_of o
       by None k = let z : ◌≡◌ {A = ℕ} 0 1 = cc in absurd (omega arith)
       by (Some h) k = cc
 
-  pub entries_sound : c ≡ Ok tt → Ok tt ≡ refusing o tt
+  pub entries_sound : c ≡ Ok tt → Ok tt ≡ checked_of o
   entries_sound e = by o (sym is_c ∙ e)
     where
-      by : (o : Option Refusal) → refusing o tt ≡ Ok tt → Ok tt ≡ refusing o tt
+      by : (o : Option Refusal) → checked_of o ≡ Ok tt → Ok tt ≡ checked_of o
       by None k = refl
       by (Some h) k = let z : ◌≡◌ {A = ℕ} 0 1 = cc in absurd (omega arith)
 
-module _ (o : Option Refusal) (c : Result Unit Refusal) (is_c : c ≡ refusing o tt) where
-  pub byuid_refused : (g : Refusal) → c ≡ Err g → Err g ≡ refusing o tt
+module _ (o : Option Refusal) (c : Result ⊤ Refusal) (is_c : c ≡ checked_of o) where
+  pub byuid_refused : (g : Refusal) → c ≡ Err g → Err g ≡ checked_of o
   byuid_refused g e = by o (sym is_c ∙ e)
     where
-      by : (o : Option Refusal) → refusing o tt ≡ Err g → Err g ≡ refusing o tt
+      by : (o : Option Refusal) → checked_of o ≡ Err g → Err g ≡ checked_of o
       by None k = let z : ◌≡◌ {A = ℕ} 0 1 = cc in absurd (omega arith)
       by (Some h) k = cc
 
-  pub byuid_sound : c ≡ Ok tt → Ok tt ≡ refusing o tt
+  pub byuid_sound : c ≡ Ok tt → Ok tt ≡ checked_of o
   byuid_sound e = by o (sym is_c ∙ e)
     where
-      by : (o : Option Refusal) → refusing o tt ≡ Ok tt → Ok tt ≡ refusing o tt
+      by : (o : Option Refusal) → checked_of o ≡ Ok tt → Ok tt ≡ checked_of o
       by None k = refl
       by (Some h) k = let z : ◌≡◌ {A = ℕ} 0 1 = cc in absurd (omega arith)
 
@@ -123,40 +123,40 @@ module _ (p : Result (Option Answer) Refusal) where
   by_matched a e = rw e
 
 -- a pass that looked for nothing, as a check
-pass_checked : (o : Option Refusal) (p : Result (Option Answer) Refusal) → p ≡ pass_of o None → (x : Result Unit Refusal) → x ≡ checked_by p → x ≡ refusing o tt
+pass_checked : (o : Option Refusal) (p : Result (Option Answer) Refusal) → p ≡ pass_of o None → (x : Result ⊤ Refusal) → x ≡ checked_by p → x ≡ checked_of o
 pass_checked o p is-p x is_x = is_x ∙ ap checked_by is-p ∙ by o
   where
-    by : (o : Option Refusal) → checked_by (pass_of o None) ≡ refusing o tt
+    by : (o : Option Refusal) → checked_by (pass_of o None) ≡ checked_of o
     by None = refl
     by (Some g) = refl
 
-module _ (a d : List ℕ) (q : Result (Option Answer) Refusal) (is-q : q ≡ pass_of (lines_fault a d) None) (x : Result Unit Refusal) (is_x : x ≡ checked_by q) where
-  lines_checked : x ≡ refusing (lines_fault a d) tt
+module _ (a d : List ℕ) (q : Result (Option Answer) Refusal) (is-q : q ≡ pass_of (lines_fault a d) None) (x : Result ⊤ Refusal) (is_x : x ≡ checked_by q) where
+  lines_checked : x ≡ checked_of (lines_fault a d)
   lines_checked = pass_checked (lines_fault a d) q is-q x is_x
 
   pub lines_sound : x ≡ (Ok tt) → lines_fault a d ≡ None
   lines_sound e = checked_sound (lines_fault a d) (sym lines_checked ∙ e)
 
   module _ (b p t : List ℕ) where
-    pub contents_lines : (g : Refusal) → x ≡ Err g → Err g ≡ refusing (contents_fault a d b p t) tt
+    pub contents_lines : (g : Refusal) → x ≡ Err g → Err g ≡ checked_of (contents_fault a d b p t)
     unfolding contents_fault
     contents_lines g e = rw (checked_refused (lines_fault a d) g (sym lines_checked ∙ e))
 
-    module _ (e : x ≡ Ok tt) (y : Result Unit Refusal) (is_y : y ≡ refusing (portacl_fault p) tt) where
-      pub contents_portacl : (g : Refusal) → y ≡ Err g → Err g ≡ refusing (contents_fault a d b p t) tt
+    module _ (e : x ≡ Ok tt) (y : Result ⊤ Refusal) (is_y : y ≡ checked_of (portacl_fault p)) where
+      pub contents_portacl : (g : Refusal) → y ≡ Err g → Err g ≡ checked_of (contents_fault a d b p t)
       unfolding contents_fault
       contents_portacl g f = rw (lines_sound e, checked_refused (portacl_fault p) g (sym is_y ∙ f))
 
-      module _ (f : y ≡ Ok tt) (r : Result (Option Answer) Refusal) (is-r : r ≡ pass_of (tables_fault a d t) None) (z : Result Unit Refusal) (is-z : z ≡ checked_by r) where
-        naming_checked : z ≡ refusing (tables_fault a d t) tt
+      module _ (f : y ≡ Ok tt) (r : Result (Option Answer) Refusal) (is-r : r ≡ pass_of (tables_fault a d t) None) (z : Result ⊤ Refusal) (is-z : z ≡ checked_by r) where
+        naming_checked : z ≡ checked_of (tables_fault a d t)
         naming_checked = pass_checked (tables_fault a d t) r is-r z is-z
 
-        pub contents_naming : (g : Refusal) → z ≡ Err g → Err g ≡ refusing (contents_fault a d b p t) tt
+        pub contents_naming : (g : Refusal) → z ≡ Err g → Err g ≡ checked_of (contents_fault a d b p t)
         unfolding contents_fault
         contents_naming g h =
             rw (lines_sound e, checked_sound (portacl_fault p) (sym is_y ∙ f), checked_refused (tables_fault a d t) g (sym naming_checked ∙ h))
 
-        pub contents_byuid : z ≡ Ok tt → (v : Result Unit Refusal) → v ≡ refusing (byuid_fault b) tt → v ≡ refusing (contents_fault a d b p t) tt
+        pub contents_byuid : z ≡ Ok tt → (v : Result ⊤ Refusal) → v ≡ checked_of (byuid_fault b) → v ≡ checked_of (contents_fault a d b p t)
         unfolding contents_fault
         contents_byuid h v is_v =
             rw (lines_sound e, checked_sound (portacl_fault p) (sym is_y ∙ f), checked_sound (tables_fault a d t) (sym naming_checked ∙ h)) is_v
@@ -169,18 +169,18 @@ ports_left None p (Some f) b h = absurd (true≢false (sym h))
 ports_left (Some f) p q b h = absurd (true≢false (sym h))
 
 module _ (b p : List ℕ) where
-  module _ (y : Result Unit Refusal) (is_y : y ≡ refusing (portacl_fault p) tt) where
-    pub ports_portacl : (g : Refusal) → y ≡ Err g → Err g ≡ refusing (portacl_fault p or_else byuid_fault b) tt
+  module _ (y : Result ⊤ Refusal) (is_y : y ≡ checked_of (portacl_fault p)) where
+    pub ports_portacl : (g : Refusal) → y ≡ Err g → Err g ≡ checked_of (portacl_fault p or_else byuid_fault b)
     ports_portacl g f = rw (checked_refused (portacl_fault p) g (sym is_y ∙ f))
 
-    pub ports_byuid : y ≡ Ok tt → (v : Result Unit Refusal) → v ≡ refusing (byuid_fault b) tt → v ≡ refusing (portacl_fault p or_else byuid_fault b) tt
+    pub ports_byuid : y ≡ Ok tt → (v : Result ⊤ Refusal) → v ≡ checked_of (byuid_fault b) → v ≡ checked_of (portacl_fault p or_else byuid_fault b)
     ports_byuid f v is_v = rw (checked_sound (portacl_fault p) (sym is_y ∙ f)) is_v
 
   pub contents_ports : (a d t : List ℕ) (x : Bool) → x ≡ not (is_some (rulesFault a d t)) → x ≡ true
-      → (v : Result Unit Refusal) → v ≡ refusing (portacl_fault p or_else byuid_fault b) tt → v ≡ refusing (contents_fault a d b p t) tt
+      → (v : Result ⊤ Refusal) → v ≡ checked_of (portacl_fault p or_else byuid_fault b) → v ≡ checked_of (contents_fault a d b p t)
   unfolding contents_fault rulesFault
   contents_ports a d t x is_x e v is_v =
-      is_v ∙ ap refusing (sym (ports_left (lines_fault a d) (portacl_fault p) (tables_fault a d t) (byuid_fault b) (sym is_x ∙ e))) tt
+      is_v ∙ ap checked_of (sym (ports_left (lines_fault a d) (portacl_fault p) (tables_fault a d t) (byuid_fault b) (sym is_x ∙ e)))
 
 -- ## All
 
@@ -200,21 +200,21 @@ texts_fault_parts a d b p t =
     or_else_parts (over_limit S.allow a) (over_limit S.deny d) (over_limit S.byuid b) (over_limit S.portacl p) (tables_frame t) (hosts_fault S.allow a)
     (hosts_fault S.deny d) (portacl_fault p) (tables_fault a d t) (byuid_fault b)
 
-module _ (a d b p t : List ℕ) (x : Result Unit Refusal) (is_x : x ≡ refusing (limits_fault a d b p) tt) where
-  pub texts_limits : (g : Refusal) → x ≡ Err g → Err g ≡ refusing (texts_fault (texts a d b p t)) tt
+module _ (a d b p t : List ℕ) (x : Result ⊤ Refusal) (is_x : x ≡ checked_of (limits_fault a d b p)) where
+  pub texts_limits : (g : Refusal) → x ≡ Err g → Err g ≡ checked_of (texts_fault (texts a d b p t))
   texts_limits g e = rw (texts_fault_parts a d b p t, checked_refused (limits_fault a d b p) g (sym is_x ∙ e))
 
-  module _ (e : x ≡ Ok tt) (y : Result Unit Refusal) (is_y : y ≡ refusing (tables_frame t) tt) where
-    pub texts_frame : (g : Refusal) → y ≡ Err g → Err g ≡ refusing (texts_fault (texts a d b p t)) tt
+  module _ (e : x ≡ Ok tt) (y : Result ⊤ Refusal) (is_y : y ≡ checked_of (tables_frame t)) where
+    pub texts_frame : (g : Refusal) → y ≡ Err g → Err g ≡ checked_of (texts_fault (texts a d b p t))
     texts_frame g f =
         rw (texts_fault_parts a d b p t, checked_sound (limits_fault a d b p) (sym is_x ∙ e), checked_refused (tables_frame t) g (sym is_y ∙ f))
 
-    pub texts_contents : y ≡ Ok tt → (z : Result Unit Refusal) → z ≡ refusing (contents_fault a d b p t) tt → z ≡ refusing (texts_fault (texts a d b p t)) tt
+    pub texts_contents : y ≡ Ok tt → (z : Result ⊤ Refusal) → z ≡ checked_of (contents_fault a d b p t) → z ≡ checked_of (texts_fault (texts a d b p t))
     texts_contents f z is-z =
         rw (texts_fault_parts a d b p t, checked_sound (limits_fault a d b p) (sym is_x ∙ e), checked_sound (tables_frame t) (sym is_y ∙ f)) is-z
 
 -- what check_contents asks for
-pub frame_checked : (t : List ℕ) (y : Result Unit Refusal) → y ≡ refusing (tables_frame t) tt → y ≡ Ok tt → tables_frame t ≡ None
+pub frame_checked : (t : List ℕ) (y : Result ⊤ Refusal) → y ≡ checked_of (tables_frame t) → y ≡ Ok tt → tables_frame t ≡ None
 frame_checked t y is_y f = checked_sound (tables_frame t) (sym is_y ∙ f)
 
 -- ## Accepted tables

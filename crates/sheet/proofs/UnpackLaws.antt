@@ -1,14 +1,14 @@
 -- Laws of unpacking, shaped as the calls and tests of the code hand their facts over.
 --   framed_refused, framed_parts, unpacked_refused, unpacked_parts == what an answer of frame and of unpack says
 -- Assumes nothing.
-use Rattle.std.specs.Prelude.{Err, None, Ok, Option, Result, Some}
+use Rattle.std.specs.Prelude.{Err, None, Ok, Option, Result, Some, ⊤}
 use Prim.Native.Nat.{ℕ}
 use native.Mathlib.Omega.{arith}
 use mathlib.Core.List.{List}
 use mathlib.Core.Path.{◌≡◌, refl, sym, ◌∙◌}
 use Rattle.section.specs.Section.{bytes_at}
 use Rattle.section.specs.declared.Refusal.{Refusal}
-use Rattle.section.specs.Refusal.{Outcome, ◌>>=◌, refusing}
+use Rattle.section.specs.Refusal.{Outcome, ◌>>=◌, refusing, checked_of}
 use Rattle.sheet.specs.declared.Parts.{Parts}
 use Rattle.sheet.specs.Sheet.{texts, texts_at, texts_fault, frame, unpack}
 
@@ -22,7 +22,7 @@ framed_parts (Ok q) p e = cc
 
 pub texts_in_sheet : (sheet : List ℕ) (p : Parts) (a d b q t : List ℕ) → a ≡ bytes_at sheet p.allow → d ≡ bytes_at sheet p.deny
     → b ≡ bytes_at sheet p.byuid → q ≡ bytes_at sheet p.portacl → t ≡ bytes_at sheet p.tables
-    → (x : Result Unit Refusal) → x ≡ refusing (texts_fault (texts a d b q t)) tt → x ≡ refusing (texts_fault (texts_at sheet p)) tt
+    → (x : Result ⊤ Refusal) → x ≡ checked_of (texts_fault (texts a d b q t)) → x ≡ checked_of (texts_fault (texts_at sheet p))
 texts_in_sheet sheet p a d b q t is-a is_d is_b is-q is-t x is_x = is_x ∙ rw (is-a, is_d, is_b, is-q, is-t)
 
 module _ (sheet : List ℕ) (x : Result Parts Refusal) (is_x : x ≡ (frame sheet)) where
@@ -34,12 +34,12 @@ module _ (sheet : List ℕ) (x : Result Parts Refusal) (is_x : x ≡ (frame shee
     pub is_framed : frame sheet ≡ Ok p
     is_framed = framed_parts (frame sheet) p (sym is_x ∙ e)
 
-    module _ (y : Result Unit Refusal) (is_y : y ≡ refusing (texts_fault (texts_at sheet p)) tt) where
+    module _ (y : Result ⊤ Refusal) (is_y : y ≡ checked_of (texts_fault (texts_at sheet p))) where
       pub unpack_refused : (g : Refusal) → y ≡ Err g → Err g ≡ unpack sheet
       unfolding unpack
       unpack_refused g f = rw is_framed (by (texts_fault (texts_at sheet p)) (sym is_y ∙ f))
         where
-          by : (o : Option Refusal) → refusing o tt ≡ Err g → Err g ≡ refusing o p
+          by : (o : Option Refusal) → checked_of o ≡ Err g → Err g ≡ refusing o p
           by None k = let z : ◌≡◌ {A = ℕ} 0 1 = cc in absurd (omega arith)
           by (Some h) k = cc
 
@@ -47,7 +47,7 @@ module _ (sheet : List ℕ) (x : Result Parts Refusal) (is_x : x ≡ (frame shee
       unfolding unpack
       unpack_parts f = rw is_framed (by (texts_fault (texts_at sheet p)) (sym is_y ∙ f))
         where
-          by : (o : Option Refusal) → refusing o tt ≡ Ok tt → Ok p ≡ refusing o p
+          by : (o : Option Refusal) → checked_of o ≡ Ok tt → Ok p ≡ refusing o p
           by None k = refl
           by (Some h) k = let z : ◌≡◌ {A = ℕ} 0 1 = cc in absurd (omega arith)
 

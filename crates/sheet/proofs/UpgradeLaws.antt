@@ -3,7 +3,7 @@
 --   put_upgraded, upgrade_refused, upgrade_no_room, upgrade_count == what is written, and the three answers
 --   upgraded == the frame and the texts of what is written: the same four, and no tables
 -- Assumes nothing.
-use Rattle.std.specs.Prelude.{Err, None, Ok, Result}
+use Rattle.std.specs.Prelude.{Err, None, Ok, Result, ⊤}
 use Prim.Native.Nat.{ℕ, ◌+◌, ◌-◌, ◌≤◌, ◌<◌}
 use native.Mathlib.Omega.{arith}
 use mathlib.Core.List.{List, [], ◌∷◌, ◌++◌}
@@ -17,7 +17,7 @@ use Rattle.text.proofs.PasteLaws.{put_first, put_more}
 use Rattle.section.specs.declared.Fault.TheVariants as F
 use Rattle.section.specs.declared.Part.{Part}
 use Rattle.section.specs.declared.Refusal.{Refusal}
-use Rattle.section.specs.Refusal.{Outcome, placeless, written_of, lent_after, refusing}
+use Rattle.section.specs.Refusal.{Outcome, placeless, written_of, lent_after, checked_of}
 use Rattle.section.specs.Section as S
 use Rattle.section.specs.Section.{bytes_at, Section, part}
 use Rattle.tables.specs.Table.{read_each, read_tables, tables_frame}
@@ -36,16 +36,16 @@ use Rattle.sheet.proofs.UnpackLaws.{framed_refused, framed_parts}
 -- ## The check
 
 module _ (sheet : List ℕ) (x : Result Parts Refusal) (is_x : x ≡ (frame sheet)) where
-  pub four_refused : (g : Refusal) → x ≡ Err g → Err g ≡ refusing (four_frame sheet) tt
+  pub four_refused : (g : Refusal) → x ≡ Err g → Err g ≡ checked_of (four_frame sheet)
   unfolding four_frame
   four_refused g e = rw (framed_refused (frame sheet) g (sym is_x ∙ e))
 
   module _ (p : Parts) (e : x ≡ Ok p) where
-    pub four_trailing : 0 < p.tables.len → (g : Refusal) → g ≡ placeless F.TrailingBytes → Err g ≡ refusing (four_frame sheet) tt
+    pub four_trailing : 0 < p.tables.len → (g : Refusal) → g ≡ placeless F.TrailingBytes → Err g ≡ checked_of (four_frame sheet)
     unfolding four_frame
     four_trailing h g is-g = rw (framed_parts (frame sheet) p (sym is_x ∙ e), lt-ltb 0 p.tables.len h, is-g)
 
-    pub four_sound : p.tables.len ≤ 0 → Ok tt ≡ refusing (four_frame sheet) tt
+    pub four_sound : p.tables.len ≤ 0 → Ok tt ≡ checked_of (four_frame sheet)
     unfolding four_frame
     four_sound h = rw (framed_parts (frame sheet) p (sym is_x ∙ e), le-ltb 0 p.tables.len h)
 
@@ -61,7 +61,7 @@ put_upgraded out sheet o₁ o₂ n₁ n₂ w₁ w₂ =
     let s₁ = put_first out o₁ sheet w₁.1 in
     (omega (arith, w₁.0, w₂.0, length-append sheet (0 ∷ 0 ∷ [])), put_more out o₁ o₂ sheet (0 ∷ 0 ∷ []) n₁ w₂.1 s₁ (omega (arith, w₁.0)))
 
-module _ (sheet : List ℕ) (x : Result Unit Refusal) (is_x : x ≡ refusing (four_frame sheet) tt) where
+module _ (sheet : List ℕ) (x : Result ⊤ Refusal) (is_x : x ≡ checked_of (four_frame sheet)) where
   pub upgrade_refused : (r : Refusal) → x ≡ Err r → (out : List ℕ)
       → (Err r ≡ written_of (upgrade sheet (length out))) × (out ≡ lent_after out (upgrade sheet (length out)))
   unfolding upgrade

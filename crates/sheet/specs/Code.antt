@@ -5,7 +5,7 @@
 --   section_of c      == the section of a cursor
 --   from_deny sheet a, from_byuid sheet a d, from_portacl sheet a d b == what is left of frame, once the parts before are read
 -- Assumes nothing: these are definitions.
-use Rattle.std.specs.Prelude.{ℕ, List, Err, None, Ok, Option, Result, Some}
+use Rattle.std.specs.Prelude.{ℕ, List, Err, None, Ok, Option, Result, Some, ⊤}
 use Rattle.text.specs.Basics.{◌or_else◌}
 use Rattle.section.specs.declared.Cursor.{Cursor}
 use Rattle.section.specs.declared.Part.{Part}
@@ -22,7 +22,7 @@ use Rattle.sheet.specs.Sheet.{section_at, part_end, rest_after}
 
 -- ## Texts
 
-abbrev pub checked_by : Result (Option Answer) Refusal → Result Unit Refusal
+abbrev pub checked_by : Result (Option Answer) Refusal → Result ⊤ Refusal
 checked_by (Err r) = Err r
 checked_by (Ok None) = Ok tt
 checked_by (Ok (Some a)) = Ok tt

@@ -1,7 +1,7 @@
 // The checks of the five texts of a sheet.
 //   check_texts(allow, deny, byuid, portacl, tables) == their first refusal, if there is one: limits, the frame of the tables, contents
 ghost use Rattle.std.specs.Prelude.{◌≡◌};
-ghost use Rattle.section.specs.Refusal.{refusing};
+ghost use Rattle.section.specs.Refusal.{checked_of};
 ghost use Rattle.text.specs.Basics.{◌or_else◌};
 ghost use Rattle.tables.specs.Table.{tables_frame};
 ghost use Rattle.byuid.specs.Byuid.{byuid_fault};
@@ -17,7 +17,7 @@ use tables::entry::Framing;
 
 // Whether each counted text is within its section's limit.
 fn check_limits(allow: &[u8], deny: &[u8], byuid: &[u8], portacl: &[u8]) -> Result<(), Refusal>
-    ensures { result ≡ refusing (limits_fault allow.now deny.now byuid.now portacl.now) tt }
+    ensures { result ≡ checked_of (limits_fault allow.now deny.now byuid.now portacl.now) }
 {
     if Allow::over(allow.len()) {
         return Err(Allow::refusal(Fault::OverLimit, 0));
@@ -36,7 +36,7 @@ fn check_limits(allow: &[u8], deny: &[u8], byuid: &[u8], portacl: &[u8]) -> Resu
 
 // The check of the counts of the tables: cut short is 1, bytes after the last table are 3.
 pub fn check_frame(tables: &[u8]) -> Result<(), Refusal>
-    ensures { result ≡ refusing (tables_frame tables.now) tt }
+    ensures { result ≡ checked_of (tables_frame tables.now) }
 {
     match entry::frame(tables) {
         Framing::Sound => Ok(()),
@@ -58,7 +58,7 @@ pub fn checked_by(pass: Result<Option<Answer>, Refusal>) -> Result<(), Refusal>
 
 // The check of the entries of a portacl text.
 fn check_portacl(text: &[u8]) -> Result<(), Refusal>
-    ensures { result ≡ refusing (portacl_fault text.now) tt }
+    ensures { result ≡ checked_of (portacl_fault text.now) }
 {
     portacl::check(text)?;
     Ok(())
@@ -66,7 +66,7 @@ fn check_portacl(text: &[u8]) -> Result<(), Refusal>
 
 // The check of the lines of a byuid text.
 fn check_byuid(text: &[u8]) -> Result<(), Refusal>
-    ensures { result ≡ refusing (byuid_fault text.now) tt }
+    ensures { result ≡ checked_of (byuid_fault text.now) }
 {
     byuid::check(text)?;
     Ok(())
@@ -74,7 +74,7 @@ fn check_byuid(text: &[u8]) -> Result<(), Refusal>
 
 // The check of the texts of the port decisions.
 fn check_ports(byuid: &[u8], portacl: &[u8]) -> Result<(), Refusal>
-    ensures { result ≡ refusing (portacl_fault portacl.now or_else byuid_fault byuid.now) tt }
+    ensures { result ≡ checked_of (portacl_fault portacl.now or_else byuid_fault byuid.now) }
 {
     check_portacl(portacl)?;
     check_byuid(byuid)
@@ -90,7 +90,7 @@ fn check_in_order(
 ) -> Result<(), Refusal>
     requires { tables_frame tables.now ≡ None }
     ensures { result
-        ≡ refusing (contents_fault allow.now deny.now byuid.now portacl.now tables.now) tt }
+        ≡ checked_of (contents_fault allow.now deny.now byuid.now portacl.now tables.now) }
 {
     checked_by(naming::check_lines(allow, deny))?;
     check_portacl(portacl)?;
@@ -108,7 +108,7 @@ fn check_contents(
 ) -> Result<(), Refusal>
     requires { tables_frame tables.now ≡ None }
     ensures { result
-        ≡ refusing (contents_fault allow.now deny.now byuid.now portacl.now tables.now) tt }
+        ≡ checked_of (contents_fault allow.now deny.now byuid.now portacl.now tables.now) }
 {
     if are_sound(allow, deny, tables) {
         return check_ports(byuid, portacl);
@@ -125,7 +125,7 @@ pub fn check_texts(
     tables: &[u8],
 ) -> Result<(), Refusal>
     ensures { result
-        ≡ refusing (texts_fault (texts allow.now deny.now byuid.now portacl.now tables.now)) tt }
+        ≡ checked_of (texts_fault (texts allow.now deny.now byuid.now portacl.now tables.now)) }
 {
     check_limits(allow, deny, byuid, portacl)?;
     check_frame(tables)?;

@@ -1,7 +1,7 @@
 // Unpacking a sheet.
 //   unpack(sheet) == the place and length of each text of an accepted sheet; every other one is refused
 ghost use Rattle.std.specs.Prelude.{◌≡◌};
-ghost use Rattle.section.specs.Refusal.{refusing};
+ghost use Rattle.section.specs.Refusal.{checked_of};
 ghost use Rattle.sheet.specs.Sheet.{texts_at, texts_fault, unpack as unpackOf};
 
 use crate::{Parts, frame, texts};
@@ -9,7 +9,7 @@ use section::{Refusal, part_of};
 
 // The first refusal of the texts that stand in a sheet, if there is one.
 fn check_parts(sheet: &[u8], parts: Parts) -> Result<(), Refusal>
-    ensures { result ≡ refusing (texts_fault (texts_at sheet.now parts)) tt }
+    ensures { result ≡ checked_of (texts_fault (texts_at sheet.now parts)) }
 {
     texts::check_texts(
         part_of(sheet, parts.allow),

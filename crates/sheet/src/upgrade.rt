@@ -2,7 +2,7 @@
 //   upgrade(out, sheet) == the sheet and the two zero bytes of an empty count of tables, written to the front of out
 ghost use Rattle.std.specs.Prelude.{[], ◌∷◌, ◌++◌, ◌≡◌, ◌+◌, ◌≤◌, length};
 ghost use Rattle.text.specs.Scan.{after};
-ghost use Rattle.section.specs.Refusal.{written_of, lent_after, refusing};
+ghost use Rattle.section.specs.Refusal.{written_of, lent_after, checked_of};
 ghost use Rattle.sheet.specs.Sheet.{four_frame};
 ghost use Rattle.sheet.specs.Sheet.{upgrade as upgradeOf};
 
@@ -11,7 +11,7 @@ use section::{Fault, Refusal};
 
 // The check of the frame of a sheet of four sections: no byte follows the fourth.
 fn check_four(sheet: &[u8]) -> Result<(), Refusal>
-    ensures { result ≡ refusing (four_frame sheet.now) tt }
+    ensures { result ≡ checked_of (four_frame sheet.now) }
 {
     let parts = frame::frame(sheet)?;
     let following = parts.tables;

@@ -2,7 +2,7 @@
 --   parts_doubtful, parts_answered == a verdict by the frame and one pass over the texts is the verdict by the sheet
 --   command_bytes_lem == the command's bytes in the sheet are those in the file that decided
 -- Assumes nothing.
-use Rattle.std.specs.Prelude.{Err, None, Ok, Option, Result, Some}
+use Rattle.std.specs.Prelude.{Err, None, Ok, Option, Result, Some, ⊤}
 use Prim.Native.Nat.{ℕ, ◌+◌, ◌≤◌, ◌<◌}
 use native.Mathlib.Omega.{arith}
 use mathlib.Core.Bool.{Bool, true, false, not}
@@ -15,7 +15,7 @@ use Rattle.text.specs.Basics.{when◌then◌else◌, ◌or_else◌, given}
 use Rattle.section.specs.declared.Fault.TheVariants as F
 use Rattle.section.specs.declared.Part.{Part}
 use Rattle.section.specs.declared.Refusal.{Refusal}
-use Rattle.section.specs.Refusal.{Outcome, ◌>>=◌, placeless, refusing, ◌before◌}
+use Rattle.section.specs.Refusal.{Outcome, ◌>>=◌, placeless, refusing, ◌before◌, checked_of}
 use Rattle.section.specs.Section as S
 use Rattle.section.specs.Section.{bytes_at, Section, part, over_limit}
 use Rattle.tables.specs.declared.entry.Framing.{Framing}
@@ -80,33 +80,33 @@ module _ (sheet : List ℕ) (x : Result Parts Refusal) (is_x : x ≡ (unpack she
 
 -- ## What is found by texts
 
-module _ (o : Option Refusal) (c : Result Unit Refusal) (is_c : c ≡ refusing o tt) where
+module _ (o : Option Refusal) (c : Result ⊤ Refusal) (is_c : c ≡ checked_of o) where
   bad_entry : (g : Refusal) → c ≡ Err g → o ≡ Some g
   bad_entry g e = by o (sym is_c ∙ e)
     where
-      by : (o : Option Refusal) → refusing o tt ≡ Err g → o ≡ Some g
+      by : (o : Option Refusal) → checked_of o ≡ Err g → o ≡ Some g
       by None k = let z : ◌≡◌ {A = ℕ} 0 1 = cc in absurd (omega arith)
       by (Some h) k = cc
 
   entries : c ≡ (Ok tt) → o ≡ None
   entries e = by o (sym is_c ∙ e)
     where
-      by : (o : Option Refusal) → refusing o tt ≡ Ok tt → o ≡ None
+      by : (o : Option Refusal) → checked_of o ≡ Ok tt → o ≡ None
       by None k = refl
       by (Some h) k = let z : ◌≡◌ {A = ℕ} 0 1 = cc in absurd (omega arith)
 
-module _ (o : Option Refusal) (c : Result Unit Refusal) (is_c : c ≡ refusing o tt) where
+module _ (o : Option Refusal) (c : Result ⊤ Refusal) (is_c : c ≡ checked_of o) where
   bad_line_lem : (g : Refusal) → c ≡ Err g → o ≡ Some g
   bad_line_lem g e = by o (sym is_c ∙ e)
     where
-      by : (o : Option Refusal) → refusing o tt ≡ Err g → o ≡ Some g
+      by : (o : Option Refusal) → checked_of o ≡ Err g → o ≡ Some g
       by None k = let z : ◌≡◌ {A = ℕ} 0 1 = cc in absurd (omega arith)
       by (Some h) k = cc
 
   grants : c ≡ (Ok tt) → o ≡ None
   grants e = by o (sym is_c ∙ e)
     where
-      by : (o : Option Refusal) → refusing o tt ≡ Ok tt → o ≡ None
+      by : (o : Option Refusal) → checked_of o ≡ Ok tt → o ≡ None
       by None k = refl
       by (Some h) k = let z : ◌≡◌ {A = ℕ} 0 1 = cc in absurd (omega arith)
 
@@ -118,12 +118,12 @@ finds_last : (x : Option Refusal) (g : Refusal) (b : Searched) → None ≡ find
 finds_last None g b = refl
 finds_last (Some f) g b = refl
 
-module _ (a d bu po t : List ℕ) (b : Searched) (c : Result Unit Refusal) (is_c : c ≡ refusing (portacl_fault po) tt) where
+module _ (a d bu po t : List ℕ) (b : Searched) (c : Result ⊤ Refusal) (is_c : c ≡ checked_of (portacl_fault po)) where
   pub find_entry : (g : Refusal) → c ≡ Err g → None ≡ finding_of (contents_fault a d bu po t) b
   unfolding contents_fault
   find_entry g e = rw (bad_entry (portacl_fault po) c is_c g e) (finds_doubt (lines_fault a d) (tables_fault a d t) (byuid_fault bu) g b)
 
-  module _ (e : c ≡ Ok tt) (k : Result Unit Refusal) (is-k : k ≡ refusing (byuid_fault bu) tt) where
+  module _ (e : c ≡ Ok tt) (k : Result ⊤ Refusal) (is-k : k ≡ checked_of (byuid_fault bu)) where
     pub find_retired : (g : Refusal) → k ≡ Err g → None ≡ finding_of (contents_fault a d bu po t) b
     unfolding contents_fault
     find_retired g h =

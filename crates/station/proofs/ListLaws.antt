@@ -1,7 +1,7 @@
 -- The portacl decision by a sheet: a list that gives a decision is sound, so the other texts alone are checked besides.
 --   others_refused, others_sound == what the check of the other texts says of the sheet
 -- Assumes nothing.
-use Rattle.std.specs.Prelude.{Err, None, Ok, Option, Result, Some}
+use Rattle.std.specs.Prelude.{Err, None, Ok, Option, Result, Some, ⊤}
 use Prim.Native.Nat.{ℕ}
 use native.Mathlib.Omega.{arith}
 use mathlib.Core.Bool.{Bool, true, false}
@@ -11,7 +11,7 @@ use lib.ListN.{length}
 use lib.Dec.{ltb}
 use Rattle.text.specs.Basics.{◌or_else◌}
 use Rattle.section.specs.declared.Refusal.{Refusal}
-use Rattle.section.specs.Refusal.{Outcome, ◌before◌, fitting, ◌>>=◌, refusing}
+use Rattle.section.specs.Refusal.{Outcome, ◌before◌, fitting, ◌>>=◌, checked_of}
 use Rattle.section.specs.Section as S
 use Rattle.section.specs.Section.{bytes_at, over_limit}
 use Rattle.portacl.specs.declared.Decision.{Decision}
@@ -51,7 +51,7 @@ same_fault a d b t f o e = rw (o, e, no_entries)
 
 module _ (sheet : List ℕ) (p : Parts) (framed : frame sheet ≡ Ok p) (s : Settings) (o : Option Bind) (t : List ℕ) (is-t : t ≡ bytes_at sheet p.portacl)
     (y : Result Decision Refusal) (is_y : y ≡ (decide_portacl t s o)) (d : Decision) (e : y ≡ Ok d)
-    (c : Result Unit Refusal) (is_c : c ≡ refusing (texts_fault (without_list (texts_at sheet p))) tt) where
+    (c : Result ⊤ Refusal) (is_c : c ≡ checked_of (texts_fault (without_list (texts_at sheet p)))) where
   decided : decide_portacl (bytes_at sheet p.portacl) s o ≡ Ok d
   decided = ap (λ (u : List ℕ). decide_portacl u s o) (sym is-t) ∙ ruled (decide_portacl t s o) d (sym is_y ∙ e)
 
@@ -76,5 +76,5 @@ list_unframed sheet x is_x s o g e = rw (framed_refused (frame sheet) g (sym is_
 
 pub others_checked : (sheet : List ℕ) (p : Parts) (a d b q t : List ℕ) → a ≡ bytes_at sheet p.allow → d ≡ bytes_at sheet p.deny
     → b ≡ bytes_at sheet p.byuid → q ≡ [] → t ≡ bytes_at sheet p.tables
-    → (x : Result Unit Refusal) → x ≡ refusing (texts_fault (texts a d b q t)) tt → x ≡ refusing (texts_fault (without_list (texts_at sheet p))) tt
+    → (x : Result ⊤ Refusal) → x ≡ checked_of (texts_fault (texts a d b q t)) → x ≡ checked_of (texts_fault (without_list (texts_at sheet p)))
 others_checked sheet p a d b q t is-a is_d is_b is-q is-t x is_x = is_x ∙ rw (is-a, is_d, is_b, is-q, is-t)

@@ -6,7 +6,7 @@
 #![tactic(auto)]
 
 ghost use Rattle.std.specs.Prelude.{◌≡◌, ◌+◌, ◌<◌};
-ghost use Rattle.section.specs.Refusal.{refusing};
+ghost use Rattle.section.specs.Refusal.{checked_of};
 ghost use Rattle.section.specs.Section.{bytes_at};
 ghost use Rattle.elements.specs.Places.{request_at};
 ghost use Rattle.tables.specs.Table.{tables_of, match_of};
@@ -222,7 +222,7 @@ fn decide_unpacked(
 
 // The check of the texts of a sheet without its portacl list: an empty list is as sound as one that gave a decision.
 fn check_others(sheet: &[u8], parts: Parts) -> Result<(), Refusal>
-    ensures { result ≡ refusing (texts_fault (without_list (texts_at sheet.now parts))) tt }
+    ensures { result ≡ checked_of (texts_fault (without_list (texts_at sheet.now parts))) }
 {
     let allow = part_of(sheet, parts.allow);
     let deny = part_of(sheet, parts.deny);

@@ -3,7 +3,7 @@
 --   propose_is, drop_is == the calls, by the checks as the code makes them
 --   sound_text      == what a text is that passed them
 -- Assumes nothing.
-use Rattle.std.specs.Prelude.{Err, None, Ok, Option, Result, Some}
+use Rattle.std.specs.Prelude.{Err, None, Ok, Option, Result, Some, ⊤}
 use Prim.Native.Nat.{ℕ, zero, suc, ◌+◌, ◌≤◌, ◌<◌}
 use native.Mathlib.Omega.{arith}
 use mathlib.Core.Bool.{Bool, true, false, not, ◌&&◌, ◌||◌, true≢false}
@@ -20,7 +20,7 @@ use Rattle.text.proofs.BasicLaws.{and_true}
 use Rattle.section.specs.declared.Fault.{Fault}
 use Rattle.section.specs.declared.Fault.TheVariants as F
 use Rattle.section.specs.declared.Refusal.{Refusal}
-use Rattle.section.specs.Refusal.{Outcome, ◌>>=◌, refusal, placeless, refusing, at_place, within_room, written_of, lent_after}
+use Rattle.section.specs.Refusal.{Outcome, ◌>>=◌, refusal, placeless, refusing, at_place, within_room, written_of, lent_after, checked_of}
 use Rattle.section.specs.Section as S
 use Rattle.section.specs.Section.{Section, over_limit}
 use Rattle.lines.specs.Line.{Line, lines}
@@ -55,60 +55,60 @@ module _ (p : Result (Option Answer) Refusal) where
 
 module _ (allow deny five : List ℕ) (f : Framing) (is_f : f ≡ frame_of (read_tables five)) where
   pub checked_cut : f ≡ Framing.Cut → (g : Refusal) → g ≡ refusal F.CutShort 5 0
-      → Err g ≡ refusing (tables_frame five or_else contents_fault allow deny five) tt
+      → Err g ≡ checked_of (tables_frame five or_else contents_fault allow deny five)
   checked_cut k g is-g = rw (frame_cut five f is_f k, is-g)
 
   pub checked_trailing : f ≡ Framing.Trailing → (g : Refusal) → g ≡ placeless F.TrailingBytes
-      → Err g ≡ refusing (tables_frame five or_else contents_fault allow deny five) tt
+      → Err g ≡ checked_of (tables_frame five or_else contents_fault allow deny five)
   checked_trailing k g is-g = rw (frame_trailing five f is_f k, is-g)
 
-  pub checked_contents : f ≡ Framing.Sound → (c : Result Unit Refusal) → c ≡ refusing (contents_fault allow deny five) tt
-      → c ≡ refusing (tables_frame five or_else contents_fault allow deny five) tt
+  pub checked_contents : f ≡ Framing.Sound → (c : Result ⊤ Refusal) → c ≡ checked_of (contents_fault allow deny five)
+      → c ≡ checked_of (tables_frame five or_else contents_fault allow deny five)
   checked_contents k c is_c = is_c ∙ sym (rw (frame_sound five f is_f k))
 
   pub checked_whole : f ≡ Framing.Sound → tables_in five ≡ tables_of five
   checked_whole k = tables_in_of five (sym is_f ∙ k)
 
 module _ (o : Option Refusal) where
-  pub whole_sound : (x : Bool) → x ≡ not (is_some o) → x ≡ true → Ok tt ≡ refusing o tt
+  pub whole_sound : (x : Bool) → x ≡ not (is_some o) → x ≡ true → Ok tt ≡ checked_of o
   whole_sound x is_x e = by o (sym is_x ∙ e)
     where
-      by : (o : Option Refusal) → not (is_some o) ≡ true → Ok tt ≡ refusing o tt
+      by : (o : Option Refusal) → not (is_some o) ≡ true → Ok tt ≡ checked_of o
       by None h = refl
       by (Some g) h = absurd (true≢false (sym h))
 
-  pub whole_passed : (p : Result (Option Answer) Refusal) → p ≡ pass_of o None → (c : Result Unit Refusal) → c ≡ checked_by p → c ≡ refusing o tt
+  pub whole_passed : (p : Result (Option Answer) Refusal) → p ≡ pass_of o None → (c : Result ⊤ Refusal) → c ≡ checked_by p → c ≡ checked_of o
   whole_passed p is-p c is_c = is_c ∙ (ap checked_by is-p ∙ by o)
     where
-      by : (o : Option Refusal) → checked_by (pass_of o None) ≡ refusing o tt
+      by : (o : Option Refusal) → checked_by (pass_of o None) ≡ checked_of o
       by None = refl
       by (Some g) = refl
 
 module _ (allow deny five : List ℕ) (o : Bool) (is-o : o ≡ ltb 16384 (length allow)) where
-  pub over_allow : o ≡ true → (g : Refusal) → g ≡ refusal F.OverLimit 1 0 → Err g ≡ refusing (texts_fault allow deny five) tt
+  pub over_allow : o ≡ true → (g : Refusal) → g ≡ refusal F.OverLimit 1 0 → Err g ≡ checked_of (texts_fault allow deny five)
   unfolding texts_fault
   over_allow e g is-g = rw (← is-o, e, is-g)
 
   module _ (e : o ≡ false) (x : Bool) (is_x : x ≡ ltb 16384 (length deny)) where
-    pub over_deny : x ≡ true → (g : Refusal) → g ≡ refusal F.OverLimit 2 0 → Err g ≡ refusing (texts_fault allow deny five) tt
+    pub over_deny : x ≡ true → (g : Refusal) → g ≡ refusal F.OverLimit 2 0 → Err g ≡ checked_of (texts_fault allow deny five)
     unfolding texts_fault
     over_deny k g is-g = rw (← is-o, e, ← is_x, k, is-g)
 
-    pub over_none : x ≡ false → (c : Result Unit Refusal) → c ≡ refusing (tables_frame five or_else contents_fault allow deny five) tt
-        → c ≡ refusing (texts_fault allow deny five) tt
+    pub over_none : x ≡ false → (c : Result ⊤ Refusal) → c ≡ checked_of (tables_frame five or_else contents_fault allow deny five)
+        → c ≡ checked_of (texts_fault allow deny five)
     unfolding texts_fault
     over_none k c is_c = is_c ∙ rw (← is-o, e, ← is_x, k)
 
 module _ (n : ℕ) (text five : List ℕ) where
-  pub section_allow : n ≡ 1 → (c : Result Unit Refusal) → c ≡ refusing (texts_fault text (take 0 text) five) tt → c ≡ refusing (section_fault n text five) tt
+  pub section_allow : n ≡ 1 → (c : Result ⊤ Refusal) → c ≡ checked_of (texts_fault text (take 0 text) five) → c ≡ checked_of (section_fault n text five)
   unfolding section_fault
   section_allow e c is_c = is_c ∙ rw (eq-eqb n 1 e)
 
-  pub section_deny : (n ≡ 1 → ⊥) → n ≡ 2 → (c : Result Unit Refusal) → c ≡ refusing (texts_fault (take 0 text) text five) tt → c ≡ refusing (section_fault n text five) tt
+  pub section_deny : (n ≡ 1 → ⊥) → n ≡ 2 → (c : Result ⊤ Refusal) → c ≡ checked_of (texts_fault (take 0 text) text five) → c ≡ checked_of (section_fault n text five)
   unfolding section_fault
   section_deny d e c is_c = is_c ∙ rw (ne_eqb n 1 d, eq-eqb n 2 e)
 
-  pub section_none : (n ≡ 1 → ⊥) → (n ≡ 2 → ⊥) → (g : Refusal) → g ≡ placeless F.BadRequest → Err g ≡ refusing (section_fault n text five) tt
+  pub section_none : (n ≡ 1 → ⊥) → (n ≡ 2 → ⊥) → (g : Refusal) → g ≡ placeless F.BadRequest → Err g ≡ checked_of (section_fault n text five)
   unfolding section_fault
   section_none d e g is-g = rw (ne_eqb n 1 d, ne_eqb n 2 e, is-g)
 
@@ -250,11 +250,11 @@ sound_text n t five e = by (eqb n 1) (eqb n 2) e
     by false true k = of S.deny refl (sym (file_deny t five) ∙ k)
     by false false k = let z : ◌≡◌ {A = ℕ} 0 1 = cc k in absurd (omega arith)
 
-checked_none : (o : Option Refusal) (c : Result Unit Refusal) → c ≡ refusing o tt → c ≡ Ok tt → o ≡ None
+checked_none : (o : Option Refusal) (c : Result ⊤ Refusal) → c ≡ checked_of o → c ≡ Ok tt → o ≡ None
 checked_none None c e f = refl
 checked_none (Some g) c e f = let z : ◌≡◌ {A = ℕ} 0 1 = cc (sym e ∙ f) in absurd (omega arith)
 
-checked_some : (o : Option Refusal) (c : Result Unit Refusal) (g : Refusal) → c ≡ refusing o tt → c ≡ Err g → o ≡ Some g
+checked_some : (o : Option Refusal) (c : Result ⊤ Refusal) (g : Refusal) → c ≡ checked_of o → c ≡ Err g → o ≡ Some g
 checked_some None c g e f = let z : ◌≡◌ {A = ℕ} 0 1 = cc (sym e ∙ f) in absurd (omega arith)
 checked_some (Some h) c g e f = let z : h ≡ g = cc (sym e ∙ f) in ap Some z
 
@@ -306,7 +306,7 @@ module _ (t marks out : List ℕ) (short : length t ≤ 16384) (m : Marked marks
       → o ≡ lent_after out (within_room (length out) (word_bytes (proposal t)))
   numbers_written o h = h ∙ ap (λ (b : List ℕ). lent_after out (within_room (length out) b)) marked_are
 
-module _ (n : ℕ) (t five : List ℕ) (c : Result Unit Refusal) (is_c : c ≡ refusing (section_fault n t five) tt) where
+module _ (n : ℕ) (t five : List ℕ) (c : Result ⊤ Refusal) (is_c : c ≡ checked_of (section_fault n t five)) where
   pub passed_short : c ≡ (Ok tt) → length t ≤ 16384
   passed_short e = (sound_text n t five (checked_none (section_fault n t five) c is_c e)).0
 

@@ -9,7 +9,7 @@
 --   Marked marks ns          == the lines ns, and they alone, are marked
 --   kept_bytes marks ls       == the bytes of the lines that are not named
 -- Assumes nothing: these are definitions.
-use Rattle.std.specs.Prelude.{ℕ, zero, suc, ◌+◌, ◌-◌, ◌*◌, ◌%◌, ◌≤◌, ◌<◌, ◌/◌, Bool, true, false, not, ◌&&◌, ◌||◌, ◌≡◌, eqb, ltb, leb, length, take, drop, get_or, set, Err, None, Ok, Option, Result, Some}
+use Rattle.std.specs.Prelude.{ℕ, zero, suc, ◌+◌, ◌-◌, ◌*◌, ◌%◌, ◌≤◌, ◌<◌, ◌/◌, Bool, true, false, not, ◌&&◌, ◌||◌, ◌≡◌, eqb, ltb, leb, length, take, drop, get_or, set, Err, None, Ok, Option, Result, Some, ⊤}
 use mathlib.Core.List.{List, [], ◌∷◌, ◌++◌, flat_map}
 use Rattle.text.specs.Basics.{when◌then◌else◌, ◌or_else◌, given, holds, is_some, any, all, first}
 use Rattle.text.specs.Text.{lower, split}
@@ -39,7 +39,7 @@ unfoldable pub section_fault : ℕ → List ℕ → List ℕ → Option Refusal
 section_fault n t five =
     when eqb n 1 then texts_fault t [] five else when eqb n 2 then texts_fault [] t five else Some (placeless F.BadRequest)
 
-abbrev pub checked_by : Result (Option Answer) Refusal → Result Unit Refusal
+abbrev pub checked_by : Result (Option Answer) Refusal → Result ⊤ Refusal
 checked_by (Err f) = Err f
 checked_by (Ok None) = Ok tt
 checked_by (Ok (Some a)) = Ok tt

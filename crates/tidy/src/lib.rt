@@ -10,7 +10,7 @@ pub mod repeats;
 pub mod same;
 
 ghost use Rattle.std.specs.Prelude.{◌≡◌, ◌≤◌, length};
-ghost use Rattle.section.specs.Refusal.{written_of, lent_after, within_room, refusing};
+ghost use Rattle.section.specs.Refusal.{written_of, lent_after, within_room, checked_of};
 ghost use Rattle.text.specs.Basics.{◌or_else◌};
 ghost use Rattle.tables.specs.Table.{tables_frame, tables_of};
 ghost use Rattle.tables.specs.Code.{tables_in};
@@ -42,7 +42,7 @@ fn check_by(pass: Result<Option<Answer>, Refusal>) -> Result<(), Refusal>
 // The checks of the contents of two texts and of a section five whose frame is sound; what is sound is read once.
 fn check_whole(allow: &[u8], deny: &[u8], tables: &[u8]) -> Result<(), Refusal>
     requires { tables_in tables.now ≡ tables_of tables.now }
-    ensures { result ≡ refusing (contents_fault allow.now deny.now tables.now) tt }
+    ensures { result ≡ checked_of (contents_fault allow.now deny.now tables.now) }
 {
     if are_sound(allow, deny, tables) {
         return Ok(());
@@ -53,7 +53,7 @@ fn check_whole(allow: &[u8], deny: &[u8], tables: &[u8]) -> Result<(), Refusal>
 // The checks of two texts within their limits and a section five: its frame, then the contents.
 fn check_framed(allow: &[u8], deny: &[u8], tables: &[u8]) -> Result<(), Refusal>
     ensures { result
-        ≡ refusing (tables_frame tables.now or_else contents_fault allow.now deny.now tables.now) tt }
+        ≡ checked_of (tables_frame tables.now or_else contents_fault allow.now deny.now tables.now) }
 {
     match tables::entry::frame(tables) {
         Framing::Cut => Err(section::Tables::refusal(Fault::CutShort, 0)),
@@ -64,7 +64,7 @@ fn check_framed(allow: &[u8], deny: &[u8], tables: &[u8]) -> Result<(), Refusal>
 
 // The checks of two texts and a section five.
 fn check_texts(allow: &[u8], deny: &[u8], tables: &[u8]) -> Result<(), Refusal>
-    ensures { result ≡ refusing (texts_fault allow.now deny.now tables.now) tt }
+    ensures { result ≡ checked_of (texts_fault allow.now deny.now tables.now) }
 {
     if section::Allow::over(allow.len()) {
         return Err(section::Allow::refusal(Fault::OverLimit, 0));
@@ -77,7 +77,7 @@ fn check_texts(allow: &[u8], deny: &[u8], tables: &[u8]) -> Result<(), Refusal>
 
 // The checks of the text of a section, and of a section five.
 fn check_file(text: &[u8], tables: &[u8], section: u32) -> Result<(), Refusal>
-    ensures { result ≡ refusing (section_fault section text.now tables.now) tt }
+    ensures { result ≡ checked_of (section_fault section text.now tables.now) }
 {
     if section == 1 {
         return check_texts(text, &text[..0], tables);
