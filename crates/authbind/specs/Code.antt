@@ -23,6 +23,7 @@ use Rattle.authbind.specs.declared.Turn.TheVariants as T
 use Rattle.authbind.specs.declared.Next.{Next}
 use Rattle.authbind.specs.declared.Next.TheVariants as N
 use Rattle.authbind.specs.Authbind.{unabbreviated, Step, test, read, granted, denied, with_room}
+use Rattle.section.specs.declared.Refusal.{Refusal}
 
 abbrev pub is_access : ℕ → Bool
 is_access b = leb b 2
