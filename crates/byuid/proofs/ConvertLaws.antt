@@ -163,7 +163,7 @@ pub split_convert_text : (t : List ℕ) → split "\n" (convert_text t) ≡ map 
 unfolding convert_text
 split_convert_text t =
     let some : 0 < length (map convert_line (split "\n" t)) = omega (arith, length-map (split "\n" t) convert_line, split_some "\n" t) in
-    split_intercalate "\n" (map convert_line (split "\n" t)) Some (all_converted (split "\n" t) (split_all_free "\n" t))
+    split_intercalate "\n" (map convert_line (split "\n" t)) some (all_converted (split "\n" t) (split_all_free "\n" t))
 
 none_retired : (n : ℕ) (ls : List (List ℕ)) → retired_fault n (map convert_line ls) ≡ None
 unfolding retired_fault

@@ -150,7 +150,7 @@ module _ (t : List ℕ) (a : Addr) (p : ℕ) (w : Result Bool ℕ) (is-w : w ≡
     fault_none : byuid_fault t ≡ None
     fault_none = byuid_fault_walk ∙ rw e
 
-    pub check_sound : (Ok tt) ≡ checked_of (byuid_fault t)
+    pub check_sound : Ok tt ≡ checked_of (byuid_fault t)
     check_sound = rw fault_none
 
     granting : g ≡ any (line_grants a p) (split "\n" t)
