@@ -1,17 +1,16 @@
 -- Laws of looking for an id, and of reading one entry.
 -- Assumes nothing.
 use Rattle.std.specs.Prelude.{None, Option, Some}
-use Prim.Native.Nat.{ℕ, ◌+◌, ◌-◌, ◌<◌, ◌≤◌}
+use Prim.Native.Nat.{ℕ, ◌+◌, ◌-◌, ◌≤◌}
 use Prim.Native.String.{String}
 use mathlib.Core.Bool.{Bool, true, false}
-use mathlib.Core.List.{List}
+use mathlib.Core.List.{List, [], ◌∷◌}
 use mathlib.Core.Path.{◌≡◌, refl, sym, ◌∙◌}
-use native.Mathlib.Numerals.{add-one}
 use native.Mathlib.Omega.{arith}
-use borrow.Author.Tests.{eq-eqb, ne_eqb}
+use borrow.Author.Tests.{eq-eqb, ne_eqb, eqb-true, eqb-false}
 use lib.Dec.{eqb}
-use lib.ListN.{length, take, drop, get_or, drop_of_length-le}
-use lib.Seq.{drop-cons}
+use lib.ListN.{length, take, drop}
+use Rattle.std.specs.List.{list_any}
 use Rattle.text.specs.Basics.{◌>>=◌, any}
 use Rattle.text.specs.Text.{bytes, equal, split_once}
 use Rattle.text.specs.Number.{read_decimal}
@@ -20,20 +19,23 @@ use Rattle.text.proofs.ScanLaws.{take_rest, split_once_mark, split_once_no_mark}
 use Rattle.portacl.specs.declared.Entry.{Entry}
 use Rattle.portacl.specs.Portacl.{read_word}
 
--- ## Among the ids, looked at one by one
+-- ## Among the ids
 
-module _ (x : ℕ) (l : List ℕ) (i : ℕ) (so_far : any (eqb x) l ≡ any (eqb x) (drop i l)) where
-  pub any_found : i < length l → x ≡ get_or l i 0 → true ≡ any (eqb x) l
-  unfolding any
-  any_found h e = sym (so_far ∙ rw (drop-cons l i 0, eq-eqb x (get_or l i 0) e))
+eqb_swap : (a b : ℕ) → eqb a b ≡ eqb b a
+eqb_swap a b = by (eqb b a) refl
+  where
+    by : (t : Bool) → eqb b a ≡ t → eqb a b ≡ t
+    by true e = eq-eqb a b (sym (eqb-true b a e))
+    by false e = ne_eqb a b (λ z. eqb-false b a e (sym z))
 
-  pub any_more : i < length l → (x ≡ get_or l i 0 → ⊥) → any (eqb x) l ≡ any (eqb x) (drop (i + 1) l)
-  unfolding any
-  any_more h n = so_far ∙ rw (add-one, drop-cons l i 0, ne_eqb x (get_or l i 0) n)
-
-  pub any_missing : length l ≤ i → false ≡ any (eqb x) l
-  unfolding any
-  any_missing h = sym (so_far ∙ rw (drop_of_length-le l h))
+-- whether x is one of l, as std's `contains` answers it
+pub any_contains : (x : ℕ) (l : List ℕ) (r : Bool) → r ≡ list_any (λ y. eqb y x) l → r ≡ any (eqb x) l
+unfolding any
+any_contains x l r e = e ∙ by l
+  where
+    by : (l : List ℕ) → list_any (λ y. eqb y x) l ≡ any (eqb x) l
+    by [] = refl
+    by (y ∷ l) = rw (eqb_swap y x, by l)
 
 -- ## Numbers and words
 

@@ -141,14 +141,7 @@ fn same_protocol(a: Protocol, b: Protocol) -> bool
 fn is_among(id: u32, ids: &[u32]) -> bool
     ensures { result ≡ any (eqb id) ids.now }
 {
-    let mut i = 0;
-    while i < ids.len() {
-        if id == ids[i] {
-            return true;
-        }
-        i += 1;
-    }
-    false
+    ids.contains(&id)
 }
 
 // Whether the id is the uid, or for a group one of the groups.
