@@ -15,7 +15,7 @@ use Rattle.text.specs.Basics.{when◌then◌else◌, ◌or_else◌, given}
 use Rattle.section.specs.declared.Fault.TheVariants as F
 use Rattle.section.specs.declared.Part.{Part}
 use Rattle.section.specs.declared.Refusal.{Refusal}
-use Rattle.section.specs.Refusal.{Outcome, ◌>>=◌, placeless, refusing, ◌before◌, checked_of}
+use Rattle.section.specs.Refusal.{◌>>=◌, placeless, refusing, ◌before◌, checked_of}
 use Rattle.section.specs.Section as S
 use Rattle.section.specs.Section.{bytes_at, Section, part, over_limit}
 use Rattle.tables.specs.declared.entry.Framing.{Framing}
@@ -42,8 +42,10 @@ use Rattle.rules.specs.Code.{lines_fault, searched, finding_of}
 use Rattle.rules.specs.Code.{contents_fault as textsContents}
 use Rattle.rules.proofs.NamingLaws.{or_else_none}
 use Rattle.rules.proofs.PlaceLaws.{file_length, search_within}
+use Rattle.byuid.specs.declared.Decision.{Decision as ByuidDecision}
 use Rattle.byuid.specs.declared.Mark.TheVariants.{Plain}
 use Rattle.byuid.specs.Byuid.{Bind as ByuidBind, from_file, byuid_fault, decide_byuid}
+use Rattle.portacl.specs.declared.Decision.{Decision as PortaclDecision}
 use Rattle.portacl.specs.declared.Settings.{Settings}
 use Rattle.portacl.specs.Portacl.{Bind as PortaclBind, portacl_fault, decide_portacl}
 use Rattle.sheet.specs.declared.Parts.{Parts}
@@ -52,63 +54,32 @@ use Rattle.station.specs.Station.{file_place, in_sheet, decide_sheet, looked_she
 use Rattle.sheet.specs.Code.{limits_fault, contents_fault}
 use Rattle.station.specs.Code.{framed_fault, refused_by}
 use Rattle.sheet.proofs.FrameLaws.{SectionAt, frame_answered, refusing_answered, take_drop_take}
-use Rattle.sheet.proofs.TextsLaws.{texts_fault_parts}
-use Rattle.sheet.proofs.UnpackLaws.{framed_refused, unpacked_refused, unpacked_parts}
+use Rattle.sheet.proofs.TextsLaws.{checked_sound, checked_refused, texts_fault_parts}
 
 -- ## The port decisions
 
-module _ (sheet : List ℕ) (x : Result Parts Refusal) (is_x : x ≡ (unpack sheet)) where
+module _ (sheet : List ℕ) (x : Result Parts Refusal) (is_x : x ≡ unpack sheet) where
   module _ (o : Option ByuidBind) where
     pub byuid_refused : (g : Refusal) → x ≡ Err g → Err g ≡ decide_byuid_sheet sheet o
     unfolding decide_byuid_sheet
-    byuid_refused g e = rw (unpacked_refused (unpack sheet) g (sym is_x ∙ e))
+    byuid_refused g e = rw (sym is_x ∙ e)
 
     pub byuid_decided : (p : Parts) → x ≡ Ok p → (t : List ℕ) → t ≡ bytes_at sheet p.byuid
-        → (y : Result Decision Refusal) → y ≡ decide_byuid t (from_file Plain o) → y ≡ decide_byuid_sheet sheet o
+        → (y : Result ByuidDecision Refusal) → y ≡ decide_byuid t (from_file Plain o) → y ≡ decide_byuid_sheet sheet o
     unfolding decide_byuid_sheet
-    byuid_decided p e t is-t y is_y = is_y ∙ rw (unpacked_parts (unpack sheet) p (sym is_x ∙ e), is-t)
+    byuid_decided p e t is-t y is_y = is_y ∙ rw (sym is_x ∙ e, is-t)
 
   module _ (s : Settings) (o : Option PortaclBind) where
     pub portacl_refused : (g : Refusal) → x ≡ Err g → Err g ≡ decide_portacl_sheet sheet s o
     unfolding decide_portacl_sheet
-    portacl_refused g e = rw (unpacked_refused (unpack sheet) g (sym is_x ∙ e))
+    portacl_refused g e = rw (sym is_x ∙ e)
 
     pub portacl_decided : (p : Parts) → x ≡ Ok p → (t : List ℕ) → t ≡ bytes_at sheet p.portacl
-        → (y : Result Decision Refusal) → y ≡ decide_portacl t s o → y ≡ decide_portacl_sheet sheet s o
+        → (y : Result PortaclDecision Refusal) → y ≡ decide_portacl t s o → y ≡ decide_portacl_sheet sheet s o
     unfolding decide_portacl_sheet
-    portacl_decided p e t is-t y is_y = is_y ∙ rw (unpacked_parts (unpack sheet) p (sym is_x ∙ e), is-t)
+    portacl_decided p e t is-t y is_y = is_y ∙ rw (sym is_x ∙ e, is-t)
 
 -- ## What is found by texts
-
-module _ (o : Option Refusal) (c : Result ⊤ Refusal) (is_c : c ≡ checked_of o) where
-  bad_entry : (g : Refusal) → c ≡ Err g → o ≡ Some g
-  bad_entry g e = by o (sym is_c ∙ e)
-    where
-      by : (o : Option Refusal) → checked_of o ≡ Err g → o ≡ Some g
-      by None k = let z : ◌≡◌ {A = ℕ} 0 1 = cc in absurd (omega arith)
-      by (Some h) k = cc
-
-  entries : c ≡ (Ok tt) → o ≡ None
-  entries e = by o (sym is_c ∙ e)
-    where
-      by : (o : Option Refusal) → checked_of o ≡ Ok tt → o ≡ None
-      by None k = refl
-      by (Some h) k = let z : ◌≡◌ {A = ℕ} 0 1 = cc in absurd (omega arith)
-
-module _ (o : Option Refusal) (c : Result ⊤ Refusal) (is_c : c ≡ checked_of o) where
-  bad_line_lem : (g : Refusal) → c ≡ Err g → o ≡ Some g
-  bad_line_lem g e = by o (sym is_c ∙ e)
-    where
-      by : (o : Option Refusal) → checked_of o ≡ Err g → o ≡ Some g
-      by None k = let z : ◌≡◌ {A = ℕ} 0 1 = cc in absurd (omega arith)
-      by (Some h) k = cc
-
-  grants : c ≡ (Ok tt) → o ≡ None
-  grants e = by o (sym is_c ∙ e)
-    where
-      by : (o : Option Refusal) → checked_of o ≡ Ok tt → o ≡ None
-      by None k = refl
-      by (Some h) k = let z : ◌≡◌ {A = ℕ} 0 1 = cc in absurd (omega arith)
 
 finds_doubt : (x y z : Option Refusal) (g : Refusal) (b : Searched) → None ≡ finding_of (x or_else Some g or_else y or_else z) b
 finds_doubt None y z g b = refl
@@ -121,17 +92,17 @@ finds_last (Some f) g b = refl
 module _ (a d bu po t : List ℕ) (b : Searched) (c : Result ⊤ Refusal) (is_c : c ≡ checked_of (portacl_fault po)) where
   pub find_entry : (g : Refusal) → c ≡ Err g → None ≡ finding_of (contents_fault a d bu po t) b
   unfolding contents_fault
-  find_entry g e = rw (bad_entry (portacl_fault po) c is_c g e) (finds_doubt (lines_fault a d) (tables_fault a d t) (byuid_fault bu) g b)
+  find_entry g e = rw (checked_refused (portacl_fault po) g (sym is_c ∙ e)) (finds_doubt (lines_fault a d) (tables_fault a d t) (byuid_fault bu) g b)
 
   module _ (e : c ≡ Ok tt) (k : Result ⊤ Refusal) (is-k : k ≡ checked_of (byuid_fault bu)) where
     pub find_retired : (g : Refusal) → k ≡ Err g → None ≡ finding_of (contents_fault a d bu po t) b
     unfolding contents_fault
     find_retired g h =
-        rw (bad_line_lem (byuid_fault bu) k is-k g h) (finds_last (lines_fault a d or_else portacl_fault po or_else tables_fault a d t) g b)
+        rw (checked_refused (byuid_fault bu) g (sym is-k ∙ h)) (finds_last (lines_fault a d or_else portacl_fault po or_else tables_fault a d t) g b)
 
-    pub find_entries : k ≡ (Ok tt) → (f : Option Searched) → f ≡ finding_of (textsContents a d t) b → f ≡ finding_of (contents_fault a d bu po t) b
+    pub find_entries : k ≡ Ok tt → (f : Option Searched) → f ≡ finding_of (textsContents a d t) b → f ≡ finding_of (contents_fault a d bu po t) b
     unfolding contents_fault textsContents
-    find_entries h f is_f = is_f ∙ sym (rw (entries (portacl_fault po) c is_c e, grants (byuid_fault bu) k is-k h)
+    find_entries h f is_f = is_f ∙ sym (rw (checked_sound (portacl_fault po) (sym is_c ∙ e), checked_sound (byuid_fault bu) (sym is-k ∙ h))
         (ap (λ (o : Option Refusal). finding_of (o or_else tables_fault a d t or_else None) b) (or_else_none (lines_fault a d))
         ∙ ap (λ (o : Option Refusal). finding_of o b) (or_else_none (lines_fault a d or_else tables_fault a d t))))
 
@@ -164,13 +135,13 @@ pub placed_in_sheet : (p : Parts) (a : Answer) (n : ℕ) → n ≡ file_place p 
     → answer a.verdict a.file a.line (part (n + a.command.place) a.command.len) ≡ in_sheet p a
 placed_in_sheet p a n is-n = rw is-n
 
-module _ (sheet : List ℕ) (x : Result Parts Refusal) (is_x : x ≡ (unpack sheet)) where
+module _ (sheet : List ℕ) (x : Result Parts Refusal) (is_x : x ≡ unpack sheet) where
   pub refuse_refused : (g : Refusal) → x ≡ Err g → (y : Reported) → y ≡ refused_report g → y ≡ refused_by (unpack sheet)
-  refuse_refused g e y is_y = is_y ∙ rw (unpacked_refused (unpack sheet) g (sym is_x ∙ e))
+  refuse_refused g e y is_y = is_y ∙ rw (sym is_x ∙ e)
 
   pub refuse_parts : (p : Parts) → x ≡ Ok p → (g : Refusal) → g ≡ placeless F.BadRequest
       → (y : Reported) → y ≡ refused_report g → y ≡ refused_by (unpack sheet)
-  refuse_parts p e g is-g y is_y = is_y ∙ rw (unpacked_parts (unpack sheet) p (sym is_x ∙ e), is-g)
+  refuse_parts p e g is-g y is_y = is_y ∙ rw (sym is_x ∙ e, is-g)
 
 -- ## The verdict
 
@@ -302,4 +273,4 @@ command_bytes_lem sheet p framed r b ts e =
 pub decide_unframed : (sheet : List ℕ) (x : Result Parts Refusal) → x ≡ frame sheet → (r : Request) (g : Refusal) → x ≡ Err g
     → (y : Reported) → y ≡ refused_report g → y ≡ reported (decide_sheet sheet (Some r)) (looked_sheet sheet (Some r))
 unfolding decide_sheet unpack
-decide_unframed sheet x is_x r g e y is_y = is_y ∙ rw (framed_refused (frame sheet) g (sym is_x ∙ e))
+decide_unframed sheet x is_x r g e y is_y = is_y ∙ rw (sym is_x ∙ e)

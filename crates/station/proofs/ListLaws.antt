@@ -11,7 +11,7 @@ use lib.ListN.{length}
 use lib.Dec.{ltb}
 use Rattle.text.specs.Basics.{◌or_else◌}
 use Rattle.section.specs.declared.Refusal.{Refusal}
-use Rattle.section.specs.Refusal.{Outcome, ◌before◌, fitting, ◌>>=◌, checked_of}
+use Rattle.section.specs.Refusal.{◌before◌, fitting, ◌>>=◌, checked_of}
 use Rattle.section.specs.Section as S
 use Rattle.section.specs.Section.{bytes_at, over_limit}
 use Rattle.portacl.specs.declared.Decision.{Decision}
@@ -20,7 +20,6 @@ use Rattle.portacl.specs.Portacl.{Bind, entries, entry_fault, portacl_fault, por
 use Rattle.sheet.specs.declared.Parts.{Parts}
 use Rattle.sheet.specs.Sheet.{Texts, texts, texts_at, texts_fault, frame, unpack}
 use Rattle.sheet.proofs.TextsLaws.{checked_sound, checked_refused, or_else_none}
-use Rattle.sheet.proofs.UnpackLaws.{framed_refused}
 use Rattle.station.specs.Station.{decide_portacl_sheet}
 use Rattle.station.specs.Code.{without_list}
 
@@ -35,10 +34,6 @@ decided_sound t s o d = by (over_limit S.portacl t) (portacl_fault t)
     by None (Some g) e = let z : ◌≡◌ {A = ℕ} 0 1 = cc in absurd (omega arith)
     by (Some g) b e = let z : ◌≡◌ {A = ℕ} 0 1 = cc in absurd (omega arith)
 
-ruled : (o : Outcome Decision) (d : Decision) → o ≡ Ok d → o ≡ Ok d
-ruled (Err g) d e = let z : ◌≡◌ {A = ℕ} 0 1 = cc in absurd (omega arith)
-ruled (Ok c) d e = cc
-
 -- an empty list has no fault
 no_entries : portacl_fault [] ≡ None
 unfolding portacl_fault entries entry_fault
@@ -50,10 +45,10 @@ unfolding texts_fault
 same_fault a d b t f o e = rw (o, e, no_entries)
 
 module _ (sheet : List ℕ) (p : Parts) (framed : frame sheet ≡ Ok p) (s : Settings) (o : Option Bind) (t : List ℕ) (is-t : t ≡ bytes_at sheet p.portacl)
-    (y : Result Decision Refusal) (is_y : y ≡ (decide_portacl t s o)) (d : Decision) (e : y ≡ Ok d)
+    (y : Result Decision Refusal) (is_y : y ≡ decide_portacl t s o) (d : Decision) (e : y ≡ Ok d)
     (c : Result ⊤ Refusal) (is_c : c ≡ checked_of (texts_fault (without_list (texts_at sheet p)))) where
   decided : decide_portacl (bytes_at sheet p.portacl) s o ≡ Ok d
-  decided = ap (λ (u : List ℕ). decide_portacl u s o) (sym is-t) ∙ ruled (decide_portacl t s o) d (sym is_y ∙ e)
+  decided = ap (λ (u : List ℕ). decide_portacl u s o) (sym is-t) ∙ sym is_y ∙ e
 
   others : texts_fault (texts_at sheet p) ≡ texts_fault (without_list (texts_at sheet p))
   others =
@@ -72,7 +67,7 @@ module _ (sheet : List ℕ) (p : Parts) (framed : frame sheet ≡ Ok p) (s : Set
 pub list_unframed : (sheet : List ℕ) (x : Result Parts Refusal) → x ≡ frame sheet → (s : Settings) (o : Option Bind) (g : Refusal) → x ≡ Err g
     → Err g ≡ decide_portacl_sheet sheet s o
 unfolding decide_portacl_sheet unpack
-list_unframed sheet x is_x s o g e = rw (framed_refused (frame sheet) g (sym is_x ∙ e))
+list_unframed sheet x is_x s o g e = rw (sym is_x ∙ e)
 
 pub others_checked : (sheet : List ℕ) (p : Parts) (a d b q t : List ℕ) → a ≡ bytes_at sheet p.allow → d ≡ bytes_at sheet p.deny
     → b ≡ bytes_at sheet p.byuid → q ≡ [] → t ≡ bytes_at sheet p.tables

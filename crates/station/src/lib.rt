@@ -167,7 +167,7 @@ pub fn decide(sheet: &[u8], names: &[u8], request: Request) -> Reported
         (looked_sheet sheet.now (Some (request_at names.now request))) }
 {
     match frame::frame(sheet) {
-        Err(refusal) => rules::refused(refusal),
+        Err(unframed) => rules::refused(unframed),
         Ok(parts) => decide_by_parts(sheet, parts, names, request),
     }
 }
@@ -189,13 +189,8 @@ pub fn decide_byuid(
     ensures { result ≡ decide_byuid_sheet sheet.now (Some (byuid_bind port addr uid)) }
 {
     let parts = unpack::unpack(sheet)?;
-    byuid::decide(
-        part_of(sheet, parts.byuid),
-        byuid::Mark::Plain,
-        port,
-        addr,
-        uid,
-    )
+    let text = part_of(sheet, parts.byuid);
+    byuid::decide(text, byuid::Mark::Plain, port, addr, uid)
 }
 
 // The decision on a bind by the portacl text of a sheet, which is unpacked first.
@@ -209,15 +204,9 @@ fn decide_unpacked(
 ) -> Result<portacl::Decision, Refusal>
     ensures { result ≡ decide_portacl_sheet sheet.now settings (Some (portacl_bind uid groups.now protocol port)) }
 {
-    let parts = unpack::unpack(sheet)?;
-    portacl::decide(
-        part_of(sheet, parts.portacl),
-        settings,
-        uid,
-        groups,
-        protocol,
-        port,
-    )
+    let unpacked = unpack::unpack(sheet)?;
+    let text = part_of(sheet, unpacked.portacl);
+    portacl::decide(text, settings, uid, groups, protocol, port)
 }
 
 // The check of the texts of a sheet without its portacl list: an empty list is as sound as one that gave a decision.
@@ -247,7 +236,7 @@ fn decide_framed(
 {
     let list = part_of(sheet, parts.portacl);
     match portacl::decide(list, settings, uid, groups, protocol, port) {
-        Err(_) => { decide_unpacked(sheet, settings, uid, groups, protocol, port) }
+        Err(_) => decide_unpacked(sheet, settings, uid, groups, protocol, port),
         Ok(decision) => {
             check_others(sheet, parts)?;
             Ok(decision)

@@ -5,8 +5,8 @@ use Rattle.text.proofs.Search.{outright}
 use Rattle.station.proofs.DecideLaws.{byuid_refused, byuid_decided}
 use Rattle.station.proofs.decide_byuid.Goals as goal
 
-pub returns-in-Err : goal.returns-in-Err
-returns-in-Err c = outright (search (byuid_refused, rules))
+pub returns-in_err-parts : goal.returns-in_err-parts
+returns-in_err-parts c = outright (search (byuid_refused, rules))
 
-pub returns-in-Ok : goal.returns-in-Ok
-returns-in-Ok c = outright (search (byuid_decided, rules))
+pub returns : goal.returns
+returns c = outright (search (byuid_decided, rules))

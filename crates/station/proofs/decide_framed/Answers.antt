@@ -4,8 +4,8 @@ use Rattle.text.proofs.Search.{outright}
 use Rattle.station.proofs.ListLaws.{others_refused, others_sound}
 use Rattle.station.proofs.decide_framed.Goals as goal
 
-pub returns-in-Err-check_others : goal.returns-in-Err-check_others
-returns-in-Err-check_others c = outright (search (others_refused, rules))
+pub returns-in_err-check_others-in-Ok : goal.returns-in_err-check_others-in-Ok
+returns-in_err-check_others-in-Ok c = outright (search (others_refused, rules))
 
-pub returns-in-Ok : goal.returns-in-Ok
-returns-in-Ok c = outright (search (others_sound, rules))
+pub returns-in_ok-check_others-in-Ok : goal.returns-in_ok-check_others-in-Ok
+returns-in_ok-check_others-in-Ok c = outright (search (others_sound, rules))

@@ -8,5 +8,5 @@ use Rattle.station.proofs.decide_portacl.Goals as goal
 pub decide_framed-requires : goal.decide_framed-requires
 decide_framed-requires c = outright (search (is_framed, rules))
 
-pub returns-in-Err : goal.returns-in-Err
-returns-in-Err c = outright (search (list_unframed, rules))
+pub returns-in_err-parts : goal.returns-in_err-parts
+returns-in_err-parts c = outright (search (list_unframed, rules))
