@@ -18,12 +18,13 @@ use Rattle.text.proofs.PasteLaws.{put_first}
 use Rattle.address_format.proofs.WriteText.{Wrote, front_room, rest_room, rest_all}
 use Rattle.section.specs.declared.Fault.TheVariants as F
 use Rattle.section.specs.declared.Refusal.{Refusal}
-use Rattle.section.specs.Refusal.{Outcome, refusal, placeless, first_after, second_after, written_two_of, refusing, checked_of}
+use Rattle.section.specs.Refusal.{Outcome, refusal, placeless, first_after, second_after, written_two_of, checked_of}
 use Rattle.section.specs.Section as S
 use Rattle.section.specs.Section.{bytes_at}
 use Rattle.tables.specs.Table.{Table, tables_of, tables_frame, first_table, table_name_fault, is_unsound, bad_table_fault}
 use Rattle.tables.specs.Code.{tables_in}
 use Rattle.elements.specs.Code.{View, view_of}
+use Rattle.rules.specs.declared.Answer.{Answer}
 use Rattle.rules.specs.FileCode.{pass_of}
 use Rattle.rules.specs.Code.{NamingNoted}
 use Rattle.rules.proofs.NamingLaws.{or_else_nones}
@@ -32,7 +33,6 @@ use Rattle.sheet.specs.Sheet.{Texts, texts, texts_at, counted, frame, sheet_of}
 use Rattle.sheet.specs.Code.{checked_by}
 use Rattle.sheet.proofs.TextsLaws.{checked_sound, checked_refused, tables_read_lem}
 use Rattle.sheet.proofs.FrameLaws.{frame_answered, length_bytes_at}
-use Rattle.sheet.proofs.UnpackLaws.{framed_refused, framed_parts}
 use Rattle.sheet.proofs.PackLaws.{length_sheet_of, put_counted, put_sheet}
 use Rattle.salvage.specs.declared.piece.Kind.{Kind}
 use Rattle.salvage.specs.declared.piece.Kind.TheVariants as K
@@ -57,8 +57,8 @@ module _ (t : List ℕ) (c : Result ⊤ Refusal) (is_c : c ≡ checked_of (table
     pub five_read : tables_in t ≡ tables_of t
     five_read = tables_read_lem t (checked_sound (tables_frame t) (sym is_c ∙ e))
 
-    pub five_rest : (p : Result (Option Answer) Refusal) → p ≡ pass_of (table_name_fault (tables_of t) or_else bad_table_fault t) None → (r : Result ⊤ Refusal) → r ≡ checked_by p → r ≡ checked_of
-        (five_fault t)
+    pub five_rest : (p : Result (Option Answer) Refusal) → p ≡ pass_of (table_name_fault (tables_of t) or_else bad_table_fault t) None
+        → (r : Result ⊤ Refusal) → r ≡ checked_by p → r ≡ checked_of (five_fault t)
     unfolding five_fault
     five_rest p is-p r is-r =
         is-r ∙ ap checked_by is-p ∙ pass_checked (table_name_fault (tables_of t) or_else bad_table_fault t)
@@ -326,9 +326,9 @@ module _ (a f b p t d e : List ℕ) (c : Result ⊤ Refusal) (is_c : c ≡ check
 
 -- ## Any sheet
 
-module _ (sheet : List ℕ) (f : Result Parts Refusal) (is_f : f ≡ (frame sheet)) (p : Parts) (q : f ≡ Ok p) where
+module _ (sheet : List ℕ) (f : Result Parts Refusal) (is_f : f ≡ frame sheet) (p : Parts) (q : f ≡ Ok p) where
   framed : frame sheet ≡ Ok p
-  framed = framed_parts (frame sheet) p (sym is_f ∙ q)
+  framed = sym is_f ∙ q
 
   pub call_small : Small (texts_at sheet p)
   call_small =
@@ -340,10 +340,10 @@ module _ (sheet : List ℕ) (f : Result Parts Refusal) (is_f : f ≡ (frame shee
         portacl = omega (arith, length_bytes_at k.portacl, k.portacl.limit);
       }
 
-module _ (sheet d e : List ℕ) (f : Result Parts Refusal) (is_f : f ≡ (frame sheet)) where
+module _ (sheet d e : List ℕ) (f : Result Parts Refusal) (is_f : f ≡ frame sheet) where
   pub call_refused : (g : Refusal) → f ≡ Err g → Did d e (salvage sheet (length d) (length e)) (Err g) d e
   unfolding salvage
-  call_refused g q = let k = framed_refused (frame sheet) g (sym is_f ∙ q) in (rw k, (rw k, rw k))
+  call_refused g q = let k : frame sheet ≡ Err g = sym is_f ∙ q in (rw k, (rw k, rw k))
 
   pub call_done : (p : Parts) (r : Result (ℕ × ℕ) Refusal) (d' e' : List ℕ) → Did d e (salvage_texts (texts_at sheet p) (length d) (length e)) r d' e'
       → f ≡ Ok p → Did d e (salvage sheet (length d) (length e)) r d' e'

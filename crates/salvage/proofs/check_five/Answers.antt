@@ -7,8 +7,8 @@ use Rattle.salvage.proofs.check_five.Goals as goal
 pub check_section_five-requires : goal.check_section_five-requires
 check_section_five-requires c = outright (search (five_read, rules))
 
-pub returns-in-Err : goal.returns-in-Err
-returns-in-Err c = outright (search (five_frame, rules))
+pub returns-in_err-check_frame : goal.returns-in_err-check_frame
+returns-in_err-check_frame c = outright (search (five_frame, rules))
 
-pub returns-in-Ok : goal.returns-in-Ok
-returns-in-Ok c = outright (search (five_rest, rules))
+pub returns : goal.returns
+returns c = outright (search (five_rest, rules))

@@ -33,12 +33,12 @@ put_list-listed-requires c = record {
   );
 }
 
-pub returns-in-Err : goal.returns-in-Err
-returns-in-Err c = let both = both_grown _ _ _ _ _ _ _ _ _ c.measure_texts-sizes.ensures.sizes _
-    c.check_sizes.ensures _ (search rules) in record { answer = both.0; sheet = both.1.0; changes = both.1.1 }
+pub returns-in_err-check_sizes : goal.returns-in_err-check_sizes
+returns-in_err-check_sizes c = let both = both_grown _ _ _ _ _ _ c.args.out.now c.args.list.now _ c.measure_texts-sizes.ensures.sizes _
+    c.check_sizes.ensures _ c.in_err-check_sizes.was in record { answer = search rules; sheet = both.1.0; changes = both.1.1 }
 
-pub returns-else-list-measure_list : goal.returns-else-list-measure_list
-returns-else-list-measure_list c = let both = both_written _ _ _ _ _ _ _ _ _ c.measure_texts-sizes.ensures.sizes _
+pub returns : goal.returns
+returns c = let both = both_written _ _ _ _ _ _ _ _ _ c.measure_texts-sizes.ensures.sizes _
     c.check_sizes.ensures (search rules) c.if-out-sizes.false _
     c.measure_list.ensures
     c.if-list-measure_list.false _ _ _ _
