@@ -86,25 +86,26 @@ place_short (x ∷ []) h = by (eqb 58 x)
     by false = refl
 place_short (x ∷ y ∷ t) h = absurd (omega arith)
 
-module _ (s : List ℕ) (i : ℕ) (so_far : place_of (bytes "::") s ≡ i + place_of (bytes "::") (drop i s)) where
-  module _ (h : i + 1 < length s) where
-    place_pair : place_of (bytes "::") (drop i s) ≡ (when eqb (get_or s i 0) 58 && eqb (get_or s (i + 1) 0) 58 then 0 else suc (place_of (bytes "::") (drop (i + 1) s)))
+-- the loop that looks for it, at j, the place after i
+module _ (s : List ℕ) (i j : ℕ) (next : j ≡ i + 1) (so_far : place_of (bytes "::") s ≡ i + place_of (bytes "::") (drop i s)) where
+  module _ (h : j < length s) where
+    place_pair : place_of (bytes "::") (drop i s) ≡ (when eqb (get_or s i 0) 58 && eqb (get_or s j 0) 58 then 0 else suc (place_of (bytes "::") (drop j s)))
     unfolding place_of
     place_pair =
         let l : i < length s = omega arith in
-        let u : List ℕ = drop (suc (i + 1)) s in
-        let p : drop (i + 1) s ≡ get_or s (i + 1) 0 ∷ u = drop-cons s (i + 1) 0 h in
-        let q : drop i s ≡ get_or s i 0 ∷ drop (i + 1) s = rw (add-one, drop-cons s i 0) in
+        let u : List ℕ = drop (suc j) s in
+        let p : drop j s ≡ get_or s j 0 ∷ u = drop-cons s j 0 h in
+        let q : drop i s ≡ get_or s i 0 ∷ drop j s = rw (next, add-one, drop-cons s i 0) in
         ap (place_of (bytes "::")) (q ∙ ap (λ (r : List ℕ). get_or s i 0 ∷ r) p)
-        ∙ rw (starts (get_or s i 0) (get_or s (i + 1) 0) u, p)
+        ∙ rw (starts (get_or s i 0) (get_or s j 0) u, p)
 
-    pub place_found : (eqb (get_or s i 0) 58 && eqb (get_or s (i + 1) 0) 58) ≡ true → i ≡ place_of (bytes "::") s
+    pub place_found : (eqb (get_or s i 0) 58 && eqb (get_or s j 0) 58) ≡ true → i ≡ place_of (bytes "::") s
     place_found e = sym (so_far ∙ rw (place_pair, e) (omega arith))
 
-    pub place_more : (eqb (get_or s i 0) 58 && eqb (get_or s (i + 1) 0) 58) ≡ false → place_of (bytes "::") s ≡ (i + 1) + place_of (bytes "::") (drop (i + 1) s)
+    pub place_more : (eqb (get_or s i 0) 58 && eqb (get_or s j 0) 58) ≡ false → place_of (bytes "::") s ≡ j + place_of (bytes "::") (drop j s)
     place_more e = so_far ∙ rw (place_pair, e) (omega arith)
 
-  pub place_none : length s ≤ i + 1 → i ≤ length s → length s ≡ place_of (bytes "::") s
+  pub place_none : length s ≤ j → i ≤ length s → length s ≡ place_of (bytes "::") s
   place_none h l = omega (arith, so_far, length-drop i s, place_short (drop i s) (rw (length-drop i s) (omega arith)))
 
 -- what the code's answer says of the groups o: a of them, at most eight, that make l

@@ -54,12 +54,11 @@ pub fn run_over(e: &[u8], i: usize) -> Run
     requires { i ≤ length e.now }
     ensures { result ≡ run_from i 0 0 0 false (drop i e.now) }
 {
-    let mut j = i;
     let mut n: u32 = 0;
     let mut k: u32 = 0;
     let mut v: u32 = 0;
     let mut begun = false;
-    while j < e.len() {
+    for j in i..e.len() {
         let s = step_over(n, k, v, begun, e[j]);
         match s {
             Step::Nothing => {
@@ -73,11 +72,10 @@ pub fn run_over(e: &[u8], i: usize) -> Run
                 k = l;
                 v = u;
                 begun = x;
-                j += 1;
             }
         }
     }
-    Run::At(j, n, k, v, begun)
+    Run::At(e.len(), n, k, v, begun)
 }
 
 // The address that a pass over a whole text makes: three fields with a dot after them, and one more.

@@ -72,14 +72,12 @@ fn read_group(s: &[u8]) -> Option<u32>
         return None;
     }
     let mut n: u32 = 0;
-    let mut i = 0;
-    while i < s.len() {
-        let d = hex_digit(s[i]);
+    for &b in s {
+        let d = hex_digit(b);
         if d == 16 {
             return None;
         }
         n = n * 16 + d;
-        i += 1;
     }
     Some(n)
 }
@@ -154,9 +152,8 @@ fn read_groups(s: &[u8], tail: bool) -> Option<(u32, Words)>
     if s.len() == 0 {
         return Some((0, w));
     }
-    let mut count: u32 = 0;
     let mut at = 0;
-    while count < 8 {
+    for count in 0..8 {
         let g = first_group(&s[at..]);
         match g {
             Group::Nothing => {
@@ -167,7 +164,6 @@ fn read_groups(s: &[u8], tail: bool) -> Option<(u32, Words)>
             }
             Group::More(n, next) => {
                 w = push_group(w, n);
-                count += 1;
                 at += next;
             }
         }
@@ -179,13 +175,10 @@ fn read_groups(s: &[u8], tail: bool) -> Option<(u32, Words)>
 fn double_colon(s: &[u8]) -> usize
     ensures { result ≡ place_of (bytes "::") s.now }
 {
-    let mut i = 0;
-    while i + 1 < s.len() {
-        let j = i + 1;
-        if (s[i] == b':') & (s[j] == b':') {
-            return i;
+    for i in 1..s.len() {
+        if (s[i - 1] == b':') & (s[i] == b':') {
+            return i - 1;
         }
-        i = j;
     }
     s.len()
 }
@@ -196,10 +189,8 @@ fn pad(w: Words, count: u32) -> Words
     ensures { result ≡ words_of (number_of w * 65536 ^ (8 - count)) }
 {
     let mut n = w;
-    let mut k = count;
-    while k < 8 {
+    for _ in count..8 {
         n = push_group(n, 0);
-        k += 1;
     }
     n
 }

@@ -82,10 +82,8 @@ fn put_colon_groups(out: &mut [u8], at: usize, gs: &[u16]) -> usize
     ensures written { out.new ≡ put_at out.old at (colon_groups gs.now) }
 {
     let mut p = at;
-    let mut i = 0;
-    while i < gs.len() {
-        p = put_next_group(out, p, gs[i]);
-        i += 1;
+    for &g in gs {
+        p = put_next_group(out, p, g);
     }
     p
 }
@@ -128,11 +126,12 @@ fn longest_run(gs: &[u16]) -> Run
     ensures run { result ≡ longest_run gs.now }
     ensures within { result.place + result.len ≤ length gs.now }
 {
-    let mut i = gs.len();
     let mut zeros = 0;
-    let mut best = Run { place: i, len: 0 };
-    while 0 < i {
-        i -= 1;
+    let mut best = Run {
+        place: gs.len(),
+        len: 0,
+    };
+    for i in (0..gs.len()).rev() {
         zeros = longer_zeros(zeros, gs[i]);
         best = longer_run(best, i, zeros);
     }

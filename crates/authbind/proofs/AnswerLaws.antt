@@ -1,18 +1,18 @@
 -- Laws of the answers: their kinds, and where they lead.
 -- Assumes nothing.
 use Rattle.std.specs.Prelude.{Some}
-use Prim.Native.Nat.{ℕ, zero, suc, ◌+◌, ◌-◌, ◌<◌, ◌≤◌}
+use Prim.Native.Nat.{ℕ, zero, suc, ◌+◌, ◌<◌, ◌≤◌}
 use mathlib.Core.Bool.{Bool, true, false, ◌&&◌}
 use mathlib.Core.List.{List, [], ◌∷◌, map}
 use mathlib.Core.Path.{◌≡◌, refl, sym, ap, ◌∙◌}
 use native.Mathlib.Numerals.{add-one}
 use native.Mathlib.Omega.{arith}
 use borrow.Author.Tests.{lt-ltb, le-ltb, le-leb, lt-leb, eqb-true, eqb-false, eq-eqb, ne_eqb}
-use lib.Dec.{leb, ltb, eqb}
+use lib.Dec.{eqb}
 use lib.ListN.{length, drop, get_or, length-drop, drop_of_length-le}
 use lib.Seq.{drop-cons}
+use Rattle.std.specs.List.{list_all}
 use Rattle.text.specs.Basics.{◌>>=◌, given, all, each}
-use Rattle.authbind.specs.declared.Access.{Access}
 use Rattle.authbind.specs.declared.Turn.{Turn}
 use Rattle.authbind.specs.declared.Turn.TheVariants as T
 use Rattle.authbind.specs.Authbind.{access_of}
@@ -41,28 +41,11 @@ each_access (b ∷ s) = rw (access_of_lem b, each_access s) (by (is_access b) (a
     by true false = refl
     by false u = refl
 
--- the loop over the answers, at the place i
-pub record Kinds (s : List ℕ) (i : ℕ) : Type 0 where
-  pub within : i ≤ length s
-  pub left : all is_access s ≡ all is_access (drop i s)
-
-pub kinds_start : (s : List ℕ) → Kinds s 0
-kinds_start s = record { within = omega arith; left = refl }
-
-module _ (s : List ℕ) (i : ℕ) (k : Kinds s i) where
-  first : i < length s → all is_access s ≡ (is_access (get_or s i 0) && all is_access (drop (i + 1) s))
-  unfolding all
-  first h = k.left ∙ rw (drop-cons s i 0, add-one)
-
-  pub kinds_other : i < length s → 2 < get_or s i 0 → false ≡ all is_access s
-  kinds_other h l = sym (first h ∙ rw (lt-leb (get_or s i 0) 2 l))
-
-  pub kinds_more : i < length s → get_or s i 0 ≤ 2 → Kinds s (i + 1)
-  kinds_more h l = record { within = omega arith; left = first h ∙ rw (le-leb (get_or s i 0) 2 l) }
-
-  pub kinds_end : length s ≤ i → true ≡ all is_access s
-  unfolding all
-  kinds_end h = sym (k.left ∙ rw (drop_of_length-le s h))
+-- as std's `all` answers it
+pub kinds_all : (s : List ℕ) → list_all is_access s ≡ all is_access s
+unfolding all
+kinds_all [] = refl
+kinds_all (b ∷ s) = ap (λ (t : Bool). is_access b && t) (kinds_all s)
 
 -- ## Where they lead
 
@@ -105,10 +88,13 @@ module _ (s : List ℕ) (n i : ℕ) (k : Turns s n i) where
       turns_more z = record { within = omega arith; left = k.left ∙ rw (drop-cons s i 0, lt-leb n i l, eq-eqb (get_or s i 0) 0 z, add-one) }
 
   module _ (h : length s ≤ i) where
-    pub turns_test : i < n → T.Test i ≡ turn_at 0 s n
-    unfolding turn_at
-    turns_test l = sym (k.left ∙ rw (drop_of_length-le s h, lt-ltb i n l))
+    at_end : i ≡ length s
+    at_end = omega (arith, k.within)
 
-    pub turns_byuid : n ≤ i → T.Byuid ≡ turn_at 0 s n
+    pub turns_test : length s < n → T.Test (length s) ≡ turn_at 0 s n
     unfolding turn_at
-    turns_byuid l = sym (k.left ∙ rw (drop_of_length-le s h, le-ltb i n l))
+    turns_test l = sym (k.left ∙ rw (drop_of_length-le s h, at_end, lt-ltb (length s) n l))
+
+    pub turns_byuid : n ≤ length s → T.Byuid ≡ turn_at 0 s n
+    unfolding turn_at
+    turns_byuid l = sym (k.left ∙ rw (drop_of_length-le s h, at_end, le-ltb (length s) n l))

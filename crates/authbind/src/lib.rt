@@ -57,14 +57,7 @@ enum Turn {
 fn all_kinds(answers: &[u8]) -> bool
     ensures { result ≡ all is_access answers.now }
 {
-    let mut i = 0;
-    while i < answers.len() {
-        if 2 < answers[i] {
-            return false;
-        }
-        i += 1;
-    }
-    true
+    answers.iter().all(|answer| *answer <= 2)
 }
 
 // Where an answer leads that is not "absent", and that others follow or not.
@@ -84,19 +77,16 @@ fn settled(answer: u8, last: bool) -> Turn
 fn turn_after(answers: &[u8], tests: usize) -> Turn
     ensures { result ≡ turn_at 0 answers.now tests }
 {
-    let mut i = 0;
-    while i < answers.len() {
+    for (i, answer) in answers.iter().enumerate() {
         if tests <= i {
             return Turn::Late;
         }
-        let answer = answers[i];
-        i += 1;
-        if answer != 0 {
-            return settled(answer, i == answers.len());
+        if *answer != 0 {
+            return settled(*answer, i + 1 == answers.len());
         }
     }
-    if i < tests {
-        return Turn::Test(i);
+    if answers.len() < tests {
+        return Turn::Test(answers.len());
     }
     Turn::Byuid
 }

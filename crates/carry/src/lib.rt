@@ -41,10 +41,8 @@ fn measure(tcp: &[u8], udp: &[u8], from: usize, count: usize) -> usize
     ensures { result ≡ length (span_lines (in_both tcp.now udp.now) count from) }
 {
     let mut bytes = 0;
-    let mut k = 0;
-    while k < count {
+    for k in 0..count {
         bytes += port_len(tcp, udp, from + k);
-        k += 1;
     }
     bytes
 }
@@ -91,11 +89,9 @@ fn put_span(out: &mut [u8], tcp: &[u8], udp: &[u8], from: usize, count: usize) -
     ensures written { out.new ≡ after (span_lines (in_both tcp.now udp.now) count from) out.old }
 {
     let mut at = 0;
-    let mut k = 0;
-    while k < count {
+    for k in 0..count {
         let next = put_port(out, at, tcp, udp, from + k);
         at = next;
-        k += 1;
     }
     at
 }

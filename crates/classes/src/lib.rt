@@ -59,15 +59,12 @@ fn parting_length(class: &[u8; 256], s: &[u8]) -> usize
     ensures count { result ≡ parting_length s.now }
     ensures within { result ≤ length s.now }
 {
-    let mut i = 0;
-    while i < s.len() {
-        if is_parting(class, s[i]) {
-            i += 1;
-        } else {
+    for (i, &b) in s.iter().enumerate() {
+        if !is_parting(class, b) {
             return i;
         }
     }
-    i
+    s.len()
 }
 
 // The element that starts at i, up to a byte that parts or the end, with the classes of its bytes.
@@ -76,9 +73,8 @@ fn element_from(class: &[u8; 256], s: &[u8], i: usize) -> ClassSpan
     requires i_in_bounds { i ≤ length s.now }
     ensures { result ≡ span_from i (drop i s.now) }
 {
-    let mut j = i;
     let mut mask: u8 = 0;
-    while j < s.len() {
+    for j in i..s.len() {
         let c = class_of(class, s[j]);
         if 128 <= c {
             return ClassSpan {
@@ -87,10 +83,12 @@ fn element_from(class: &[u8; 256], s: &[u8], i: usize) -> ClassSpan
             };
         }
         mask = mask | c;
-        j += 1;
     }
     ClassSpan {
-        span: ElementSpan { start: i, end: j },
+        span: ElementSpan {
+            start: i,
+            end: s.len(),
+        },
         mask,
     }
 }

@@ -14,9 +14,7 @@ use Rattle.rules.specs.declared.Reported.{Reported}
 use Rattle.rules.specs.Looked.{reported}
 use Rattle.rules.specs.Search.{file_section}
 use Rattle.byuid.specs.declared.Decision.{Decision as ByuidDecision}
-use Rattle.byuid.specs.Byuid as Byuid
 use Rattle.portacl.specs.declared.Decision.{Decision as PortaclDecision}
-use Rattle.portacl.specs.Portacl as Portacl
 use Rattle.section.specs.Refusal.{written_two_of}
 use Rattle.authbind.specs.declared.Next.{Next}
 use Rattle.authbind.specs.declared.Next.TheVariants as N
@@ -39,12 +37,12 @@ use Rattle.codes.specs.Answers.{next_answer}
 use Rattle.codes.specs.Code.{matter_numbers, byuid_numbers, portacl_numbers, verdict_numbers, check_numbers, parts_numbers, written_numbers, written_two_numbers}
 use Rattle.codes.specs.Code.{command_written, next_numbers, read_numbers}
 
-pub byuid_numbers_lem : (o : Outcome ByuidDecision) (x : Result Decision Refusal) (a : GateAnswer) → x ≡ Byuid.byuid_ruling o → a ≡ byuid_numbers x → a ≡ byuid_answer o
+pub byuid_numbers_lem : (o : Outcome ByuidDecision) (x : Result ByuidDecision Refusal) (a : GateAnswer) → x ≡ o → a ≡ byuid_numbers x → a ≡ byuid_answer o
 unfolding byuid_numbers byuid_answer
 byuid_numbers_lem (Err r) x a e f = rw e at f
 byuid_numbers_lem (Ok d) x a e f = rw e at f
 
-pub portacl_numbers_lem : (o : Outcome PortaclDecision) (x : Result Decision Refusal) (a : GateAnswer) → x ≡ Portacl.portacl_ruling o → a ≡ portacl_numbers x → a
+pub portacl_numbers_lem : (o : Outcome PortaclDecision) (x : Result PortaclDecision Refusal) (a : GateAnswer) → x ≡ o → a ≡ portacl_numbers x → a
     ≡ portacl_answer o
 unfolding portacl_numbers portacl_answer
 portacl_numbers_lem (Err r) x a e f = rw e at f
@@ -67,7 +65,7 @@ pub matter_refused : (m : Result (Option Place) Refusal) (r : Refusal) (a : Gate
 unfolding matter_numbers
 matter_refused m r a e f = rw e f
 
-pub matter_matters : (m : Result (Option Place) Refusal) (a : GateAnswer) → m ≡ (Ok None) → a ≡ word_answer 9 → a ≡ matter_numbers m
+pub matter_matters : (m : Result (Option Place) Refusal) (a : GateAnswer) → m ≡ Ok None → a ≡ word_answer 9 → a ≡ matter_numbers m
 unfolding matter_numbers
 matter_matters m a e f = rw e f
 
@@ -157,20 +155,20 @@ module _ (x : Next) (a : GateNext) where
   unfolding next_numbers
   next_read n e f = rw e f
 
-pub byuid_refused : (x : Result Decision Refusal) (r : Refusal) (a : GateAnswer) → x ≡ Err r → a ≡ refusal_answer r → a ≡ byuid_numbers x
+pub byuid_refused : (x : Result ByuidDecision Refusal) (r : Refusal) (a : GateAnswer) → x ≡ Err r → a ≡ refusal_answer r → a ≡ byuid_numbers x
 unfolding byuid_numbers
 byuid_refused x r a e f = rw e f
 
-pub byuid_answered : (x : Result Decision Refusal) (d : ByuidDecision) (k : ℕ) (a : GateAnswer) → x ≡ Ok d → k ≡ (byuid_word d).number → a ≡ word_answer k → a
+pub byuid_answered : (x : Result ByuidDecision Refusal) (d : ByuidDecision) (k : ℕ) (a : GateAnswer) → x ≡ Ok d → k ≡ (byuid_word d).number → a ≡ word_answer k → a
     ≡ byuid_numbers x
 unfolding byuid_numbers
 byuid_answered x d k a e g f = rw e (rw g at f)
 
-pub portacl_refused : (x : Result Decision Refusal) (r : Refusal) (a : GateAnswer) → x ≡ Err r → a ≡ refusal_answer r → a ≡ portacl_numbers x
+pub portacl_refused : (x : Result PortaclDecision Refusal) (r : Refusal) (a : GateAnswer) → x ≡ Err r → a ≡ refusal_answer r → a ≡ portacl_numbers x
 unfolding portacl_numbers
 portacl_refused x r a e f = rw e f
 
-pub portacl_answered : (x : Result Decision Refusal) (d : PortaclDecision) (k : ℕ) (a : GateAnswer) → x ≡ Ok d → k ≡ (portacl_word d).number → a ≡ word_answer k → a
+pub portacl_answered : (x : Result PortaclDecision Refusal) (d : PortaclDecision) (k : ℕ) (a : GateAnswer) → x ≡ Ok d → k ≡ (portacl_word d).number → a ≡ word_answer k → a
     ≡ portacl_numbers x
 unfolding portacl_numbers
 portacl_answered x d k a e g f = rw e (rw g at f)

@@ -8,6 +8,7 @@
 -- Assumes nothing: these are definitions.
 use Rattle.std.specs.Prelude.{ℕ, ◌+◌, Bool, ◌&&◌, List, [], replicate, Err, None, Ok, Option, Result, Some, unwrap_or}
 use Rattle.text.specs.Basics.{when◌then◌else◌, is_some}
+use Rattle.section.specs.declared.Refusal.{Refusal}
 use Rattle.section.specs.Section.{part}
 use Rattle.address.specs.declared.Addr.{Addr}
 use Rattle.address.specs.declared.Addr.TheVariants as A
@@ -19,16 +20,20 @@ use Rattle.elements.specs.declared.User.{User}
 use Rattle.elements.specs.declared.User.TheVariants as U
 use Rattle.elements.specs.declared.request.Request.{Request as Places}
 use Rattle.elements.specs.Request.{Request, request_of}
+use Rattle.portacl.specs.declared.Decision.{Decision as PortaclDecision}
 use Rattle.portacl.specs.declared.Protocol.{Protocol}
 use Rattle.portacl.specs.declared.Protocol.TheVariants.{Tcp}
 use Rattle.portacl.specs.Portacl.{Bind, bind}
 use Rattle.codes.specs.declared.request.HostNumbers.{HostNumbers}
+use Rattle.byuid.specs.declared.Decision.{Decision as ByuidDecision}
 use Rattle.byuid.specs.declared.Mark.{Mark}
 use Rattle.byuid.specs.declared.Mark.TheVariants.{Plain}
 use Rattle.authbind.specs.declared.Next.{Next}
 use Rattle.authbind.specs.declared.Next.TheVariants as Step
 use Rattle.rules.specs.declared.Answer.{Answer}
 use Rattle.rules.specs.declared.Reported.{Reported}
+use Rattle.sheet.specs.declared.Parts.{Parts}
+use Rattle.matters.specs.declared.Place.{Place}
 use Rattle.codes.specs.declared.GateAnswer.{GateAnswer}
 use Rattle.codes.specs.declared.GateCheck.{GateCheck}
 use Rattle.codes.specs.declared.GateCommand.{GateCommand}
@@ -42,6 +47,9 @@ use Rattle.codes.specs.declared.request.Target.{Target}
 use Rattle.codes.specs.Answers.{byuid_word, portacl_word, refusal_answer, word_answer, answer_numbers, refused_check, accepted, refused_parts, found_parts, refused_written, count_written}
 use Rattle.codes.specs.Answers.{name_matters, place_numbers, refused_two, count_two, with_count, refused_next, next_with, granted, denied, not_ruled, test, read, refused_address, address_numbers}
 use Rattle.codes.specs.Requests.{name_state, user_state, address_of, protocol_of, mark_of, is_port, RequestNumbers, known_name, known_user}
+use Rattle.section.specs.declared.Refusal.{Refusal}
+use Rattle.sheet.specs.declared.Parts.{Parts}
+use Rattle.matters.specs.declared.Place.{Place}
 
 -- ## Requests
 
@@ -120,11 +128,11 @@ bind_by x uid groups = bind uid (when x.fit then groups else replicate 17 0) x.p
 
 -- ## Answers
 
-unfoldable pub byuid_numbers : Result Decision Refusal → GateAnswer
+unfoldable pub byuid_numbers : Result ByuidDecision Refusal → GateAnswer
 byuid_numbers (Err r) = refusal_answer r
 byuid_numbers (Ok d) = word_answer (byuid_word d).number
 
-unfoldable pub portacl_numbers : Result Decision Refusal → GateAnswer
+unfoldable pub portacl_numbers : Result PortaclDecision Refusal → GateAnswer
 portacl_numbers (Err r) = refusal_answer r
 portacl_numbers (Ok d) = word_answer (portacl_word d).number
 
@@ -158,7 +166,7 @@ command_written a k (Ok n) = with_count (answer_numbers a k) n
 
 unfoldable pub written_two_numbers : Result (ℕ × ℕ) Refusal → GateWrittenTwo
 written_two_numbers (Err r) = refused_two r
-written_two_numbers (Ok (n, m)) = count_two n m
+written_two_numbers (Ok p) = count_two p.0 p.1
 
 unfoldable pub next_numbers : Next → GateNext
 next_numbers (Step.Refused r) = refused_next r

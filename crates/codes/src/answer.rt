@@ -77,7 +77,7 @@ pub fn byuid_numbers(r: Result<byuid::Decision, Refusal>) -> GateAnswer
     ensures { result ≡ byuid_numbers r }
 {
     match r {
-        Err(refusal) => refused(refusal),
+        Err(byuid_refusal) => refused(byuid_refusal),
         Ok(d) => word(byuid_code(d)),
     }
 }
@@ -87,7 +87,7 @@ pub fn portacl_numbers(r: Result<portacl::Decision, Refusal>) -> GateAnswer
     ensures { result ≡ portacl_numbers r }
 {
     match r {
-        Err(refusal) => refused(refusal),
+        Err(portacl_refusal) => refused(portacl_refusal),
         Ok(d) => word(portacl_code(d)),
     }
 }
@@ -136,7 +136,7 @@ pub fn verdict_numbers(r: rules::Reported) -> GateAnswer
 {
     let ruling = r.ruling;
     match ruling {
-        Err(refusal) => refused(refusal),
+        Err(verdict_refusal) => refused(verdict_refusal),
         Ok(answer) => verdict_word(answer, r.looked),
     }
 }

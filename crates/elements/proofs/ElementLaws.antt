@@ -1,7 +1,7 @@
 -- Laws of the elements of daemon and client lists, as the code reads them; and what elements look at:
 -- `daemon_element_request`, `client_element_request`.
 -- Assumes nothing.
-use Rattle.std.specs.Prelude.{None, Option, Some, unwrap_or}
+use Rattle.std.specs.Prelude.{None, Option, Some, unwrap_or, Ok, Result, ⊤}
 use Prim.Native.Nat.{ℕ, suc, ◌+◌, ◌-◌, ◌<◌, ◌≤◌}
 use Prim.Native.String.{String}
 use mathlib.Core.Bool.{Bool, true, false, not, ◌&&◌, ◌||◌}
@@ -23,8 +23,8 @@ use Rattle.patterns.specs.Host.{Endpoint, name_case}
 use Rattle.patterns.specs.Pattern.{Pattern, is_name_byte, host_pattern}
 use Rattle.tables.specs.Table.{Matcher, is_table_name, table_name, pattern_with}
 use Rattle.tables.specs.Tried.{looked_with}
-use Rattle.views.specs.declared.Naming.{Naming}
-use Rattle.views.specs.declared.Naming.TheVariants as N
+use Rattle.views.specs.declared.NamingFault.{NamingFault}
+use Rattle.views.specs.declared.NamingFault.TheVariants as N
 use Rattle.views.specs.declared.Reference.{Reference}
 use Rattle.views.specs.View.{naming_of, noted_tried, reference_of}
 use Rattle.patterns.specs.Code.{wildcard_of, wildcard_pattern, matches_pattern}
@@ -169,7 +169,7 @@ module _ (e : List ℕ) (whole : length e ≡ at_sign e) (slashless : first_amon
   unfolding named_table table_name
   unnamed = rw (halves_none e (length e) whole refl, slashless)
 
-  pub naming_none : (f : List ℕ → Naming) → N.Sound ≡ element_naming f e
+  pub naming_none : (f : List ℕ → Result ⊤ NamingFault) → Ok tt ≡ element_naming f e
   unfolding element_naming
   naming_none f = rw unnamed
 

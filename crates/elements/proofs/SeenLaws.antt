@@ -1,6 +1,6 @@
 -- Laws of an element that is checked and looked at in one reading, shaped as the calls and tests of the code hand their facts over.
 -- Assumes nothing.
-use Rattle.std.specs.Prelude.{None, Some}
+use Rattle.std.specs.Prelude.{None, Some, Ok, Result, ⊤}
 use Prim.Native.Nat.{ℕ, suc, ◌+◌, ◌-◌, ◌<◌, ◌≤◌}
 use mathlib.Core.Bool.{Bool, true, false, not, ◌&&◌, and_assoc, and-false, and-true as and-true_r, true≢false}
 use mathlib.Core.List.{List, [], ◌∷◌}
@@ -23,8 +23,8 @@ use Rattle.patterns.specs.Host.{Endpoint}
 use Rattle.patterns.specs.Pattern.{Pattern, is_name_byte, host_pattern}
 use Rattle.tables.specs.Table.{Matcher, is_table_name, table_name, pattern_with}
 use Rattle.tables.specs.Tried.{capped}
-use Rattle.views.specs.declared.Naming.{Naming}
-use Rattle.views.specs.declared.Naming.TheVariants as N
+use Rattle.views.specs.declared.NamingFault.{NamingFault}
+use Rattle.views.specs.declared.NamingFault.TheVariants as N
 use Rattle.views.specs.declared.Reference.{Reference}
 use Rattle.patterns.specs.Code.{word_size, wildcard_of, matches_pattern, host_seen, pattern_seen}
 use Rattle.patterns.proofs.PatternLaws.{wildcard_of_sized}
@@ -185,7 +185,7 @@ module _ (m : Matcher) (e : List ℕ) (at : ℕ) (is_at : at ≡ at_sign e) (loo
     client_kind_missed m = ap₂ kind sound (sym (found ∙ rw m))
 
 pub element_seen_is : (look : Bool) (q : Request) (of : Kind) (e : List ℕ) (k : KindSeen) → k ≡ kind_seen look q (of.element e)
-    → (x : Bool) → x ≡ of.reserved e → (n : Naming) → n ≡ of.naming e → (f : ElementFault) → f ≡ fault_of x k.sound n
+    → (x : Bool) → x ≡ of.reserved e → (n : Result ⊤ NamingFault) → n ≡ of.naming e → (f : Result ⊤ ElementFault) → f ≡ fault_of x k.sound n
     → (c : ℕ) → c ≡ counted look (capped (of.looked e)) → record { fault = f; found = k.found; looked = c } ≡ element_seen look q of e
 unfolding element_seen element_fault kind_seen
 element_seen_is look q of e k is-k x is_x n is-n f is_f c is_c = rw (is_f, is_x, is-n, is-k, is_c)
@@ -203,7 +203,7 @@ module _ (tables notes e : List ℕ) (look : Bool) (r : Reference) (c : ℕ) (is
       daemon_count : c ≡ counted look (capped (element_looked (view_of tables notes).server_tried e))
       daemon_count = is_c ∙ ap (λ (n : ℕ). counted look (capped n)) (reference_looked 1 tables notes e r is-r)
 
-      pub daemon_any_is : (x : Bool) → x ≡ daemon_reserved e → (f : ElementFault) → f ≡ fault_of x k.sound r.naming
+      pub daemon_any_is : (x : Bool) → x ≡ daemon_reserved e → (f : Result ⊤ ElementFault) → f ≡ fault_of x k.sound r.naming
           → record { fault = f; found = k.found; looked = c } ≡ element_seen look (daemon_request d s) (daemon_kind (view_of tables notes)) e
       daemon_any_is x is_x f is_f = element_seen_is look (daemon_request d s) (daemon_kind (view_of tables notes)) e k daemon_kind_lem x is_x
           r.naming (reference_naming 1 tables notes e r is-r) f is_f c daemon_count
@@ -225,7 +225,7 @@ module _ (tables notes e : List ℕ) (look : Bool) (r : Reference) (c : ℕ) (is
       client_count : c ≡ counted look (capped (element_looked (view_of tables notes).client_tried e))
       client_count = is_c ∙ ap (λ (n : ℕ). counted look (capped n)) (reference_looked 0 tables notes e r is-r)
 
-      pub client_any_is : (x : Bool) → x ≡ client_reserved e → (f : ElementFault) → f ≡ fault_of x k.sound r.naming
+      pub client_any_is : (x : Bool) → x ≡ client_reserved e → (f : Result ⊤ ElementFault) → f ≡ fault_of x k.sound r.naming
           → record { fault = f; found = k.found; looked = c } ≡ element_seen look (client_request h u name) (client_kind (view_of tables notes)) e
       client_any_is x is_x f is_f = element_seen_is look (client_request h u name) (client_kind (view_of tables notes)) e k client_kind_lem x is_x
           r.naming (reference_naming 0 tables notes e r is-r) f is_f c client_count
@@ -281,7 +281,7 @@ module _ (e : List ℕ) (h : all is_name_byte e ≡ true) where
   plain_pattern m = rw slashless
 
 pub named_client : (v : View) (e : List ℕ) → true ≡ all is_name_byte e → (look : Bool) (c : Endpoint) (u : User) (name : List ℕ) (g : HostSeen)
-    → g ≡ pattern_seen look (host_pattern e) c → (f : ElementFault) → f ≡ fault_of false g.sound N.Sound → (x : Found) → x ≡ found_if g.matches
+    → g ≡ pattern_seen look (host_pattern e) c → (f : Result ⊤ ElementFault) → f ≡ fault_of false g.sound (Ok tt) → (x : Found) → x ≡ found_if g.matches
     → (n : ℕ) → n ≡ counted look (capped (1 + 0)) → record { fault = f; found = x; looked = n } ≡ element_seen look (client_request c u name) (client_kind v) e
 named_client v e h look c u name g is-g f is_f x is_x n is-n =
     let names : all is_name_byte e ≡ true = sym h in
@@ -289,7 +289,7 @@ named_client v e h look c u name g is-g f is_f x is_x n is-n =
     let is-with : g ≡ pattern_seen look (pattern_with v.client e) c = is-g ∙ ap (λ (p : Pattern). pattern_seen look p c) plain in
     element_seen_is look (client_request c u name) (client_kind v) e (kind g.sound x)
     (client_kind_whole v.client e (length e) (whole e names) look c u name g refl is-with x is_x) false (client_unreserved e names)
-    N.Sound (naming_none e (whole e names) (slashless e names) v.naming) f is_f
+    (Ok tt) (naming_none e (whole e names) (slashless e names) v.naming) f is_f
     n (is-n ∙ ap (λ (k : ℕ). counted look (capped k)) (looked_none e (whole e names) (slashless e names) v.client_tried))
 
 -- what such an element finds and counts where it is looked at
@@ -300,7 +300,7 @@ pub named_found : (tables notes e : List ℕ) → true ≡ all is_name_byte e �
 unfolding element_seen
 named_found tables notes e h c u name g is-g x is_x n is-n =
     ap (λ (s : ElementSeen). looked_for s.found s.looked)
-    (named_client (view_of tables notes) e h true c u name g is-g (fault_of false g.sound N.Sound) refl x is_x n is-n)
+    (named_client (view_of tables notes) e h true c u name g is-g (fault_of false g.sound (Ok tt)) refl x is_x n is-n)
 
 -- a daemon element that is told to be a name: x says whether it is as long as a wildcard
 module _ (k : ℕ) (e : List ℕ) (h : Describes k e) (x : Bool) (is_x : x ≡ word_size (length e)) (t : (not x && ltb k 8) ≡ true) where
@@ -308,14 +308,14 @@ module _ (k : ℕ) (e : List ℕ) (h : Describes k e) (x : Bool) (is_x : x ≡ w
   names_described = sym (and_true (not x) (ltb k 8) t).1 ∙ h.names
 
   pub named_daemon : (v : View) (look : Bool) (d : List ℕ) (s : Endpoint) (g : HostSeen) → g ≡ host_seen (name_fits e) (look && name_equals e d)
-      → (f : ElementFault) → f ≡ fault_of false g.sound N.Sound → (y : Found) → y ≡ found_if g.matches
+      → (f : Result ⊤ ElementFault) → f ≡ fault_of false g.sound (Ok tt) → (y : Found) → y ≡ found_if g.matches
       → (n : ℕ) → n ≡ counted look (capped (1 + 0)) → record { fault = f; found = y; looked = n } ≡ element_seen look (daemon_request d s) (daemon_kind v) e
   named_daemon v look d s g is-g f is_f y is_y n is-n =
       let nothing : wildcard_of e ≡ W.Nothing = sym (wildcard_of_sized e x is_x (and_true (not x) (ltb k 8) t).0) in
       let names : all is_name_byte e ≡ true = sym names_described in
       element_seen_is look (daemon_request d s) (daemon_kind v) e (kind g.sound y)
       (daemon_kind_whole v.server e (length e) (whole e names) look d s g refl (daemon_seen_name e d look (wildcard_of e) refl g nothing is-g) y is_y)
-      false (daemon_unreserved e names) N.Sound (naming_none e (whole e names) (slashless e names) v.naming) f is_f
+      false (daemon_unreserved e names) (Ok tt) (naming_none e (whole e names) (slashless e names) v.naming) f is_f
       n (is-n ∙ ap (λ (k : ℕ). counted look (capped k)) (looked_none e (whole e names) (slashless e names) v.server_tried))
 
 -- ## Host halves

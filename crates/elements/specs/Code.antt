@@ -11,7 +11,7 @@
 --   held_at q                     == the request q by its places, as it is held
 --   at_sign e                     == the place of the `@` that parts e
 -- Assumes nothing: these are definitions.
-use Rattle.std.specs.Prelude.{ℕ, ◌+◌, Bool, true, false, ◌&&◌, List, [], ◌∷◌, length, drop, None, Option, Some}
+use Rattle.std.specs.Prelude.{ℕ, ◌+◌, Bool, true, false, ◌&&◌, List, [], ◌∷◌, length, drop, None, Option, Some, Err, Ok, Result, ⊤}
 use Rattle.text.specs.Basics.{when◌then◌else◌, holds, is_some, all}
 use Rattle.text.specs.Text.{in_range, equal_fold}
 use Rattle.text.specs.Scan.{index_of}
@@ -23,8 +23,8 @@ use Rattle.patterns.specs.declared.HostSeen.{HostSeen}
 use Rattle.patterns.specs.Code.{host_seen}
 use Rattle.tables.specs.Table.{Matcher, is_table_name}
 use Rattle.tables.specs.Tried.{capped}
-use Rattle.views.specs.declared.Naming.{Naming}
-use Rattle.views.specs.declared.Naming.TheVariants as N
+use Rattle.views.specs.declared.NamingFault.{NamingFault}
+use Rattle.views.specs.declared.NamingFault.TheVariants as N
 use Rattle.views.specs.declared.Reference.{Reference}
 use Rattle.views.specs.View.{naming_of, noted_match, noted_tried, reference_of}
 use Rattle.elements.specs.declared.User.{User}
@@ -49,7 +49,7 @@ pub record View : Type 0 where
   pub client : Matcher
   pub server_tried : List ℕ → ℕ
   pub client_tried : List ℕ → ℕ
-  pub naming : List ℕ → Naming
+  pub naming : List ℕ → Result ⊤ NamingFault
 
 abbrev pub view_of : List ℕ → List ℕ → View
 view_of tables notes = record {
@@ -62,7 +62,7 @@ view_of tables notes = record {
 
 -- what is known of a table that is not named at all
 abbrev pub no_reference : Reference
-no_reference = record { naming = N.Sound; matches = false; tried = 0 }
+no_reference = record { naming = Ok tt; matches = false; tried = 0 }
 
 -- what the notes say of the table that an element names
 abbrev pub reference_with : ℕ → List ℕ → List ℕ → Option (List ℕ) → Reference
@@ -81,18 +81,18 @@ abbrev pub table_seen : Bool → Bool → List ℕ → HostSeen
 table_seen look matched e = let n : List ℕ = drop 1 e in host_seen (is_table_name n) (look && (is_table_name n && matched))
 
 -- how an element names a table; sound where it names none
-abbrev pub naming_with : (List ℕ → Naming) → Option (List ℕ) → Naming
-naming_with f None = N.Sound
+abbrev pub naming_with : (List ℕ → Result ⊤ NamingFault) → Option (List ℕ) → Result ⊤ NamingFault
+naming_with f None = Ok tt
 naming_with f (Some n) = f n
 
-unfoldable pub element_naming : (List ℕ → Naming) → List ℕ → Naming
+unfoldable pub element_naming : (List ℕ → Result ⊤ NamingFault) → List ℕ → Result ⊤ NamingFault
 element_naming f e = naming_with f (named_table e)
 
 -- the two kinds of lists
 pub record Kind : Type 0 where
   pub reserved : List ℕ → Bool
   pub element : List ℕ → Element
-  pub naming : List ℕ → Naming
+  pub naming : List ℕ → Result ⊤ NamingFault
   pub looked : List ℕ → ℕ
 
 abbrev pub daemon_kind : View → Kind
@@ -112,15 +112,15 @@ client_kind v = record {
 }
 
 -- what is wrong with an element: 9 before 10, and these before what is wrong with the table that it names
-abbrev pub misnamed : Naming → ElementFault
-misnamed N.Sound = E.Sound
-misnamed N.Missing = E.Missing
-misnamed N.Deep = E.Deep
+abbrev pub misnamed : Result ⊤ NamingFault → Result ⊤ ElementFault
+misnamed (Ok tt) = Ok tt
+misnamed (Err N.Missing) = Err E.Missing
+misnamed (Err N.Deep) = Err E.Deep
 
-abbrev pub fault_of : Bool → Bool → Naming → ElementFault
-fault_of reserved sound naming = when reserved then E.Reserved else when sound then misnamed naming else E.Unknown
+abbrev pub fault_of : Bool → Bool → Result ⊤ NamingFault → Result ⊤ ElementFault
+fault_of reserved sound naming = when reserved then Err E.Reserved else when sound then misnamed naming else Err E.Unknown
 
-unfoldable pub element_fault : Kind → List ℕ → ElementFault
+unfoldable pub element_fault : Kind → List ℕ → Result ⊤ ElementFault
 element_fault kind e = fault_of (kind.reserved e) (is_some (kind.element e)) (kind.naming e)
 
 -- what an element finds, if it is looked at

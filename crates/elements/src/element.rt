@@ -26,12 +26,11 @@ use patterns::pattern::{
 use patterns::{Host, HostSeen, Name};
 use tables::word::{has_slash, is_table_name};
 use text::equal_fold;
-use views::{Naming, Reference, look_up};
+use views::{NamingFault, Reference, look_up};
 
 // What is wrong with an element: it begins with a reserved mark, is of no kind, or names a table that is missing or leads too deep.
 #[derive(Clone, Copy)]
 pub enum ElementFault {
-    Sound,
     Reserved,
     Unknown,
     Missing,
@@ -41,7 +40,7 @@ pub enum ElementFault {
 // What is wrong with an element, and what it finds and counts, if it is looked at.
 #[derive(Clone, Copy)]
 pub struct ElementSeen {
-    pub fault: ElementFault,
+    pub fault: Result<(), ElementFault>,
     pub found: Found,
     pub looked: u64,
 }
@@ -119,7 +118,7 @@ fn no_reference() -> Reference
     ensures { result ≡ no_reference }
 {
     Reference {
-        naming: Naming::Sound,
+        naming: Ok(()),
         matches: false,
         tried: 0,
     }
@@ -542,27 +541,31 @@ pub fn client_found(
 }
 
 // What is wrong with the table that a sound element names.
-fn fault_of_naming(naming: Naming) -> ElementFault
+fn fault_of_naming(naming: Result<(), NamingFault>) -> Result<(), ElementFault>
     ensures { result ≡ misnamed naming }
 {
     match naming {
-        Naming::Sound => ElementFault::Sound,
-        Naming::Missing => ElementFault::Missing,
-        Naming::Deep => ElementFault::Deep,
+        Ok(()) => Ok(()),
+        Err(NamingFault::Missing) => Err(ElementFault::Missing),
+        Err(NamingFault::Deep) => Err(ElementFault::Deep),
     }
 }
 
 // What is wrong with an element: 9 is answered before 10, and these before what is wrong with the table that it names.
-fn fault_of(reserved: bool, sound: bool, naming: Naming) -> ElementFault
+fn fault_of(
+    reserved: bool,
+    sound: bool,
+    naming: Result<(), NamingFault>,
+) -> Result<(), ElementFault>
     ensures { result ≡ fault_of reserved sound naming }
 {
     if reserved {
-        return ElementFault::Reserved;
+        return Err(ElementFault::Reserved);
     }
     if sound {
         fault_of_naming(naming)
     } else {
-        ElementFault::Unknown
+        Err(ElementFault::Unknown)
     }
 }
 
@@ -621,7 +624,7 @@ pub fn daemon_seen(
     if !is_word_size(e.len()) & (mask < 8) {
         let name = name_seen(e, true, look, daemon);
         return ElementSeen {
-            fault: fault_of(false, name.sound, Naming::Sound),
+            fault: fault_of(false, name.sound, Ok(())),
             found: found_if(name.matches),
             looked: count::if_looked(look, 0),
         };
@@ -709,7 +712,7 @@ pub fn client_seen(
     if mask < 8 {
         let host = told_seen(e, mask, look, client, client_name);
         return ElementSeen {
-            fault: fault_of(false, host.sound, Naming::Sound),
+            fault: fault_of(false, host.sound, Ok(())),
             found: found_if(host.matches),
             looked: count::if_looked(look, 0),
         };

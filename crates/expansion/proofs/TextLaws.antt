@@ -290,5 +290,5 @@ safe_step d s o at j b p e room h =
 pub safe_room : (d s o : List ℕ) (at j : ℕ) → Pasted d (map safe_byte s) o at j → at + length (map safe_byte s) ≤ length d → j < length s → at + j < length o
 safe_room d s o at j p room h = omega (arith, p.long, length-map s safe_byte)
 
-pub safe_all : (d s o : List ℕ) (at j : ℕ) → Pasted d (map safe_byte s) o at j → length s ≤ j → Wrote d o (map safe_byte s) at (at + j)
+pub safe_all : (d s o : List ℕ) (at j : ℕ) → Pasted d (map safe_byte s) o at j → length s ≤ j → Wrote d o (map safe_byte s) at (at + length s)
 safe_all d s o at j p h = (omega (arith, p.within, length-map s safe_byte), pasted_all d (map safe_byte s) o at j p (rw (length-map s safe_byte) h))

@@ -171,12 +171,10 @@ fn put_safe(out: &mut [u8], at: usize, s: &[u8]) -> usize
     ensures next { result ≡ at + length (map safe_byte s.now) }
     ensures written { out.new ≡ put_at out.old at (map safe_byte s.now) }
 {
-    let mut j = 0;
-    while j < s.len() {
+    for j in 0..s.len() {
         out[at + j] = safe_byte(s[j]);
-        j += 1;
     }
-    at + j
+    at + s.len()
 }
 
 // Writes a name, an `@` and a text.

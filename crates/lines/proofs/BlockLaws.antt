@@ -21,9 +21,6 @@ module _ (p : ℕ → Bool) where
     pub within : i ≤ length s
     pub so_far : all p s ≡ (c && all p (drop i s))
 
-  pub passing_start : (s : List ℕ) → Passing s 0 true
-  passing_start s = record { within = omega arith; so_far = refl }
-
   module _ {s : List ℕ} {i : ℕ} {c : Bool} (inv : Passing s i c) where
     pub passing_more : i < length s → Passing s (i + 1) (c && p (get_or s i 0))
     unfolding all

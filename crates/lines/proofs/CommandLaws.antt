@@ -8,7 +8,7 @@ use mathlib.Core.Bool.{Bool, true, false, not, ◌||◌, or-false}
 use mathlib.Core.List.{List, [], ◌∷◌, ◌++◌, reverse, reverse-append, reverse-reverse}
 use lib.Dec.{eqb}
 use lib.ListN.{length, take, drop, get_or, length-reverse, take-append-drop, drop_of_length-le}
-use lib.Seq.{drop-cons, take-suc, take-length, take_at, length-take-le}
+use lib.Seq.{drop-cons, take-suc, take_at, length-take-le}
 use borrow.Author.Tests.{ne_eqb}
 use Rattle.text.specs.Basics.{any}
 use Rattle.text.specs.Text.{among}
@@ -33,9 +33,6 @@ skip_blanks_drop (x ∷ t) = by (among " \t" x) refl (skip_blanks_drop t)
 pub record Trimmed (s : List ℕ) (e : ℕ) : Type 0 where
   pub within : e ≤ length s
   pub text : skip_blanks (reverse s) ≡ skip_blanks (reverse (take e s))
-
-pub trimmed_none : (s : List ℕ) → Trimmed s (length s)
-trimmed_none s = record { within = omega arith; text = rw take-length }
 
 reverse_take : (s : List ℕ) (e : ℕ) → 0 < e → e ≤ length s → reverse (take e s) ≡ get_or s (e - 1) 0 ∷ reverse (take (e - 1) s)
 reverse_take s zero l m = absurd (omega arith)

@@ -398,9 +398,11 @@ unfolding slash_before
 slash_next t start i h = rw (lt-ltb start (i + 1) (omega arith), add-sub_cancel i 1)
 
 module _ {t : List ℕ} {start i j : ℕ} {c : Bool} (inv : Scanning t start i j c) where
-  pub scanning_end : length t ≤ i → span i false j c ≡ span_at start (scan_line (drop start t))
+  pub scanning_end : length t ≤ i → span (length t) false j c ≡ span_at start (scan_line (drop start t))
   unfolding scan
-  scanning_end h = sym (inv.so_far ∙ rw (drop_of_length-le t h, add-zero i, add-zero j, and_true_right c))
+  scanning_end h =
+      let n : length t ≡ i = omega (arith, inv.within) in
+      rw n (sym (inv.so_far ∙ rw (drop_of_length-le t h, add-zero i, add-zero j, and_true_right c)))
 
   module _ (h : i < length t) where
     pub scanning_stop : get_or t i 0 ≡ 10 → (x : Bool) → x ≡ slash_before t start i → x ≡ false

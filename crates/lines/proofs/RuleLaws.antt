@@ -234,7 +234,7 @@ split_element (x ∷ t) = by (among " \t," x) refl (split_element t)
 
 -- s read by its first element
 pub record Step (s : List ℕ) : Type 0 where
-  pub None : length (first_element s) ≡ 0 → words s ≡ []
+  pub none : length (first_element s) ≡ 0 → words s ≡ []
   pub some : (length (first_element s) ≡ 0 → ⊥) → words s ≡ first_element s ∷ words (after_element s)
   pub less : (length (first_element s) ≡ 0 → ⊥) → length (after_element s) < length s
 
@@ -254,7 +254,7 @@ module _ (x : ℕ) (t : List ℕ) where
 
     step_parting : Step t → Step (x ∷ t)
     step_parting h = record {
-      None = λ z. words_parting ∙ h.none (rw (← first_element_parting) z);
+      none = λ z. words_parting ∙ h.none (rw (← first_element_parting) z);
       some = λ z. rw (words_parting, first_element_parting, after_element_parting) (h.some (λ y. z (rw first_element_parting y)));
       less = λ z. let l : length (after_element t) < length t = h.less (λ y. z (rw first_element_parting y)) in rw after_element_parting (omega arith);
     }
@@ -274,14 +274,14 @@ module _ (x : ℕ) (t : List ℕ) where
 
     step_byte : Step (x ∷ t)
     step_byte = record {
-      None = λ z. absurd (omega (arith, rw first_element_byte at z));
+      none = λ z. absurd (omega (arith, rw first_element_byte at z));
       some = λ z. rw (first_element_byte, after_element_byte) (words_byte (split_element t));
       less = λ z. rw (after_element_byte, length-drop) (omega arith);
     }
 
 pub step : (s : List ℕ) → Step s
 unfolding first_element words split non_empty span_len
-step [] = record { None = λ z. refl; some = λ z. absurd (z refl); less = λ z. absurd (z refl) }
+step [] = record { none = λ z. refl; some = λ z. absurd (z refl); less = λ z. absurd (z refl) }
 step (x ∷ t) = by (among " \t," x) refl (step t)
   where
     by : (b : Bool) → among " \t," x ≡ b → Step t → Step (x ∷ t)

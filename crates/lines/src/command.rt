@@ -16,15 +16,7 @@ fn blank_length(s: &[u8]) -> usize
     ensures count { result ≡ span_len is_blank_byte s.now }
     ensures within { result ≤ length s.now }
 {
-    let mut i = 0;
-    while i < s.len() {
-        if is_blank_byte(s[i]) {
-            i += 1;
-        } else {
-            return i;
-        }
-    }
-    i
+    s.iter().position(|b| !is_blank_byte(*b)).unwrap_or(s.len())
 }
 
 // How many bytes of s stand before the spaces and tabs at its end.
@@ -32,16 +24,12 @@ fn unblanked_length(s: &[u8]) -> usize
     ensures count { result ≡ unblanked_length s.now }
     ensures within { result ≤ length s.now }
 {
-    let mut e = s.len();
-    while 0 < e {
-        let k = e - 1;
-        if is_blank_byte(s[k]) {
-            e = k;
-        } else {
-            return e;
+    for k in (0..s.len()).rev() {
+        if !is_blank_byte(s[k]) {
+            return k + 1;
         }
     }
-    e
+    0
 }
 
 // s without the spaces and tabs at either end.

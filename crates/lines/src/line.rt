@@ -32,11 +32,8 @@ fn is_printable(s: &[u8]) -> bool
     ensures { result ≡ all printable s.now }
 {
     let mut all = true;
-    let mut i = 0;
-    while i < s.len() {
-        let b = s[i];
+    for &b in s {
         all = all & ((b' ' <= b) & (b <= b'~'));
-        i += 1;
     }
     all
 }
@@ -73,17 +70,16 @@ pub fn scan_line(text: &[u8], start: usize) -> LineSpan
     ensures scanned { result ≡ span_at start (scan_line (drop start text.now)) }
     ensures bounds { SpanBounds (length text.now) start result }
 {
-    let mut i = printable_end(text, start);
     let mut joins = 0;
     let mut clean = true;
-    while i < text.len() {
+    for i in printable_end(text, start)..text.len() {
         let b = text[i];
         if (b' ' <= b) & (b <= b'~') {
-            i += 1;
-        } else if b == b'\n' {
+            continue;
+        }
+        if b == b'\n' {
             if follows_slash(text, start, i) {
                 joins += 1;
-                i += 1;
             } else {
                 return LineSpan {
                     end: i,
@@ -94,11 +90,10 @@ pub fn scan_line(text: &[u8], start: usize) -> LineSpan
             }
         } else {
             clean = clean & (b == b'\t');
-            i += 1;
         }
     }
     LineSpan {
-        end: i,
+        end: text.len(),
         ended: false,
         joins,
         clean,

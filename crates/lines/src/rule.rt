@@ -17,11 +17,8 @@ fn is_unmarked(s: &[u8]) -> bool
     ensures { result ≡ all unmarked s.now }
 {
     let mut all = true;
-    let mut i = 0;
-    while i < s.len() {
-        let b = s[i];
+    for &b in s {
         all = all & ((b != b':') & (b != b'['));
-        i += 1;
     }
     all
 }

@@ -16,8 +16,8 @@ use Rattle.lines.specs.Parts.{separator_index, after_separator, words, trim_blan
 use Rattle.lines.proofs.RuleLaws.{rule, parse_rule_none}
 use Rattle.elements.specs.declared.element.ElementFault.{ElementFault}
 use Rattle.elements.specs.declared.element.ElementFault.TheVariants as E
-use Rattle.views.specs.declared.Naming.{Naming}
-use Rattle.views.specs.declared.Naming.TheVariants as N
+use Rattle.views.specs.declared.NamingFault.{NamingFault}
+use Rattle.views.specs.declared.NamingFault.TheVariants as N
 use Rattle.elements.specs.Code.{View, Kind, daemon_kind, client_kind, naming_with, element_naming, fault_of, element_fault}
 use Rattle.elements.specs.Element.{daemon_reserved, client_reserved, named_table, daemon_element, client_element}
 use Rattle.elements.proofs.ElementLaws.{daemon_sound, client_sound}
@@ -29,6 +29,7 @@ use Rattle.lists.specs.ListCode.{list_more, list_end}
 use Rattle.lists.specs.ListCode.{naming_fault_of, lowest_of, client_words, bad_command_after, rest_fault}
 use Rattle.lists.proofs.ExceptLaws.{no_element, any_element, except_daemon_start, except_client_start, except_daemon, except_client}
 use Rattle.lists.proofs.JoinedLaws.{has_bad_percent_joined, after_separator_joined, parse_rule_joined}
+use Rattle.section.specs.declared.Fault.{Fault}
 
 -- ## One list
 
@@ -38,11 +39,11 @@ module _ (kind : Kind) (w : List ℕ) where
   unfolding element_fault
   element_fault_tests = by (kind.reserved w) (is_some (kind.element w)) (kind.naming w)
     where
-      by : (r k : Bool) (n : Naming) → (is_reserved (fault_of r k n) ≡ r) × (is_fault (fault_of r k n) ≡ (r || not k))
+      by : (r k : Bool) (n : Result ⊤ NamingFault) → (is_reserved (fault_of r k n) ≡ r) × (is_fault (fault_of r k n) ≡ (r || not k))
       by true k n = (refl, refl)
-      by false true N.Sound = (refl, refl)
-      by false true N.Missing = (refl, refl)
-      by false true N.Deep = (refl, refl)
+      by false true (Ok tt) = (refl, refl)
+      by false true (Err N.Missing) = (refl, refl)
+      by false true (Err N.Deep) = (refl, refl)
       by false false n = (refl, refl)
 
   pub list_from_cons : (after : Bool) (c : ListCheck) (ws : List (List ℕ))
@@ -66,21 +67,21 @@ module _ (kind : Kind) (w : List ℕ) where
   unfolding element_fault
   sound_naming = by (kind.reserved w) (is_some (kind.element w)) (kind.naming w)
     where
-      by : (r k : Bool) (n : Naming) → (r || not k) ≡ false → (is_missing (fault_of r k n) ≡ is_missing_name n) × (is_deep (fault_of r k n) ≡ is_deep_name n)
+      by : (r k : Bool) (n : Result ⊤ NamingFault) → (r || not k) ≡ false → (is_missing (fault_of r k n) ≡ is_missing_name n) × (is_deep (fault_of r k n) ≡ is_deep_name n)
       by true k n h = absurd (true≢false h)
       by false false n h = absurd (true≢false h)
-      by false true N.Sound h = (refl, refl)
-      by false true N.Missing h = (refl, refl)
-      by false true N.Deep h = (refl, refl)
+      by false true (Ok tt) h = (refl, refl)
+      by false true (Err N.Missing) h = (refl, refl)
+      by false true (Err N.Deep) h = (refl, refl)
 
-pub list_more_is : (c : ListCheck) (after x : Bool) (f : ElementFault) (r : Bool) → r ≡ is_reserved f → (u : Bool) → u ≡ is_fault f
+pub list_more_is : (c : ListCheck) (after x : Bool) (f : Result ⊤ ElementFault) (r : Bool) → r ≡ is_reserved f → (u : Bool) → u ≡ is_fault f
     → (n : Bool) → n ≡ is_missing f → (d : Bool) → d ≡ is_deep f
     → checks (c.empty && x) (c.misplaced || x && not after) (c.reserved || r) (c.unsound || u) (c.missing || n) (c.deep || d) ≡ list_more c after x f
 unfolding list_more
 list_more_is c after x f r is-r u is-u n is-n d is_d = rw (is-r, is-u, is-n, is_d)
 
 -- a sound element
-module _ (c : ListCheck) (after x : Bool) (f : ElementFault) (is_f : f ≡ E.Sound) where
+module _ (c : ListCheck) (after x : Bool) (f : Result ⊤ ElementFault) (is_f : f ≡ Ok tt) where
   kept : (e m : Bool) → e ≡ (c.empty && x) → m ≡ (c.misplaced || x && not after)
       → checks e m c.reserved c.unsound c.missing c.deep ≡ list_more c after x f
   unfolding list_more
@@ -159,7 +160,7 @@ any_or p q (x ∷ s) = rw (any_or p q s) (or_swap (p x) (q x) (any p s) (any q s
 -- ## The tables that sound elements name
 
 -- how an element names a table, by the name alone
-naming_missing : (f : List ℕ → Naming) (e : List ℕ) → is_missing_name (element_naming f e) ≡ holds (λ n. is_missing_name (f n)) (named_table e)
+naming_missing : (f : List ℕ → Result ⊤ NamingFault) (e : List ℕ) → is_missing_name (element_naming f e) ≡ holds (λ n. is_missing_name (f n)) (named_table e)
 unfolding element_naming
 naming_missing f e = by (named_table e)
   where
@@ -167,7 +168,7 @@ naming_missing f e = by (named_table e)
     by None = refl
     by (Some n) = refl
 
-naming_deep : (f : List ℕ → Naming) (e : List ℕ) → is_deep_name (element_naming f e) ≡ holds (λ n. is_deep_name (f n)) (named_table e)
+naming_deep : (f : List ℕ → Result ⊤ NamingFault) (e : List ℕ) → is_deep_name (element_naming f e) ≡ holds (λ n. is_deep_name (f n)) (named_table e)
 unfolding element_naming
 naming_deep f e = by (named_table e)
   where
@@ -190,7 +191,7 @@ any_where u p q h (w ∷ ws) k =
 abbrev names : (List ℕ → Bool) → List (List ℕ) → Bool
 names p ws = any (λ e. holds p (named_table e)) ws
 
-module _ (kind : Kind) (f : List ℕ → Naming) (same : (e : List ℕ) → kind.naming e ≡ element_naming f e) (ws : List (List ℕ)) where
+module _ (kind : Kind) (f : List ℕ → Result ⊤ NamingFault) (same : (e : List ℕ) → kind.naming e ≡ element_naming f e) (ws : List (List ℕ)) where
   list_naming : (any kind.reserved ws || any (λ e. not (is_some (kind.element e))) ws) ≡ false
       → (any (names_missing kind) ws ≡ names (λ n. is_missing_name (f n)) ws) × (any (names_deep kind) ws ≡ names (λ n. is_deep_name (f n)) ws)
   list_naming h =

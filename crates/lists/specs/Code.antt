@@ -10,8 +10,8 @@ use Rattle.text.specs.Basics.{when◌then◌else◌, ◌or_else◌, given, all}
 use Rattle.section.specs.declared.Fault.{Fault}
 use Rattle.section.specs.declared.Fault.TheVariants as F
 use Rattle.lines.specs.Rule.{Rule, parse_rule}
-use Rattle.views.specs.declared.Naming.{Naming}
-use Rattle.views.specs.declared.Naming.TheVariants as Naming
+use Rattle.views.specs.declared.NamingFault.{NamingFault}
+use Rattle.views.specs.declared.NamingFault.TheVariants as NamingFault
 use Rattle.elements.specs.declared.Found.{Found}
 use Rattle.elements.specs.declared.Found.TheVariants.{No}
 use Rattle.elements.specs.Request.{Request}
@@ -50,15 +50,15 @@ unfoldable pub line_looked : View → Request → List ℕ → ℕ
 line_looked v r t = looked_of v r (parse_rule t)
 
 -- a table may not be named: it is missing, it leads too deep
-abbrev pub is_missing_name : Naming → Bool
-is_missing_name Naming.Sound = false
-is_missing_name Naming.Missing = true
-is_missing_name Naming.Deep = false
+abbrev pub is_missing_name : Result ⊤ NamingFault → Bool
+is_missing_name (Ok tt) = false
+is_missing_name (Err NamingFault.Missing) = true
+is_missing_name (Err NamingFault.Deep) = false
 
-abbrev pub is_deep_name : Naming → Bool
-is_deep_name Naming.Sound = false
-is_deep_name Naming.Missing = false
-is_deep_name Naming.Deep = true
+abbrev pub is_deep_name : Result ⊤ NamingFault → Bool
+is_deep_name (Ok tt) = false
+is_deep_name (Err NamingFault.Missing) = false
+is_deep_name (Err NamingFault.Deep) = true
 
 abbrev pub missing_by : View → List ℕ → Bool
 missing_by v n = is_missing_name (v.naming n)

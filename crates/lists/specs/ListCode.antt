@@ -31,6 +31,7 @@ use Rattle.lists.specs.declared.check.ListCheck.{ListCheck}
 use Rattle.lists.specs.Check.{except_misplaced}
 use Rattle.lists.specs.Walk.{on_found, included, excluded}
 use Rattle.lists.specs.Looked.{looked_included, looked_excluded}
+use Rattle.section.specs.declared.Fault.{Fault}
 
 -- ## Checking a list
 
@@ -38,19 +39,19 @@ use Rattle.lists.specs.Looked.{looked_included, looked_excluded}
 abbrev pub is_unsound : Kind → List ℕ → Bool
 is_unsound kind e = kind.reserved e || not (is_some (kind.element e))
 
-abbrev pub is_missing : ElementFault → Bool
-is_missing E.Sound = false
-is_missing E.Reserved = false
-is_missing E.Unknown = false
-is_missing E.Missing = true
-is_missing E.Deep = false
+abbrev pub is_missing : Result ⊤ ElementFault → Bool
+is_missing (Ok tt) = false
+is_missing (Err E.Reserved) = false
+is_missing (Err E.Unknown) = false
+is_missing (Err E.Missing) = true
+is_missing (Err E.Deep) = false
 
-abbrev pub is_deep : ElementFault → Bool
-is_deep E.Sound = false
-is_deep E.Reserved = false
-is_deep E.Unknown = false
-is_deep E.Missing = false
-is_deep E.Deep = true
+abbrev pub is_deep : Result ⊤ ElementFault → Bool
+is_deep (Ok tt) = false
+is_deep (Err E.Reserved) = false
+is_deep (Err E.Unknown) = false
+is_deep (Err E.Missing) = false
+is_deep (Err E.Deep) = true
 
 abbrev pub checks : Bool → Bool → Bool → Bool → Bool → Bool → ListCheck
 checks e m r u n d = record { empty = e; misplaced = m; reserved = r; unsound = u; missing = n; deep = d }
@@ -80,21 +81,21 @@ list_from kind after c ws =
     (c.missing || any (names_missing kind) ws)
     (c.deep || any (names_deep kind) ws)
 
-abbrev pub is_reserved : ElementFault → Bool
-is_reserved E.Sound = false
-is_reserved E.Reserved = true
-is_reserved E.Unknown = false
-is_reserved E.Missing = false
-is_reserved E.Deep = false
+abbrev pub is_reserved : Result ⊤ ElementFault → Bool
+is_reserved (Ok tt) = false
+is_reserved (Err E.Reserved) = true
+is_reserved (Err E.Unknown) = false
+is_reserved (Err E.Missing) = false
+is_reserved (Err E.Deep) = false
 
-abbrev pub is_fault : ElementFault → Bool
-is_fault E.Sound = false
-is_fault E.Reserved = true
-is_fault E.Unknown = true
-is_fault E.Missing = false
-is_fault E.Deep = false
+abbrev pub is_fault : Result ⊤ ElementFault → Bool
+is_fault (Ok tt) = false
+is_fault (Err E.Reserved) = true
+is_fault (Err E.Unknown) = true
+is_fault (Err E.Missing) = false
+is_fault (Err E.Deep) = false
 
-unfoldable pub list_more : ListCheck → Bool → Bool → ElementFault → ListCheck
+unfoldable pub list_more : ListCheck → Bool → Bool → Result ⊤ ElementFault → ListCheck
 list_more c after x f =
     checks (c.empty && x) (c.misplaced || x && not after) (c.reserved || is_reserved f) (c.unsound || is_fault f)
     (c.missing || is_missing f) (c.deep || is_deep f)

@@ -21,54 +21,54 @@ pub struct ListCheck {
 }
 
 // Whether f is a reserved start.
-fn is_reserved(f: ElementFault) -> bool
+fn is_reserved(f: Result<(), ElementFault>) -> bool
     ensures { result ≡ is_reserved f }
 {
     match f {
-        ElementFault::Sound => false,
-        ElementFault::Reserved => true,
-        ElementFault::Unknown => false,
-        ElementFault::Missing => false,
-        ElementFault::Deep => false,
+        Ok(()) => false,
+        Err(ElementFault::Reserved) => true,
+        Err(ElementFault::Unknown) => false,
+        Err(ElementFault::Missing) => false,
+        Err(ElementFault::Deep) => false,
     }
 }
 
 // Whether f is a fault of the element itself.
-fn is_fault(f: ElementFault) -> bool
+fn is_fault(f: Result<(), ElementFault>) -> bool
     ensures { result ≡ is_fault f }
 {
     match f {
-        ElementFault::Sound => false,
-        ElementFault::Reserved => true,
-        ElementFault::Unknown => true,
-        ElementFault::Missing => false,
-        ElementFault::Deep => false,
+        Ok(()) => false,
+        Err(ElementFault::Reserved) => true,
+        Err(ElementFault::Unknown) => true,
+        Err(ElementFault::Missing) => false,
+        Err(ElementFault::Deep) => false,
     }
 }
 
 // Whether f is a table that is missing.
-fn is_missing(f: ElementFault) -> bool
+fn is_missing(f: Result<(), ElementFault>) -> bool
     ensures { result ≡ is_missing f }
 {
     match f {
-        ElementFault::Sound => false,
-        ElementFault::Reserved => false,
-        ElementFault::Unknown => false,
-        ElementFault::Missing => true,
-        ElementFault::Deep => false,
+        Ok(()) => false,
+        Err(ElementFault::Reserved) => false,
+        Err(ElementFault::Unknown) => false,
+        Err(ElementFault::Missing) => true,
+        Err(ElementFault::Deep) => false,
     }
 }
 
 // Whether f is a table that leads too deep.
-fn is_deep(f: ElementFault) -> bool
+fn is_deep(f: Result<(), ElementFault>) -> bool
     ensures { result ≡ is_deep f }
 {
     match f {
-        ElementFault::Sound => false,
-        ElementFault::Reserved => false,
-        ElementFault::Unknown => false,
-        ElementFault::Missing => false,
-        ElementFault::Deep => true,
+        Ok(()) => false,
+        Err(ElementFault::Reserved) => false,
+        Err(ElementFault::Unknown) => false,
+        Err(ElementFault::Missing) => false,
+        Err(ElementFault::Deep) => true,
     }
 }
 
@@ -87,7 +87,7 @@ pub fn list_start() -> ListCheck
 }
 
 // c, one faulty element further; after: whether an element stands directly before it, x: whether it is EXCEPT.
-fn list_fault(c: ListCheck, after: bool, x: bool, f: ElementFault) -> ListCheck
+fn list_fault(c: ListCheck, after: bool, x: bool, f: Result<(), ElementFault>) -> ListCheck
     ensures { result ≡ list_more c after x f }
 {
     ListCheck {
@@ -102,11 +102,11 @@ fn list_fault(c: ListCheck, after: bool, x: bool, f: ElementFault) -> ListCheck
 
 // What was found so far, one element further; after: whether an element stands directly before it, x: whether it is EXCEPT. Most are
 // sound, and tell no more than that there is an element.
-pub fn list_more(so_far: ListCheck, after: bool, x: bool, f: ElementFault) -> ListCheck
+pub fn list_more(so_far: ListCheck, after: bool, x: bool, f: Result<(), ElementFault>) -> ListCheck
     ensures { result ≡ list_more so_far after x f }
 {
     match f {
-        ElementFault::Sound => {
+        Ok(()) => {
             if x {
                 ListCheck {
                     empty: so_far.empty,
@@ -127,10 +127,10 @@ pub fn list_more(so_far: ListCheck, after: bool, x: bool, f: ElementFault) -> Li
                 }
             }
         }
-        ElementFault::Reserved => list_fault(so_far, after, x, f),
-        ElementFault::Unknown => list_fault(so_far, after, x, f),
-        ElementFault::Missing => list_fault(so_far, after, x, f),
-        ElementFault::Deep => list_fault(so_far, after, x, f),
+        Err(ElementFault::Reserved) => list_fault(so_far, after, x, f),
+        Err(ElementFault::Unknown) => list_fault(so_far, after, x, f),
+        Err(ElementFault::Missing) => list_fault(so_far, after, x, f),
+        Err(ElementFault::Deep) => list_fault(so_far, after, x, f),
     }
 }
 

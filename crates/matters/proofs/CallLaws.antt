@@ -40,18 +40,22 @@ use Rattle.matters.proofs.SettleLaws.{quiet_settled}
 
 -- ## The answer to a request whose user is not fetched
 
+-- all users get this place
+abbrev all_get : Place → Outcome (Option Place)
+all_get p = Ok (Some p)
+
 module _ (m : Matcher) (allow deny : List ℕ) (r : Request) (a : Answer) (is-a : Unasked m allow deny r (place_of a)) where
-  quiet : (v : Verdict) → a.verdict ≡ v → QuietVerdict v → Ok (Some (place_of a)) ≡ Ok (settled m allow deny r)
+  quiet : (v : Verdict) → a.verdict ≡ v → QuietVerdict v → all_get (place_of a) ≡ Ok (settled m allow deny r)
   unfolding Unasked
   quiet v e q =
       let s : (search m allow deny (unfetched r)).verdict ≡ v = ap (λ (p : Place). p.verdict) is-a ∙ e in
-      rw (quiet_settled m allow deny r r.user_name (subst QuietVerdict (sym s) q)) (ap Ok (Some (sym is-a)))
+      rw (quiet_settled m allow deny r r.user_name (subst QuietVerdict (sym s) q)) (ap all_get (sym is-a))
 
-  pub by_granted : (v : Verdict) → v ≡ a.verdict → v ≡ Ver.Granted → Ok (Some (place v a.file a.line)) ≡ Ok (settled m allow deny r)
-  by_granted v is_v e = ap (λ (x : Verdict). Ok (Some (place x a.file a.line))) is_v ∙ quiet Ver.Granted (sym is_v ∙ e) tt
+  pub by_granted : (v : Verdict) → v ≡ a.verdict → v ≡ Ver.Granted → all_get (place v a.file a.line) ≡ Ok (settled m allow deny r)
+  by_granted v is_v e = ap (λ (x : Verdict). all_get (place x a.file a.line)) is_v ∙ quiet Ver.Granted (sym is_v ∙ e) tt
 
-  pub by_denied : (v : Verdict) → v ≡ a.verdict → v ≡ Ver.Denied → Ok (Some (place v a.file a.line)) ≡ Ok (settled m allow deny r)
-  by_denied v is_v e = ap (λ (x : Verdict). Ok (Some (place x a.file a.line))) is_v ∙ quiet Ver.Denied (sym is_v ∙ e) tt
+  pub by_denied : (v : Verdict) → v ≡ a.verdict → v ≡ Ver.Denied → all_get (place v a.file a.line) ≡ Ok (settled m allow deny r)
+  by_denied v is_v e = ap (λ (x : Verdict). all_get (place x a.file a.line)) is_v ∙ quiet Ver.Denied (sym is_v ∙ e) tt
 
 pub by_asking : (m : Matcher) (allow deny names : List ℕ) (q h : Places) → h ≡ held_at q → (x : Result (Option Place) Refusal) → x ≡ Ok (settled m allow deny (request_at names h))
     → x ≡ Ok (settled m allow deny (held (request_at names q)))

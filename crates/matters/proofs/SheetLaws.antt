@@ -182,20 +182,12 @@ module _ (sheet names : List ℕ) (q : Places) where
     unfolding unfetched_at
     given_unfetched = gives
 
-    module _ (x : Result Parts Refusal) (is_x : x ≡ (frame sheet)) where
-      frame_refused : (o : Outcome Parts) (g : Refusal) → o ≡ Err g → o ≡ Err g
-      frame_refused (Err h) g e = ap Err (ap (λ (x : Result Parts Refusal). elim x [ Err k ↦ k | Ok p ↦ h ]) e)
-      frame_refused (Ok p) g e = absurd (true≢false (ap (λ (x : Result Parts Refusal). elim x [ Err k ↦ false | Ok p ↦ true ]) e))
-
-      frame_parts : (o : Outcome Parts) (p : Parts) → o ≡ Ok p → o ≡ Ok p
-      frame_parts (Err h) p e = absurd (true≢false (ap (λ (x : Result Parts Refusal). elim x [ Err k ↦ true | Ok p ↦ false ]) e))
-      frame_parts (Ok q) p e = ap Ok (ap (λ (x : Result Parts Refusal). elim x [ Err k ↦ q | Ok r ↦ r ]) e)
-
+    module _ (x : Result Parts Refusal) (is_x : x ≡ frame sheet) where
       pub sheet_unframed : (g : Refusal) → x ≡ Err g → Err g ≡ by_sheet_lem
-      sheet_unframed g e = absurd (refused_frame sheet own fits a given_unfetched g (frame_refused (frame sheet) g (sym is_x ∙ e)))
+      sheet_unframed g e = absurd (refused_frame sheet own fits a given_unfetched g (sym is_x ∙ e))
 
       pub sheet_framed : (p : Parts) → x ≡ Ok p → frame sheet ≡ Ok p
-      sheet_framed p e = frame_parts (frame sheet) p (sym is_x ∙ e)
+      sheet_framed p e = sym is_x ∙ e
 
     module _ (p : Parts) (framed : frame sheet ≡ Ok p) (al : List ℕ) (is-al : al ≡ bytes_at sheet p.allow) (de : List ℕ)
         (is-de : de ≡ bytes_at sheet p.deny)

@@ -13,6 +13,8 @@ use lib.Seq.{take_at}
 use Rattle.text.specs.Basics.{◌or_else◌, all, first}
 use Rattle.text.specs.Text.{in_range, split}
 use Rattle.section.specs.declared.Fault.{Fault}
+use Rattle.section.specs.declared.Refusal.{Refusal}
+use Rattle.section.specs.Refusal.{Outcome}
 use Rattle.section.specs.Section.{bytes_at}
 use Rattle.lines.specs.declared.line.LineSpan.{LineSpan}
 use Rattle.lines.specs.Line.{Line, line, join, logical_lines, lines}
@@ -50,6 +52,7 @@ use Rattle.matters.specs.declared.Telling.TheVariants as T
 use Rattle.matters.specs.Matters.{place, same_found, fresh_name, told_of, told_by, told_at}
 use Rattle.matters.specs.Code.{Finder, finder_by, name_agrees, half_agrees, asked_list, list_told_on, list_told, clients_told, parsed_by, kind_told, text_told_by}
 use Rattle.matters.specs.Code.{telling_of, settled_by, ended_by}
+use Rattle.section.specs.declared.Refusal.{Refusal}
 
 -- ## A request at places of a block
 
@@ -331,11 +334,11 @@ module _ (F : Finder) (allow deny : List ℕ) (a : Telling) (is-a : a ≡ tellin
   told_nothing (Some None) e = absurd (true≢false (ap (λ (t : Telling). elim t [ T.Nothing ↦ true | T.Settled x ↦ false | T.Matters ↦ false ]) e))
   told_nothing (Some (Some q)) e = absurd (true≢false (ap (λ (t : Telling). elim t [ T.Nothing ↦ true | T.Settled x ↦ false | T.Matters ↦ false ]) e))
 
-  pub both_settled : (p : Place) → a ≡ T.Settled p → Ok (Some p) ≡ Ok (settled_by F allow deny)
+  pub both_settled : (p : Place) → a ≡ T.Settled p → ◌≡◌ {A = Outcome (Option Place)} (Ok (Some p)) (Ok (settled_by F allow deny))
   unfolding settled_by
   both_settled p e = rw (← told_some (text_told_by Granted Allow F allow) p (sym e ∙ is-a))
 
-  pub both_matters : a ≡ T.Matters → Ok None ≡ Ok (settled_by F allow deny)
+  pub both_matters : a ≡ T.Matters → ◌≡◌ {A = Outcome (Option Place)} (Ok None) (Ok (settled_by F allow deny))
   unfolding settled_by
   both_matters e = rw (← told_none (text_told_by Granted Allow F allow) (sym e ∙ is-a))
 

@@ -15,6 +15,7 @@ use Rattle.std.specs.Prelude.{ℕ, zero, suc, ◌+◌, ◌*◌, ◌/◌, ◌%◌
 use Rattle.text.specs.Basics.{when◌then◌else◌, ◌or_else◌, all, first}
 use Rattle.text.specs.Text.{in_range, equal_fold}
 use Rattle.section.specs.declared.Fault.TheVariants as F
+use Rattle.section.specs.declared.Refusal.{Refusal}
 use Rattle.section.specs.Refusal.{placeless}
 use Rattle.section.specs.Section.{part, bytes_at}
 use Rattle.lines.specs.Line.{Line, lines}
@@ -36,6 +37,7 @@ use Rattle.rules.specs.declared.Verdict.{Verdict}
 use Rattle.rules.specs.declared.Verdict.TheVariants.{Granted, Denied}
 use Rattle.rules.specs.declared.File.{File}
 use Rattle.rules.specs.declared.File.TheVariants.{Neither, Allow, Deny}
+use Rattle.rules.specs.declared.Answer.{Answer}
 use Rattle.rules.specs.declared.hosts_file.LineKind.{LineKind}
 use Rattle.rules.specs.declared.hosts_file.LineKind.TheVariants as Kind
 use Rattle.rules.specs.Search.{search}
@@ -46,6 +48,8 @@ use Rattle.matters.specs.declared.Told.TheVariants as Told
 use Rattle.matters.specs.declared.Telling.{Telling}
 use Rattle.matters.specs.declared.Telling.TheVariants as T
 use Rattle.matters.specs.Matters.{place, place_of, same_found, fresh_name, half_holds, told_by, told_at}
+use Rattle.section.specs.declared.Refusal.{Refusal}
+use Rattle.rules.specs.declared.Answer.{Answer}
 
 pub record Finder : Type 0 where
   pub daemons : List (List ℕ) → Found

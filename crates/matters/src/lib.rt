@@ -139,8 +139,7 @@ pub fn name_matters_tables(
     request: Request,
 ) -> Result<Option<Place>, Refusal>
     ensures { result
-        ≡
-        (name_matters_tables allow.now deny.now tables.now (Some (request_at names.now request))) }
+        ≡ name_matters_tables allow.now deny.now tables.now (Some (request_at names.now request)) }
 {
     if !fits(names, request) {
         let own = decide_tables(allow, deny, tables, names, request);

@@ -1,6 +1,6 @@
 -- Laws of the patterns of addresses: what they match is what their nets and prefixes cover.
 -- Assumes nothing.
-use Rattle.std.specs.Prelude.{None, Option, Some}
+use Rattle.std.specs.Prelude.{None, Option, Some, unwrap_or}
 use Prim.Native.Nat.{ℕ, zero, suc, ◌+◌, ◌-◌, ◌*◌, ◌/◌, ◌%◌, ◌^◌, ◌<◌, ◌≤◌}
 use mathlib.Core.Bool.{Bool, true, false, true≢false}
 use mathlib.Core.List.{List, [], ◌∷◌}
@@ -290,12 +290,24 @@ module _ (e : List ℕ) (r : Option (ℕ × ℕ × ℕ)) (is-r : r ≡ as_prefix
       by (Some p) k = let z : ◌≡◌ {A = ℕ} 0 1 = cc in absurd (omega arith)
 
   module _ (h l m : ℕ) (q : r ≡ Some (h, l, m)) where
+    read_all : (p : ℕ × ℕ) → r ≡ as_prefix (Some p) → ◌≡◌ {A = ℕ × ℕ × ℕ} (h, l, m) (p.0 / 2 ^ 64, p.0 % 2 ^ 64, p.1)
+    read_all p k = ap (λ (o : Option (ℕ × ℕ × ℕ)). unwrap_or {T = ℕ × ℕ × ℕ} o (h, l, m)) (sym q ∙ k)
+
+    read_high : (p : ℕ × ℕ) → r ≡ as_prefix (Some p) → h ≡ p.0 / 2 ^ 64
+    read_high p k = ap (λ (t : ℕ × ℕ × ℕ). t.0) (read_all p k)
+
+    read_low : (p : ℕ × ℕ) → r ≡ as_prefix (Some p) → l ≡ p.0 % 2 ^ 64
+    read_low p k = ap (λ (t : ℕ × ℕ × ℕ). t.1) (read_all p k)
+
+    read_length : (p : ℕ × ℕ) → r ≡ as_prefix (Some p) → m ≡ p.1
+    read_length p k = ap (λ (t : ℕ × ℕ × ℕ). t.2) (read_all p k)
+
     pub bracket_prefix_fits : m ≤ 128
     bracket_prefix_fits = by (bracket_prefix e) refl is-r
       where
         by : (o : Option (ℕ × ℕ)) → bracket_prefix e ≡ o → r ≡ as_prefix o → m ≤ 128
         by None j k = let z : ◌≡◌ {A = ℕ} 0 1 = cc in absurd (omega arith)
-        by (Some p) j k = let z : p.1 ≡ m = cc in omega (arith, bracket_prefix_le e p j)
+        by (Some p) j k = omega (arith, read_length p k, bracket_prefix_le e p j)
 
     pub prefix_covers_prefix : (a : ℕ) (x : Bool) → x ≡ same_prefix 128 m (h * 2 ^ 64 + l) a → x ≡ prefix_covers e a
     unfolding prefix_covers
@@ -304,7 +316,4 @@ module _ (e : List ℕ) (r : Option (ℕ × ℕ × ℕ)) (is-r : r ≡ as_prefix
         by : (o : Option (ℕ × ℕ)) → r ≡ as_prefix o → same_prefix 128 m (h * 2 ^ 64 + l) a ≡ holds (λ p. same_prefix 128 p.1 p.0 a) o
         by None k = let z : ◌≡◌ {A = ℕ} 0 1 = cc in absurd (omega arith)
         by (Some p) k =
-            let n : p.1 ≡ m = cc in
-            let u : p.0 / 2 ^ 64 ≡ h = cc in
-            let v : p.0 % 2 ^ 64 ≡ l = cc in
-            rw (← n, ← u, ← v, div-add-mod' p.0 (2 ^ 64))
+            rw (read_length p k, read_high p k, read_low p k, div-add-mod' p.0 (2 ^ 64))

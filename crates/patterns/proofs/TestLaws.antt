@@ -6,34 +6,23 @@ use mathlib.Core.Bool.{Bool, true, false, not, ◌&&◌}
 use mathlib.Core.Bool as Bool
 use mathlib.Core.List.{List, [], ◌∷◌, reverse-append}
 use mathlib.Core.Path.{◌≡◌, refl, sym, ap, ◌∙◌}
-use native.Mathlib.Numerals.{add-one}
 use native.Mathlib.Omega.{arith}
 use borrow.Author.Tests.{eqb-true, eqb-false, eq-eqb, ne_eqb}
 use lib.Dec.{eqb}
-use lib.ListN.{length, take, drop, get_or, length-drop, drop_of_length-le}
-use lib.Seq.{drop-cons, take-suc, take_all, take-nil, get_or-drop}
+use lib.ListN.{length, take, drop, get_or, length-drop}
+use lib.Seq.{take-suc, take_all, take-nil, get_or-drop}
+use Rattle.std.specs.List.{list_all}
 use Rattle.text.specs.Basics.{all, any}
 use Rattle.text.specs.Text.{among, first_among, last_among}
 use Rattle.text.specs.Scan.{span_len, index_of}
 
 -- ## All bytes
 
--- the loop that tests them, at i
-module _ (p : ℕ → Bool) (s : List ℕ) (i : ℕ) (so_far : all p s ≡ all p (drop i s)) where
-  module _ (h : i < length s) (x : Bool) (is_x : x ≡ p (get_or s i 0)) where
-    step : all p s ≡ (x && all p (drop (i + 1) s))
-    unfolding all
-    step = so_far ∙ rw (add-one, drop-cons s i 0, is_x)
-
-    pub all_stop : x ≡ false → false ≡ all p s
-    all_stop e = sym (step ∙ rw e)
-
-    pub all_more : x ≡ true → all p s ≡ all p (drop (i + 1) s)
-    all_more e = step ∙ rw e
-
-  pub all_end : length s ≤ i → true ≡ all p s
-  unfolding all
-  all_end h = sym (so_far ∙ rw (drop_of_length-le s h))
+-- as std's search over them says it
+pub list_all_is_all : (p : ℕ → Bool) (s : List ℕ) → list_all p s ≡ all p s
+unfolding all
+list_all_is_all p [] = refl
+list_all_is_all p (x ∷ s) = rw (list_all_is_all p s)
 
 -- ## The first byte
 

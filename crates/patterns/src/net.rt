@@ -99,8 +99,8 @@ fn pair_prefix(address: Option<(u64, u64)>, length: Option<u32>) -> Option<(u64,
     ensures { result ≡ prefix_with address length }
 {
     let (high, low) = address?;
-    let m = length?;
-    Some((high, low, m))
+    let n = length?;
+    Some((high, low, n))
 }
 
 // The prefix of a bracketed pattern: what stands between its first byte and the first closing bracket, and after that.

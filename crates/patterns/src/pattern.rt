@@ -78,15 +78,7 @@ pub fn is_name_byte(b: u8) -> bool
 pub fn is_name(s: &[u8]) -> bool
     ensures { result ≡ all is_name_byte s.now }
 {
-    let mut i = 0;
-    while i < s.len() {
-        if is_name_byte(s[i]) {
-            i += 1;
-        } else {
-            return false;
-        }
-    }
-    true
+    s.iter().all(|b| is_name_byte(*b))
 }
 
 // Whether b may stand in a dotted pattern: a digit, a dot or a slash.
@@ -100,15 +92,7 @@ fn is_dotted_byte(b: u8) -> bool
 fn is_dotted(s: &[u8]) -> bool
     ensures { result ≡ all is_dotted_byte s.now }
 {
-    let mut i = 0;
-    while i < s.len() {
-        if is_dotted_byte(s[i]) {
-            i += 1;
-        } else {
-            return false;
-        }
-    }
-    true
+    s.iter().all(|b| is_dotted_byte(*b))
 }
 
 // What e is read as, where it is no wildcard; dotted: whether it has only digits, dots and slashes.

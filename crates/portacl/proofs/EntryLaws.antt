@@ -1,17 +1,16 @@
 -- Laws of looking for an id, and of reading one entry.
 -- Assumes nothing.
 use Rattle.std.specs.Prelude.{None, Option, Some}
-use Prim.Native.Nat.{ℕ, ◌+◌, ◌-◌, ◌<◌, ◌≤◌}
+use Prim.Native.Nat.{ℕ, ◌+◌, ◌-◌, ◌≤◌}
 use Prim.Native.String.{String}
 use mathlib.Core.Bool.{Bool, true, false}
-use mathlib.Core.List.{List}
+use mathlib.Core.List.{List, [], ◌∷◌}
 use mathlib.Core.Path.{◌≡◌, refl, sym, ◌∙◌}
-use native.Mathlib.Numerals.{add-one}
 use native.Mathlib.Omega.{arith}
-use borrow.Author.Tests.{eq-eqb, ne_eqb}
+use borrow.Author.Tests.{eq-eqb, ne_eqb, eqb-true, eqb-false}
 use lib.Dec.{eqb}
-use lib.ListN.{length, take, drop, get_or, drop_of_length-le}
-use lib.Seq.{drop-cons}
+use lib.ListN.{length, take, drop}
+use Rattle.std.specs.List.{list_any}
 use Rattle.text.specs.Basics.{◌>>=◌, any}
 use Rattle.text.specs.Text.{bytes, equal, split_once}
 use Rattle.text.specs.Number.{read_decimal}
@@ -20,41 +19,36 @@ use Rattle.text.proofs.ScanLaws.{take_rest, split_once_mark, split_once_no_mark}
 use Rattle.portacl.specs.declared.Entry.{Entry}
 use Rattle.portacl.specs.Portacl.{read_word}
 
--- ## Among the ids, looked at one by one
+-- ## Among the ids
 
-module _ (x : ℕ) (l : List ℕ) (i : ℕ) (so_far : any (eqb x) l ≡ any (eqb x) (drop i l)) where
-  pub any_found : i < length l → x ≡ get_or l i 0 → true ≡ any (eqb x) l
-  unfolding any
-  any_found h e = sym (so_far ∙ rw (drop-cons l i 0, eq-eqb x (get_or l i 0) e))
+eqb_swap : (a b : ℕ) → eqb a b ≡ eqb b a
+eqb_swap a b = by (eqb b a) refl
+  where
+    by : (t : Bool) → eqb b a ≡ t → eqb a b ≡ t
+    by true e = eq-eqb a b (sym (eqb-true b a e))
+    by false e = ne_eqb a b (λ z. eqb-false b a e (sym z))
 
-  pub any_more : i < length l → (x ≡ get_or l i 0 → ⊥) → any (eqb x) l ≡ any (eqb x) (drop (i + 1) l)
-  unfolding any
-  any_more h n = so_far ∙ rw (add-one, drop-cons l i 0, ne_eqb x (get_or l i 0) n)
-
-  pub any_missing : length l ≤ i → false ≡ any (eqb x) l
-  unfolding any
-  any_missing h = sym (so_far ∙ rw (drop_of_length-le l h))
+-- whether x is one of l, as std's `contains` answers it
+pub any_contains : (x : ℕ) (l : List ℕ) (r : Bool) → r ≡ list_any (λ y. eqb y x) l → r ≡ any (eqb x) l
+unfolding any
+any_contains x l r e = e ∙ by l
+  where
+    by : (l : List ℕ) → list_any (λ y. eqb y x) l ≡ any (eqb x) l
+    by [] = refl
+    by (y ∷ l) = rw (eqb_swap y x, by l)
 
 -- ## Numbers and words
 
 -- a number of at most m that was read, and then f of it
-module _ (m : ℕ) (f : ℕ → Option Entry) (t : List ℕ) (k : Option ℕ) (is-k : k ≡ (read_decimal m t)) where
+module _ (m : ℕ) (f : ℕ → Option Entry) (t : List ℕ) (k : Option ℕ) (is-k : k ≡ read_decimal m t) where
   abbrev number : Option Entry
-  number = (read_decimal m t >>= f)
+  number = read_decimal m t >>= f
 
   pub number_none : k ≡ None → None ≡ number
-  number_none e = by (read_decimal m t) (sym is-k ∙ e)
-    where
-      by : (o : Option ℕ) → o ≡ None → None ≡ (o >>= f)
-      by None e = refl
-      by (Some n) e = let z : ◌≡◌ {A = ℕ} 0 1 = cc in absurd (omega arith)
+  number_none e = rw (sym is-k ∙ e)
 
   pub number_some : (n : ℕ) → k ≡ Some n → (r : Option Entry) → r ≡ f n → r ≡ number
-  number_some n e r h = by (read_decimal m t) (sym is-k ∙ e)
-    where
-      by : (o : Option ℕ) → o ≡ Some n → r ≡ (o >>= f)
-      by None e = let z : ◌≡◌ {A = ℕ} 0 1 = cc in absurd (omega arith)
-      by (Some j) e = let q : j ≡ n = cc in h ∙ rw (← q)
+  number_some n e r h = h ∙ rw (sym is-k ∙ e)
 
 -- ## A part up to the first colon, at i, and what follows it
 
@@ -78,7 +72,7 @@ module _ {A : Type 0} (f : List ℕ → Option A) (g : A → List ℕ → Option
 
 -- a number of at most m
 module _ (m : ℕ) (g : ℕ → List ℕ → Option Entry) (s : List ℕ) (i : ℕ) (is-i : i ≡ index_of 58 s) (n : i ≡ length s → ⊥) (h : i ≤ length s)
-    (k : Option ℕ) (is-k : k ≡ (read_decimal m (take i s))) where
+    (k : Option ℕ) (is-k : k ≡ read_decimal m (take i s)) where
   pub number_first_none : k ≡ None → None ≡ parts (read_decimal m) g s
   number_first_none e = rw (parts_some (read_decimal m) g s i is-i n h) (number_none m (λ a. g a (after s i)) (take i s) k is-k e)
 

@@ -141,14 +141,7 @@ fn same_protocol(a: Protocol, b: Protocol) -> bool
 fn is_among(id: u32, ids: &[u32]) -> bool
     ensures { result ≡ any (eqb id) ids.now }
 {
-    let mut i = 0;
-    while i < ids.len() {
-        if id == ids[i] {
-            return true;
-        }
-        i += 1;
-    }
-    false
+    ids.contains(&id)
 }
 
 // Whether the id is the uid, or for a group one of the groups.
@@ -293,13 +286,11 @@ pub fn decide(
         return Err(section::Portacl::refusal(Fault::OverLimit, 0));
     }
     if 16 < groups.len() {
-        return match check(text) {
-            Err(refusal) => Err(refusal),
-            Ok(()) => Err(section::placeless(Fault::BadRequest)),
-        };
+        check(text)?;
+        return Err(section::placeless(Fault::BadRequest));
     }
     match walk_entries(text, uid, groups, protocol, port) {
-        Err(number) => Err(section::Portacl::refusal(Fault::BadEntry, number)),
+        Err(n) => Err(section::Portacl::refusal(Fault::BadEntry, n)),
         Ok(granted) => Ok(by_settings(settings, uid, port, granted)),
     }
 }

@@ -1,6 +1,6 @@
 -- Laws of the decision by both files, shaped as the calls and tests of the code hand their facts over.
 -- Assumes nothing.
-use Rattle.std.specs.Prelude.{Err, None, Ok, Option, Result, Some}
+use Rattle.std.specs.Prelude.{Err, None, Ok, Option, Result, Some, ⊤}
 use Prim.Native.Nat.{ℕ, ◌+◌, ◌-◌, ◌≤◌, ◌<◌}
 use native.Mathlib.Omega.{arith}
 use mathlib.Core.Bool.{Bool, true, false, not}
@@ -16,8 +16,8 @@ use Rattle.section.specs.declared.Refusal.{Refusal}
 use Rattle.section.specs.Refusal.{refusal, placeless, ◌before◌}
 use Rattle.section.specs.Section as S
 use Rattle.lines.specs.Line.{Line, lines}
-use Rattle.tables.specs.declared.entry.Framing.{Framing}
-use Rattle.tables.specs.declared.entry.Framing.TheVariants as Framing
+use Rattle.tables.specs.declared.entry.FrameFault.{FrameFault}
+use Rattle.tables.specs.declared.entry.FrameFault.TheVariants as FrameFault
 use Rattle.tables.specs.Table.{Table, read_tables, tables_of, tables_frame, match_of}
 use Rattle.tables.specs.Code.{tables_in, frame_of}
 use Rattle.tables.specs.Tried.{capped}
@@ -220,24 +220,24 @@ module _ (allow deny tables : List ℕ) (r : Request) (x : Bool) (is_x : x ≡ l
         by None b c d = refl
         by (Some x) b c d = refl
 
-module _ (allow deny tables : List ℕ) (r : Request) (f : Framing) (is_f : f ≡ frame_of (read_tables tables)) where
+module _ (allow deny tables : List ℕ) (r : Request) (f : Result ⊤ FrameFault) (is_f : f ≡ frame_of (read_tables tables)) where
   abbrev framed_report : Reported
   framed_report = reported ((tables_frame tables or_else contents_fault allow deny tables) before decide_over (tables_of tables) allow deny (Some r))
       (looked_over (tables_of tables) allow deny (Some r))
 
-  pub framed_cut : f ≡ Framing.Cut → (g : Refusal) → g ≡ refusal F.CutShort 5 0 → (z : Reported) → z ≡ refused_report g → z ≡ framed_report
+  pub framed_cut : f ≡ Err FrameFault.Cut → (g : Refusal) → g ≡ refusal F.CutShort 5 0 → (z : Reported) → z ≡ refused_report g → z ≡ framed_report
   framed_cut k g is-g z is-z = is-z ∙ rw (frame_cut tables f is_f k, is-g)
 
-  pub framed_trailing : f ≡ Framing.Trailing → (g : Refusal) → g ≡ placeless F.TrailingBytes → (z : Reported) → z ≡ refused_report g → z ≡ framed_report
+  pub framed_trailing : f ≡ Err FrameFault.Trailing → (g : Refusal) → g ≡ placeless F.TrailingBytes → (z : Reported) → z ≡ refused_report g → z ≡ framed_report
   framed_trailing k g is-g z is-z = is-z ∙ rw (frame_trailing tables f is_f k, is-g)
 
-  pub framed_contents : f ≡ Framing.Sound → (q : Reported)
+  pub framed_contents : f ≡ (Ok tt) → (q : Reported)
       → q ≡ reported (contents_fault allow deny tables before decide_over (tables_of tables) allow deny (Some r))
       (looked_over (tables_of tables) allow deny (Some r))
       → q ≡ framed_report
   framed_contents k q is-q = is-q ∙ sym (rw (frame_sound tables f is_f k))
 
-  pub framed_whole : f ≡ Framing.Sound → tables_in tables ≡ tables_of tables
+  pub framed_whole : f ≡ (Ok tt) → tables_in tables ≡ tables_of tables
   framed_whole k = tables_in_of tables (sym is_f ∙ k)
 
 -- no tables at all

@@ -18,8 +18,8 @@ use Rattle.tables.specs.declared.check.TablesCheck.{TablesCheck}
 use Rattle.tables.specs.Table.{Table, tables_of, is_missing, leads_past, table_name_fault, bad_table_fault}
 use Rattle.tables.specs.Code.{tables_in, tables_checked}
 use Rattle.tables.proofs.TableLaws.{names_none, names_some, bad_told}
-use Rattle.views.specs.declared.Naming.{Naming}
-use Rattle.views.specs.declared.Naming.TheVariants as Naming
+use Rattle.views.specs.declared.NamingFault.{NamingFault}
+use Rattle.views.specs.declared.NamingFault.TheVariants as NamingFault
 use Rattle.views.specs.View.{naming_of, Deep}
 use Rattle.views.proofs.NamesLaws.{other_place}
 use Rattle.views.proofs.ViewLaws.{closed, naming_right, names_only, unjudged}
@@ -94,7 +94,7 @@ module _ (allow deny t : List ℕ) (sound : lines_fault allow deny ≡ None) whe
     shallow : (n : List ℕ) → deep_by names n ≡ false
     shallow n = ap is_deep_name (names_only t n) ∙ by (is_missing (tables_in t) n)
       where
-        by : (b : Bool) → is_deep_name (when b then Naming.Missing else Naming.Sound) ≡ false
+        by : (b : Bool) → is_deep_name (when b then Err NamingFault.Missing else Ok tt) ≡ false
         by true = refl
         by false = refl
 

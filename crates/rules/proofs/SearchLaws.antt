@@ -30,8 +30,8 @@ use Rattle.tables.specs.Table.{table_name_fault, bad_table_fault, first_table}
 use Rattle.tables.specs.Tried.{tried_in, tried_of, capped}
 use Rattle.tables.specs.Code.{entries, table_count, tables_in, tables_checked, place_named}
 use Rattle.tables.proofs.TableLaws.{missing_place, refused_by, names_told, bad_told}
-use Rattle.views.specs.declared.Naming.{Naming}
-use Rattle.views.specs.declared.Naming.TheVariants as Naming
+use Rattle.views.specs.declared.NamingFault.{NamingFault}
+use Rattle.views.specs.declared.NamingFault.TheVariants as NamingFault
 use Rattle.views.specs.View.{naming_of, noted_match, noted_tried, placed_naming, is_deep}
 use Rattle.views.specs.Names.{noted_place}
 use Rattle.views.specs.Level.{Viewed, ViewedBy}
@@ -156,7 +156,7 @@ missing_of t (x ∷ notes) n e full =
     by None = refl
     by (Some i) = sound (is_deep (x ∷ notes) i)
       where
-        sound : (b : Bool) → is_missing_name (when b then Naming.Deep else Naming.Sound) ≡ false
+        sound : (b : Bool) → is_missing_name (when b then Err NamingFault.Deep else Ok tt) ≡ false
         sound true = refl
         sound false = refl
 
@@ -170,14 +170,14 @@ past_missing ts n e = by (table_named ts n) refl e
     by (Some t) q k = absurd (true≢false (sym k))
 
 pub noted_deep_of : (ts : List Table) (n : List ℕ)
-    → is_deep_name (when is_missing ts n then Naming.Missing else when leads_past ts 4 n then Naming.Deep else Naming.Sound) ≡ leads_past ts 4 n
+    → is_deep_name (when is_missing ts n then Err NamingFault.Missing else when leads_past ts 4 n then Err NamingFault.Deep else Ok tt) ≡ leads_past ts 4 n
 noted_deep_of ts n = by (is_missing ts n) refl
   where
-    by : (b : Bool) → is_missing ts n ≡ b → is_deep_name (when b then Naming.Missing else when leads_past ts 4 n then Naming.Deep else Naming.Sound) ≡ leads_past ts 4 n
+    by : (b : Bool) → is_missing ts n ≡ b → is_deep_name (when b then Err NamingFault.Missing else when leads_past ts 4 n then Err NamingFault.Deep else Ok tt) ≡ leads_past ts 4 n
     by true e = sym (past_missing ts n e)
     by false e = sound (leads_past ts 4 n)
       where
-        sound : (b : Bool) → is_deep_name (when b then Naming.Deep else Naming.Sound) ≡ b
+        sound : (b : Bool) → is_deep_name (when b then Err NamingFault.Deep else Ok tt) ≡ b
         sound true = refl
         sound false = refl
 

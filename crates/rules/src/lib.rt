@@ -30,7 +30,7 @@ use elements::request::{Request, held};
 use hosts_file::{Tally, tallied};
 use search::find;
 use section::{Fault, Part, Refusal, part_of};
-use tables::entry::Framing;
+use tables::entry::FrameFault;
 
 // The words of the verdict.
 #[derive(Clone, Copy)]
@@ -215,9 +215,9 @@ fn rule_framed(allow: &[u8], deny: &[u8], tables: &[u8], names: &[u8], request: 
         (looked_over (tables_of tables.now) allow.now deny.now (Some (request_at names.now request))) }
 {
     match tables::entry::frame(tables) {
-        Framing::Cut => refused(section::Tables::refusal(Fault::CutShort, 0)),
-        Framing::Trailing => refused(section::placeless(Fault::TrailingBytes)),
-        Framing::Sound => rule_texts(allow, deny, tables, names, request),
+        Err(FrameFault::Cut) => refused(section::Tables::refusal(Fault::CutShort, 0)),
+        Err(FrameFault::Trailing) => refused(section::placeless(Fault::TrailingBytes)),
+        Ok(()) => rule_texts(allow, deny, tables, names, request),
     }
 }
 

@@ -21,6 +21,7 @@ use Rattle.sheet.specs.declared.Parts.{Parts}
 use Rattle.sheet.specs.Sheet.{section_at, part_end, rest_after, frame}
 use Rattle.sheet.specs.Code.{section_of, from_deny, from_byuid, from_portacl}
 use Rattle.sheet.proofs.FrameLaws.{section_at_answered}
+use Rattle.sheet.specs.declared.Parts.{Parts}
 
 -- ## One section
 

@@ -16,8 +16,8 @@ use Rattle.section.specs.declared.Refusal.{Refusal}
 use Rattle.section.specs.Refusal.{refusal, placeless, checked_of}
 use Rattle.section.specs.Section as S
 use Rattle.section.specs.Section.{over_limit}
-use Rattle.tables.specs.declared.entry.Framing.{Framing}
-use Rattle.tables.specs.declared.entry.Framing.TheVariants as Framing
+use Rattle.tables.specs.declared.entry.FrameFault.{FrameFault}
+use Rattle.tables.specs.declared.entry.FrameFault.TheVariants as FrameFault
 use Rattle.tables.specs.Table.{read_tables, tables_of, tables_frame, first_table, table_name_fault, is_unsound, bad_table_fault}
 use Rattle.tables.specs.Code.{tables_in, frame_of}
 use Rattle.tables.proofs.TableLaws.{tables_in_of, frame_sound, frame_cut, frame_trailing, frame_none}
@@ -58,14 +58,14 @@ module _ (a d b p : List ℕ) (x : Bool) (is_x : x ≡ ltb (S.allow).limit (leng
 
 -- ## The frame of the tables
 
-module _ (t : List ℕ) (f : Framing) (is_f : f ≡ frame_of (read_tables t)) where
-  pub tables_framed : f ≡ Framing.Sound → Ok tt ≡ checked_of (tables_frame t)
+module _ (t : List ℕ) (f : Result ⊤ FrameFault) (is_f : f ≡ frame_of (read_tables t)) where
+  pub tables_framed : f ≡ (Ok tt) → Ok tt ≡ checked_of (tables_frame t)
   tables_framed e = rw (frame_sound t f is_f e)
 
-  pub tables_cut_short : f ≡ Framing.Cut → (g : Refusal) → g ≡ refusal F.CutShort (S.tables).order 0 → Err g ≡ checked_of (tables_frame t)
+  pub tables_cut_short : f ≡ Err FrameFault.Cut → (g : Refusal) → g ≡ refusal F.CutShort (S.tables).order 0 → Err g ≡ checked_of (tables_frame t)
   tables_cut_short e g is-g = rw (frame_cut t f is_f e, is-g)
 
-  pub tables_trailing : f ≡ Framing.Trailing → (g : Refusal) → g ≡ placeless F.TrailingBytes → Err g ≡ checked_of (tables_frame t)
+  pub tables_trailing : f ≡ Err FrameFault.Trailing → (g : Refusal) → g ≡ placeless F.TrailingBytes → Err g ≡ checked_of (tables_frame t)
   tables_trailing e g is-g = rw (frame_trailing t f is_f e, is-g)
 
 -- the tables that the code reads are those of a sound frame

@@ -20,6 +20,7 @@ use Rattle.byuid.specs.Byuid.{byuid_fault}
 use Rattle.portacl.specs.Portacl.{portacl_fault}
 use Rattle.sheet.specs.declared.Parts.{Parts}
 use Rattle.sheet.specs.Sheet.{section_at, part_end, rest_after}
+use Rattle.rules.specs.declared.Answer.{Answer}
 
 -- ## Texts
 

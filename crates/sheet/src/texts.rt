@@ -13,7 +13,7 @@ use rules::search::are_sound;
 use rules::{Answer, naming};
 use section::{Allow, Byuid, Deny, Fault, Portacl, Refusal, Tables};
 use tables::entry;
-use tables::entry::Framing;
+use tables::entry::FrameFault;
 
 // Whether each counted text is within its section's limit.
 fn check_limits(allow: &[u8], deny: &[u8], byuid: &[u8], portacl: &[u8]) -> Result<(), Refusal>
@@ -39,9 +39,9 @@ pub fn check_frame(tables: &[u8]) -> Result<(), Refusal>
     ensures { result ≡ checked_of (tables_frame tables.now) }
 {
     match entry::frame(tables) {
-        Framing::Sound => Ok(()),
-        Framing::Cut => Err(Tables::refusal(Fault::CutShort, 0)),
-        Framing::Trailing => Err(section::placeless(Fault::TrailingBytes)),
+        Ok(()) => Ok(()),
+        Err(FrameFault::Cut) => Err(Tables::refusal(Fault::CutShort, 0)),
+        Err(FrameFault::Trailing) => Err(section::placeless(Fault::TrailingBytes)),
     }
 }
 

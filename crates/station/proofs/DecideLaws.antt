@@ -18,8 +18,8 @@ use Rattle.section.specs.declared.Refusal.{Refusal}
 use Rattle.section.specs.Refusal.{◌>>=◌, placeless, refusing, ◌before◌, checked_of}
 use Rattle.section.specs.Section as S
 use Rattle.section.specs.Section.{bytes_at, Section, part, over_limit}
-use Rattle.tables.specs.declared.entry.Framing.{Framing}
-use Rattle.tables.specs.declared.entry.Framing.TheVariants as Framing
+use Rattle.tables.specs.declared.entry.FrameFault.{FrameFault}
+use Rattle.tables.specs.declared.entry.FrameFault.TheVariants as FrameFault
 use Rattle.tables.specs.Table.{Table, read_tables, tables_of, match_of}
 use Rattle.tables.specs.Code.{tables_in, frame_of}
 use Rattle.tables.specs.Tried.{capped}
@@ -106,19 +106,19 @@ module _ (a d bu po t : List ℕ) (b : Searched) (c : Result ⊤ Refusal) (is_c 
         (ap (λ (o : Option Refusal). finding_of (o or_else tables_fault a d t or_else None) b) (or_else_none (lines_fault a d))
         ∙ ap (λ (o : Option Refusal). finding_of o b) (or_else_none (lines_fault a d or_else tables_fault a d t))))
 
-pub find_whole : (t : List ℕ) (x : Framing) → x ≡ frame_of (read_tables t) → x ≡ Framing.Sound → tables_in t ≡ tables_of t
+pub find_whole : (t : List ℕ) (x : Result ⊤ FrameFault) → x ≡ frame_of (read_tables t) → x ≡ (Ok tt) → tables_in t ≡ tables_of t
 find_whole t x is_x e = tables_in_of t (sym is_x ∙ e)
 
-module _ (a d bu po t : List ℕ) (b : Searched) (x : Framing) (is_x : x ≡ frame_of (read_tables t)) where
-  pub find_cut : x ≡ Framing.Cut → None ≡ finding_of (framed_fault a d bu po t) b
+module _ (a d bu po t : List ℕ) (b : Searched) (x : Result ⊤ FrameFault) (is_x : x ≡ frame_of (read_tables t)) where
+  pub find_cut : x ≡ Err FrameFault.Cut → None ≡ finding_of (framed_fault a d bu po t) b
   unfolding framed_fault
   find_cut e = rw (frame_cut t x is_x e)
 
-  pub find_trailing : x ≡ Framing.Trailing → None ≡ finding_of (framed_fault a d bu po t) b
+  pub find_trailing : x ≡ Err FrameFault.Trailing → None ≡ finding_of (framed_fault a d bu po t) b
   unfolding framed_fault
   find_trailing e = rw (frame_trailing t x is_x e)
 
-  pub find_sound : x ≡ Framing.Sound → (f : Option Searched) → f ≡ finding_of (contents_fault a d bu po t) b → f ≡ finding_of (framed_fault a d bu po t) b
+  pub find_sound : x ≡ (Ok tt) → (f : Option Searched) → f ≡ finding_of (contents_fault a d bu po t) b → f ≡ finding_of (framed_fault a d bu po t) b
   unfolding framed_fault
   find_sound e f is_f = is_f ∙ sym (rw (frame_sound t x is_x e))
 

@@ -29,7 +29,7 @@ use rules::{Answer, File, Reported};
 use section::{Fault, Part, Refusal, part_of};
 use sheet::texts::check_texts;
 use sheet::{Parts, frame, unpack};
-use tables::entry::Framing;
+use tables::entry::FrameFault;
 
 // The answer by texts whose tables are soundly framed; a bad entry of portacl and a line of byuid of the retired form are doubts too.
 fn find_framed(
@@ -74,9 +74,9 @@ fn find_in_texts(
         (capped (looked (tables_of tables.now) allow.now deny.now (request_at names.now request)))) }
 {
     match tables::entry::frame(tables) {
-        Framing::Cut => None,
-        Framing::Trailing => None,
-        Framing::Sound => find_framed(allow, deny, byuid, portacl, tables, names, request),
+        Err(FrameFault::Cut) => None,
+        Err(FrameFault::Trailing) => None,
+        Ok(()) => find_framed(allow, deny, byuid, portacl, tables, names, request),
     }
 }
 

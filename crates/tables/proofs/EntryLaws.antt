@@ -1,6 +1,6 @@
 -- Laws of the tables of a section five, entry by entry, shaped as the calls and tests of the code hand their facts over.
 -- Assumes nothing.
-use Rattle.std.specs.Prelude.{None, Option, Some, unwrap_or}
+use Rattle.std.specs.Prelude.{None, Option, Some, unwrap_or, Err, Ok, Result, ⊤}
 use Prim.Native.Nat.{ℕ, zero, suc, ◌+◌, ◌-◌, ◌*◌, ◌≤◌, ◌<◌}
 use mathlib.Core.Bool.{Bool, true, false, true≢false}
 use mathlib.Core.List.{List, [], ◌∷◌}
@@ -15,8 +15,8 @@ use Rattle.text.specs.Text.{equal_fold}
 use Rattle.text.specs.Number.{from_digits}
 use Rattle.text.proofs.ScanLaws.{take_rest}
 use Rattle.tables.specs.declared.entry.EntrySpan.{EntrySpan}
-use Rattle.tables.specs.declared.entry.Framing.{Framing}
-use Rattle.tables.specs.declared.entry.Framing.TheVariants as Framing
+use Rattle.tables.specs.declared.entry.FrameFault.{FrameFault}
+use Rattle.tables.specs.declared.entry.FrameFault.TheVariants as FrameFault
 use Rattle.tables.specs.Table.{Table, table, after_count, read_table, read_each, read_tables}
 use Rattle.tables.specs.Code.{entries, table_count, tables_in, cut_entry, span_of, entry_span, entry_or, entry_table, after_entry, frame_of}
 use Rattle.tables.specs.Code.{place_named, shifted, SoughtFrom}
@@ -257,7 +257,7 @@ module _ (s : List ℕ) (span : EntrySpan) (is-span : span ≡ entry_span s) whe
 
 -- ## The frame
 
-pub frame_short : (t : List ℕ) → length t < 2 → Framing.Cut ≡ frame_of (read_tables t)
+pub frame_short : (t : List ℕ) → length t < 2 → Err FrameFault.Cut ≡ frame_of (read_tables t)
 unfolding read_tables
 frame_short t h = rw (lt-ltb (length t) 2 h)
 
@@ -271,13 +271,13 @@ frame_row x None = refl
 frame_row x (Some r) = refl
 
 -- the loop that has the tables up to rest, n of them left
-module _ (f : Framing) (n : ℕ) (rest : List ℕ) (so_far : f ≡ frame_of (read_each n rest)) where
+module _ (f : Result ⊤ FrameFault) (n : ℕ) (rest : List ℕ) (so_far : f ≡ frame_of (read_each n rest)) where
   module _ (more : 0 < n) (span : EntrySpan) (is-span : span ≡ entry_span rest) where
-    pub frame_cut : span.cut ≡ true → Framing.Cut ≡ f
+    pub frame_cut : span.cut ≡ true → Err FrameFault.Cut ≡ f
     unfolding read_each
     frame_cut e = sym (so_far ∙ by n more)
       where
-        by : (k : ℕ) → 0 < k → frame_of (read_each k rest) ≡ Framing.Cut
+        by : (k : ℕ) → 0 < k → frame_of (read_each k rest) ≡ Err FrameFault.Cut
         by zero h = absurd (omega arith)
         by (suc k) h = rw (cut_read rest span is-span e)
 
@@ -296,17 +296,17 @@ module _ (f : Framing) (n : ℕ) (rest : List ℕ) (so_far : f ≡ frame_of (rea
     unfolding read_each
     done = let z : n ≡ 0 = omega arith in so_far ∙ rw z
 
-    pub frame_sound : length rest ≡ 0 → Framing.Sound ≡ f
+    pub frame_sound : length rest ≡ 0 → Ok tt ≡ f
     frame_sound e = sym (done ∙ by rest e)
       where
-        by : (r : List ℕ) → length r ≡ 0 → frame_of (Some ([], r)) ≡ Framing.Sound
+        by : (r : List ℕ) → length r ≡ 0 → frame_of (Some ([], r)) ≡ Ok tt
         by [] e = refl
         by (x ∷ r) e = absurd (omega arith)
 
-    pub frame_trailing : (length rest ≡ 0 → ⊥) → Framing.Trailing ≡ f
+    pub frame_trailing : (length rest ≡ 0 → ⊥) → Err FrameFault.Trailing ≡ f
     frame_trailing e = sym (done ∙ by rest e)
       where
-        by : (r : List ℕ) → (length r ≡ 0 → ⊥) → frame_of (Some ([], r)) ≡ Framing.Trailing
+        by : (r : List ℕ) → (length r ≡ 0 → ⊥) → frame_of (Some ([], r)) ≡ Err FrameFault.Trailing
         by [] e = absurd (e refl)
         by (x ∷ r) e = refl
 

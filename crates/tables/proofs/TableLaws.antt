@@ -1,6 +1,6 @@
 -- Laws of the tables that callers need: what the code's own words tell of a section five, of names, and of its refusals.
 -- Assumes nothing.
-use Rattle.std.specs.Prelude.{None, Option, Some}
+use Rattle.std.specs.Prelude.{None, Option, Some, Err, Ok, Result, ⊤}
 use Prim.Native.Nat.{ℕ, zero, suc, ◌+◌, ◌-◌, ◌<◌, ◌≤◌}
 use mathlib.Core.Bool.{Bool, true, false, not, ◌||◌}
 use mathlib.Core.List.{List, [], ◌∷◌}
@@ -19,8 +19,8 @@ use Rattle.section.specs.declared.Refusal.{Refusal}
 use Rattle.section.specs.Refusal.{refusal, placeless}
 use Rattle.section.specs.Section as S
 use Rattle.patterns.specs.Pattern.{host_pattern}
-use Rattle.tables.specs.declared.entry.Framing.{Framing}
-use Rattle.tables.specs.declared.entry.Framing.TheVariants as Framing
+use Rattle.tables.specs.declared.entry.FrameFault.{FrameFault}
+use Rattle.tables.specs.declared.entry.FrameFault.TheVariants as FrameFault
 use Rattle.tables.specs.Table.{Table, table, after_count, read_table, read_each, read_tables, tables_of, tables_read, table_name, table_named}
 use Rattle.tables.specs.Table.{is_missing, patterns, Matcher, pattern_with, framed}
 use Rattle.tables.specs.Table.{tables_frame, first_table, is_misnamed, table_name_fault, is_unsound, bad_table_fault}
@@ -64,19 +64,19 @@ unfolding tables_in table_count entries
 tables_none = refl
 
 -- what a sound frame tells
-pub tables_whole : (t : List ℕ) → frame_of (read_tables t) ≡ Framing.Sound → read_tables t ≡ Some (tables_of t, [])
+pub tables_whole : (t : List ℕ) → frame_of (read_tables t) ≡ (Ok tt) → read_tables t ≡ Some (tables_of t, [])
 tables_whole t e = by (read_tables t) e
   where
-    by : (o : Option (List Table × List ℕ)) → frame_of o ≡ Framing.Sound → o ≡ Some (tables_read o, [])
+    by : (o : Option (List Table × List ℕ)) → frame_of o ≡ (Ok tt) → o ≡ Some (tables_read o, [])
     by None f = let z : ◌≡◌ {A = ℕ} 0 1 = cc in absurd (omega arith)
     by (Some (ts, [])) f = refl
     by (Some (ts, x ∷ r)) f = let z : ◌≡◌ {A = ℕ} 0 1 = cc in absurd (omega arith)
 
-pub tables_in_of : (t : List ℕ) → frame_of (read_tables t) ≡ Framing.Sound → tables_in t ≡ tables_of t
+pub tables_in_of : (t : List ℕ) → frame_of (read_tables t) ≡ (Ok tt) → tables_in t ≡ tables_of t
 tables_in_of t e = tables_read_lem t (tables_of t, []) (tables_whole t e)
 
 -- the same of a section five that is not cut short
-pub tables_in_uncut : (t : List ℕ) → (frame_of (read_tables t) ≡ Framing.Cut → ⊥) → tables_in t ≡ tables_of t
+pub tables_in_uncut : (t : List ℕ) → (frame_of (read_tables t) ≡ Err FrameFault.Cut → ⊥) → tables_in t ≡ tables_of t
 tables_in_uncut t n = by (read_tables t) refl
   where
     by : (o : Option (List Table × List ℕ)) → read_tables t ≡ o → tables_in t ≡ tables_read (read_tables t)
@@ -86,10 +86,10 @@ tables_in_uncut t n = by (read_tables t) refl
 -- ## The frame
 
 -- the refusal of what the counts tell
-abbrev pub frame_refusal : Framing → Option Refusal
-frame_refusal Framing.Sound = None
-frame_refusal Framing.Cut = Some (refusal F.CutShort 5 0)
-frame_refusal Framing.Trailing = Some (placeless F.TrailingBytes)
+abbrev pub frame_refusal : Result ⊤ FrameFault → Option Refusal
+frame_refusal (Ok tt) = None
+frame_refusal (Err FrameFault.Cut) = Some (refusal F.CutShort 5 0)
+frame_refusal (Err FrameFault.Trailing) = Some (placeless F.TrailingBytes)
 
 pub frame_told : (t : List ℕ) → tables_frame t ≡ frame_refusal (frame_of (read_tables t))
 unfolding tables_frame
@@ -100,24 +100,24 @@ frame_told t = by (read_tables t)
     by (Some (ts, [])) = refl
     by (Some (ts, x ∷ r)) = refl
 
-module _ (t : List ℕ) (f : Framing) (is_f : f ≡ frame_of (read_tables t)) where
-  pub frame_sound : f ≡ Framing.Sound → tables_frame t ≡ None
+module _ (t : List ℕ) (f : Result ⊤ FrameFault) (is_f : f ≡ frame_of (read_tables t)) where
+  pub frame_sound : f ≡ (Ok tt) → tables_frame t ≡ None
   frame_sound e = frame_told t ∙ rw (← is_f, e)
 
-  pub frame_cut : f ≡ Framing.Cut → tables_frame t ≡ Some (refusal F.CutShort 5 0)
+  pub frame_cut : f ≡ Err FrameFault.Cut → tables_frame t ≡ Some (refusal F.CutShort 5 0)
   frame_cut e = frame_told t ∙ rw (← is_f, e)
 
-  pub frame_trailing : f ≡ Framing.Trailing → tables_frame t ≡ Some (placeless F.TrailingBytes)
+  pub frame_trailing : f ≡ Err FrameFault.Trailing → tables_frame t ≡ Some (placeless F.TrailingBytes)
   frame_trailing e = frame_told t ∙ rw (← is_f, e)
 
 -- a section five that is not refused by its frame is sound
-pub frame_none : (t : List ℕ) → tables_frame t ≡ None → frame_of (read_tables t) ≡ Framing.Sound
+pub frame_none : (t : List ℕ) → tables_frame t ≡ None → frame_of (read_tables t) ≡ Ok tt
 frame_none t e = by (frame_of (read_tables t)) (sym (frame_told t) ∙ e)
   where
-    by : (f : Framing) → frame_refusal f ≡ None → f ≡ Framing.Sound
-    by Framing.Sound g = refl
-    by Framing.Cut g = absurd (none_some (sym g))
-    by Framing.Trailing g = absurd (none_some (sym g))
+    by : (f : Result ⊤ FrameFault) → frame_refusal f ≡ None → f ≡ Ok tt
+    by (Ok tt) g = refl
+    by (Err FrameFault.Cut) g = absurd (none_some (sym g))
+    by (Err FrameFault.Trailing) g = absurd (none_some (sym g))
 
 -- ## A section cut short
 

@@ -3,7 +3,7 @@
 --   tables_in t           == the tables of t, as far as its bytes go
 --   place_named ts n      == the place among ts of the first table named n
 -- Assumes nothing: these are definitions.
-use Rattle.std.specs.Prelude.{ℕ, zero, suc, ◌+◌, ◌-◌, ◌*◌, ◌%◌, ◌≤◌, ◌<◌, Bool, true, false, not, ◌&&◌, ◌||◌, List, [], ◌∷◌, ◌≡◌, length, take, drop, get_or, eqb, ltb, None, Option, Some, unwrap_or}
+use Rattle.std.specs.Prelude.{ℕ, zero, suc, ◌+◌, ◌-◌, ◌*◌, ◌%◌, ◌≤◌, ◌<◌, Bool, true, false, not, ◌&&◌, ◌||◌, List, [], ◌∷◌, ◌≡◌, length, take, drop, get_or, eqb, ltb, None, Option, Some, unwrap_or, Err, Ok, Result, ⊤}
 use Rattle.text.specs.Basics.{when◌then◌else◌, ◌>>=◌, holds, is_some, is_empty, any}
 use Rattle.text.specs.Text.{among, split, equal_fold}
 use Rattle.text.specs.Number.{from_digits}
@@ -11,8 +11,8 @@ use Rattle.text.specs.Scan.{span_len}
 use Rattle.lines.specs.Rule.{non_empty, is_except}
 use Rattle.patterns.specs.Pattern.{host_pattern}
 use Rattle.tables.specs.declared.entry.EntrySpan.{EntrySpan}
-use Rattle.tables.specs.declared.entry.Framing.{Framing}
-use Rattle.tables.specs.declared.entry.Framing.TheVariants as Framing
+use Rattle.tables.specs.declared.entry.FrameFault.{FrameFault}
+use Rattle.tables.specs.declared.entry.FrameFault.TheVariants as FrameFault
 use Rattle.tables.specs.declared.word.WordSpan.{WordSpan}
 use Rattle.tables.specs.declared.check.TextCheck.{TextCheck}
 use Rattle.tables.specs.declared.check.TablesCheck.{TablesCheck}
@@ -55,9 +55,9 @@ entry_table t = (entry_or (read_table t)).0
 unfoldable pub after_entry : List ℕ → List ℕ
 after_entry t = (entry_or (read_table t)).1
 
-abbrev pub frame_of : Option (List Table × List ℕ) → Framing
-frame_of None = Framing.Cut
-frame_of (Some p) = when is_empty p.1 then Framing.Sound else Framing.Trailing
+abbrev pub frame_of : Option (List Table × List ℕ) → Result ⊤ FrameFault
+frame_of None = Err FrameFault.Cut
+frame_of (Some p) = when is_empty p.1 then Ok tt else Err FrameFault.Trailing
 
 -- the place of the first table so named
 unfoldable pub place_named : List Table → List ℕ → Option ℕ

@@ -20,8 +20,7 @@ pub struct EntrySpan {
 
 // What the counts of a section five tell: they fit its bytes, run past their end, or leave some.
 #[derive(Clone, Copy)]
-pub enum Framing {
-    Sound,
+pub enum FrameFault {
     Cut,
     Trailing,
 }
@@ -122,27 +121,27 @@ pub fn after_count(tables: &[u8]) -> &[u8]
 }
 
 // What the counts of a section five tell.
-pub fn frame(tables: &[u8]) -> Framing
+pub fn frame(tables: &[u8]) -> Result<(), FrameFault>
     ensures { result ≡ frame_of (read_tables tables.now) }
 {
     if tables.len() < 2 {
-        return Framing::Cut;
+        return Err(FrameFault::Cut);
     }
     let mut left = table_count(tables);
     let mut rest = after_count(tables);
     while 0 < left {
         let span = entry_span(rest);
         if span.cut {
-            return Framing::Cut;
+            return Err(FrameFault::Cut);
         }
         let next = after_entry(rest, span);
         rest = next;
         left = left - 1;
     }
     if rest.len() == 0 {
-        return Framing::Sound;
+        return Ok(());
     }
-    Framing::Trailing
+    Err(FrameFault::Trailing)
 }
 
 // How many tables there are, as far as the bytes go.

@@ -1,13 +1,14 @@
 -- Laws of writing into a lent output d: bytes one after the other, and texts one after the other, from a place on or at its front.
 -- Assumes nothing.
-use Prim.Native.Nat.{ℕ, ◌+◌, ◌<◌, ◌≤◌}
+use Prim.Native.Nat.{ℕ, ◌+◌, ◌-◌, ◌≤◌}
 use mathlib.Core.List.{List, [], ◌++◌, append_assoc}
 use mathlib.Core.Path.{◌≡◌, refl, sym, ap, ap₂, ◌∙◌}
-use native.Mathlib.Numerals.{add-one}
 use native.Mathlib.Omega.{arith}
+use borrow.Rule.Slice.PartMut.{put_mid}
+use Rattle.std.proofs.lemmas.Slice.{put_mid-paste}
 use Rattle.text.specs.Scan.{put_at, after}
-use lib.ListN.{length, take, drop, get_or, set, length-append, length-set, length-drop}
-use lib.Seq.{paste, paste-zero, paste-suc, length-paste, take-paste, drop-paste, take_at, drop_at, drop-drop, take-length}
+use lib.ListN.{length, take, drop, length-append, length-drop}
+use lib.Seq.{paste, paste-zero, length-paste, take-paste, drop-paste, take_at, drop_at, drop-drop, take-length}
 
 -- ## A text, byte by byte
 
@@ -21,17 +22,14 @@ pub pasted_start : (d s : List ℕ) (at : ℕ) → Pasted d s d at 0
 pasted_start d s at = record { text = paste-zero d at s; within = omega arith; long = refl }
 
 module _ (d s o : List ℕ) (at j : ℕ) (p : Pasted d s o at j) where
-  pub pasted_step : at + length s ≤ length d → j < length s → Pasted d s (set o (at + j) (get_or s j 0)) at (j + 1)
-  pasted_step room h =
-      record {
-        text = rw (p.text, add-one) (paste-suc d at s j 0 (omega arith) h);
-        within = omega arith;
-        long = length-set o (at + j) (get_or s j 0) ∙ p.long;
-      }
-
   pub pasted_all : length s ≤ j → o ≡ put_at d at s
   unfolding put_at
   pasted_all h = let e : j ≡ length s = omega (arith, p.within) in rw (← e) p.text
+
+-- what the code's copy of s to out[at..at + s.len()] leaves there
+pub put_at_mid : (d s o : List ℕ) (at : ℕ) → o ≡ s → put_mid at (at + length s - at) d o ≡ put_at d at s
+unfolding put_at
+put_at_mid d s o at e = put_mid-paste at (at + length s - at) d o s (length s) e (omega arith) refl
 
 -- ## Texts one after the other
 

@@ -10,6 +10,8 @@ use native.Mathlib.Numerals.{add-one}
 use native.Mathlib.Omega.{arith}
 use borrow.Author.Tests.{eqb-true, eqb-false, eq-eqb, ne_eqb}
 use lib.Dec.{eqb}
+use lib.Pointwise.{pointwise}
+use Rattle.std.specs.List.{zip, list_all}
 use lib.ListN.{length, take, drop, get_or, length-drop, length-map, drop_of_length-le}
 use lib.Seq.{drop-cons, take_all}
 use Rattle.text.specs.Basics.{any}
@@ -27,6 +29,14 @@ pub equal_refl : (s : List ℕ) → equal s s ≡ true
 unfolding equal
 equal_refl [] = refl
 equal_refl (x ∷ s) = rw (eq-eqb x x refl) (equal_refl s)
+
+-- what the code's == of slices answers
+pub pointwise_equal : (s t : List ℕ) → pointwise eqb s t ≡ equal s t
+unfolding equal
+pointwise_equal [] [] = refl
+pointwise_equal [] (y ∷ t) = refl
+pointwise_equal (x ∷ s) [] = refl
+pointwise_equal (x ∷ s) (y ∷ t) = rw (pointwise_equal s t)
 
 pub eq_of_equal : (s t : List ℕ) → equal s t ≡ true → s ≡ t
 unfolding equal
@@ -49,43 +59,24 @@ pub equal_fold_lengths : (s t : List ℕ) → (length s ≡ length t → ⊥) �
 unfolding equal_fold
 equal_fold_lengths s t n = equal_lengths (map lower s) (map lower t) (λ e. n (sym (length-map s lower) ∙ e ∙ length-map t lower))
 
+-- two bytes side by side that are equal but for case
+abbrev pub same_folded : ℕ × ℕ → Bool
+same_folded p = eqb (lower p.0) (lower p.1)
+
+pub all_equal_fold : (s t : List ℕ) → length s ≡ length t → list_all same_folded (zip s t) ≡ equal_fold s t
+unfolding equal equal_fold
+all_equal_fold [] [] e = refl
+all_equal_fold [] (y ∷ t) e = absurd (omega arith)
+all_equal_fold (x ∷ s) [] e = absurd (omega arith)
+all_equal_fold (x ∷ s) (y ∷ t) e = ap (λ b. eqb (lower x) (lower y) && b) (all_equal_fold s t (omega arith))
+
 -- what a comparison e is that goes byte by byte, by k
 pub record ByBytes (e : List ℕ → List ℕ → Bool) (k : ℕ → ℕ) : Type 0 where
-  pub ended : e [] [] ≡ true
   pub more : (x y : ℕ) (s t : List ℕ) → e (x ∷ s) (y ∷ t) ≡ (eqb (k x) (k y) && e s t)
-
-pub equal_by : ByBytes equal (λ x. x)
-unfolding equal
-equal_by = record { ended = refl; more = λ x y s t. refl }
 
 pub equal_fold_by : ByBytes equal_fold lower
 unfolding equal equal_fold
-equal_fold_by = record { ended = refl; more = λ x y s t. refl }
-
--- the loop of such a comparison, at i
-module _ {e : List ℕ → List ℕ → Bool} {k : ℕ → ℕ} (by : ByBytes e k) (a b : List ℕ) (i : ℕ) (even : length a ≡ length b)
-    (so_far : e a b ≡ e (drop i a) (drop i b)) where
-  module _ (h : i < length a) (x y : ℕ) (is_x : x ≡ k (get_or a i 0)) (is_y : y ≡ k (get_or b i 0)) where
-    pub step : e a b ≡ (eqb x y && e (drop (i + 1) a) (drop (i + 1) b))
-    step = let l : i < length b = omega arith in so_far
-        ∙ rw (add-one, drop-cons a i 0, drop-cons b i 0, is_x, is_y) (by.more (get_or a i 0) (get_or b i 0) (drop (suc i) a) (drop (suc i) b))
-
-    pub differs : (x ≡ y → ⊥) → false ≡ e a b
-    differs n = sym (step ∙ rw (ne_eqb x y n))
-
-    pub agrees : x ≡ y → e a b ≡ e (drop (i + 1) a) (drop (i + 1) b)
-    agrees q = step ∙ rw (eq-eqb x y q)
-
-  -- the same where the bytes were compared by k before
-  module _ (h : i < length a) (q : Bool) (is-q : q ≡ eqb (k (get_or a i 0)) (k (get_or b i 0))) where
-    pub told_differ : q ≡ false → false ≡ e a b
-    told_differ f = sym (step h (k (get_or a i 0)) (k (get_or b i 0)) refl refl ∙ rw (← is-q, f))
-
-    pub told_agree : q ≡ true → e a b ≡ e (drop (i + 1) a) (drop (i + 1) b)
-    told_agree f = step h (k (get_or a i 0)) (k (get_or b i 0)) refl refl ∙ rw (← is-q, f)
-
-  pub all_agree : length a ≤ i → true ≡ e a b
-  all_agree h = let l : length b ≤ i = omega arith in sym (so_far ∙ rw (drop_of_length-le a h, drop_of_length-le b l) by.ended)
+equal_fold_by = record { more = λ x y s t. refl }
 
 -- ## The leading bytes of a class
 

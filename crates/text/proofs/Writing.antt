@@ -1,13 +1,12 @@
--- The loops that measure and write a decimal, the last digit first: what is known at each turn, and what their answers follow from.
+-- How many digits a decimal has, and the loop that writes one, the last digit first: what is known at each turn, and what its answer follows from.
 -- Assumes nothing.
 use Prim.Native.Nat.{ℕ, zero, suc, ◌+◌, ◌-◌, ◌*◌, ◌/◌, ◌%◌, ◌^◌, ◌<◌, ◌≤◌}
 use mathlib.Core.Bool.{Bool, true, false}
 use mathlib.Core.List.{List, [], ◌∷◌, ◌++◌, append_assoc, append-nil}
 use mathlib.Core.Path.{◌≡◌, refl, sym, ap, ◌∙◌}
-use native.Mathlib.Numerals.{add-one}
 use native.Mathlib.Omega.{arith}
-use native.Mathlib.Nat.{mod-lt, pow-suc, pow-le-pow_right}
-use borrow.Author.Tests.{ltb-true, ltb-false, lt-ltb}
+use native.Mathlib.Nat.{mod-lt, pow-suc}
+use borrow.Author.Tests.{lt-ltb}
 use lib.Dec.{ltb}
 use lib.ListN.{length, take, drop, get_or, set, length-append, length-set, take-append-drop}
 use lib.Seq.{length-take-le, take_at, drop_at, take-length, drop-length, take-suc, drop-cons, set_at}
@@ -19,40 +18,12 @@ use Rattle.text.proofs.Numeral.{length_numeral}
 
 -- ## Measuring
 
--- n has at least k digits, and power is the least number of more
-pub record Measured (n power k : ℕ) : Type 0 where
-  pub is_power : power ≡ 10 ^ k
-  pub low : 10 ≤ power
-  pub some : 0 < k
-  pub few : k ≤ 10
-  pub digits : k ≤ length (decimal n)
-
-pub measured_start : (n : ℕ) → Measured n 10 1
-measured_start n = record { is_power = refl; low = omega arith; some = omega arith; few = omega arith; digits = (length_numeral 10 10 n).1 (omega arith) }
-
-module _ (n power k : ℕ) (m : Measured n power k) where
-  pub measured_step : n < 4294967296 → power ≤ n → Measured n (power * 10) (k + 1)
-  measured_step lt le =
-      let below : k < 10 = by (ltb k 10) refl in
-      let more : k < length (decimal n) = length_numeral_above 10 10 k n (omega arith) (rw (← m.is_power) le) below in
-      record {
-        is_power = rw (add-one, pow-suc 10 k, ← m.is_power);
-        low = omega (arith, m.low);
-        some = omega arith;
-        few = omega arith;
-        digits = omega arith;
-      }
-    where
-      by : (t : Bool) → ltb k 10 ≡ t → k < 10
-      by true e = ltb-true k 10 e
-      by false e = absurd (omega (arith, m.is_power, pow-le-pow_right {n = 10} (omega arith) (ltb-false k 10 e)))
-
-  pub measured_end : n < power → k ≡ length (decimal n)
-  measured_end lt = by k m.some m.digits (rw m.is_power at lt)
-    where
-      by : (k : ℕ) → 0 < k → k ≤ length (decimal n) → n < 10 ^ k → k ≡ length (decimal n)
-      by zero h l lt = absurd (omega arith)
-      by (suc k) h l lt = omega (arith, length_numeral_below 10 10 k n (omega arith) lt)
+-- one digit more than the power of 10 that fits
+pub length_decimal : (n k : ℕ) → 10 ^ k ≤ n → n < 10 * 10 ^ k → k < 10 → k + 1 ≡ length (decimal n)
+length_decimal n k low high few =
+    let above : k < length (decimal n) = length_numeral_above 10 10 k n (omega arith) low few in
+    let below : length (decimal n) ≤ suc k = length_numeral_below 10 10 k n (omega arith) (omega (arith, pow-suc 10 k)) in
+    omega arith
 
 -- ## Writing
 

@@ -38,17 +38,7 @@ pub fn is_letter(b: u8) -> bool
 pub fn equal(a: &[u8], b: &[u8]) -> bool
     ensures { result ≡ equalTo a.now b.now }
 {
-    if a.len() != b.len() {
-        return false;
-    }
-    let mut i = 0;
-    while i < a.len() {
-        if a[i] != b[i] {
-            return false;
-        }
-        i += 1;
-    }
-    true
+    a == b
 }
 
 // Whether two bytes are equal but for ASCII case. Most that are equal are the same byte.
@@ -65,18 +55,7 @@ fn same_letter(x: u8, y: u8) -> bool
 pub fn equal_fold(a: &[u8], b: &[u8]) -> bool
     ensures { result ≡ equal_fold a.now b.now }
 {
-    if a.len() != b.len() {
-        return false;
-    }
-    let mut i = 0;
-    while i < a.len() {
-        if same_letter(a[i], b[i]) {
-            i += 1;
-        } else {
-            return false;
-        }
-    }
-    true
+    a.len() == b.len() && a.iter().zip(b).all(|(x, y)| same_letter(*x, *y))
 }
 
 // The first place of b in s, the length where there is none.
@@ -84,14 +63,12 @@ pub fn index_of(s: &[u8], b: u8) -> usize
     ensures place { result ≡ index_of b s.now }
     ensures within { result ≤ length s.now }
 {
-    let mut i = 0;
-    while i < s.len() {
-        if s[i] == b {
+    for (i, x) in s.iter().enumerate() {
+        if *x == b {
             return i;
         }
-        i += 1;
     }
-    i
+    s.len()
 }
 
 // Whether s is longer than the suffix and ends in it, ignoring ASCII case.
@@ -119,9 +96,7 @@ pub fn read_decimal(s: &[u8], max: u32) -> Option<u32>
     }
     let limit = max as u64;
     let mut n: u64 = 0;
-    let mut i = 0;
-    while i < s.len() {
-        let b = s[i];
+    for &b in s {
         if b < b'0' {
             return None;
         }
@@ -132,7 +107,6 @@ pub fn read_decimal(s: &[u8], max: u32) -> Option<u32>
         if limit < n {
             return None;
         }
-        i += 1;
     }
     Some(n as u32)
 }
@@ -143,26 +117,19 @@ pub fn put(out: &mut [u8], at: usize, s: &[u8]) -> usize
     ensures next { result ≡ at + length s.now }
     ensures written { out.new ≡ put_at out.old at s.now }
 {
-    let mut j = 0;
-    while j < s.len() {
-        out[at + j] = s[j];
-        j += 1;
-    }
-    at + j
+    let next = at + s.len();
+    out[at..next].copy_from_slice(s);
+    next
 }
 
 // How many digits n has in decimal.
 pub fn decimal_len(n: u32) -> usize
     ensures { result ≡ length (decimal n) }
 {
-    let m = n as u64;
-    let mut power: u64 = 10;
-    let mut k = 1;
-    while power <= m {
-        power = power * 10;
-        k += 1;
+    match n.checked_ilog10() {
+        Some(k) => k as usize + 1,
+        None => 1,
     }
-    k
 }
 
 // Writes n in decimal into out from at on, its last digit first, and answers the place after it.
@@ -173,9 +140,7 @@ pub fn put_decimal(out: &mut [u8], at: usize, n: u32) -> usize
 {
     let k = decimal_len(n);
     let mut m = n;
-    let mut j = k;
-    while 0 < j {
-        j -= 1;
+    for j in (0..k).rev() {
         out[at + j] = b'0' + (m % 10) as u8;
         m = m / 10;
     }

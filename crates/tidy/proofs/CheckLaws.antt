@@ -26,8 +26,8 @@ use Rattle.section.specs.Section.{Section, over_limit}
 use Rattle.lines.specs.Line.{Line, lines}
 use Rattle.lines.specs.Rewrite.{line_bytes, rewrite}
 use Rattle.lines.proofs.LineLaws.{logical_lines_nil}
-use Rattle.tables.specs.declared.entry.Framing.{Framing}
-use Rattle.tables.specs.declared.entry.Framing.TheVariants as Framing
+use Rattle.tables.specs.declared.entry.FrameFault.{FrameFault}
+use Rattle.tables.specs.declared.entry.FrameFault.TheVariants as FrameFault
 use Rattle.tables.specs.Table.{read_tables, tables_of, tables_frame, is_missing, leads_past, depth, table_name_fault, bad_table_fault}
 use Rattle.tables.specs.Code.{tables_in, frame_of}
 use Rattle.tables.proofs.TableLaws.{tables_in_of, frame_sound, frame_cut, frame_trailing}
@@ -53,20 +53,20 @@ module _ (p : Result (Option Answer) Refusal) where
   pub by_matched : (a : Answer) → p ≡ Ok (Some a) → Ok tt ≡ checked_by p
   by_matched a e = rw e
 
-module _ (allow deny five : List ℕ) (f : Framing) (is_f : f ≡ frame_of (read_tables five)) where
-  pub checked_cut : f ≡ Framing.Cut → (g : Refusal) → g ≡ refusal F.CutShort 5 0
+module _ (allow deny five : List ℕ) (f : Result ⊤ FrameFault) (is_f : f ≡ frame_of (read_tables five)) where
+  pub checked_cut : f ≡ Err FrameFault.Cut → (g : Refusal) → g ≡ refusal F.CutShort 5 0
       → Err g ≡ checked_of (tables_frame five or_else contents_fault allow deny five)
   checked_cut k g is-g = rw (frame_cut five f is_f k, is-g)
 
-  pub checked_trailing : f ≡ Framing.Trailing → (g : Refusal) → g ≡ placeless F.TrailingBytes
+  pub checked_trailing : f ≡ Err FrameFault.Trailing → (g : Refusal) → g ≡ placeless F.TrailingBytes
       → Err g ≡ checked_of (tables_frame five or_else contents_fault allow deny five)
   checked_trailing k g is-g = rw (frame_trailing five f is_f k, is-g)
 
-  pub checked_contents : f ≡ Framing.Sound → (c : Result ⊤ Refusal) → c ≡ checked_of (contents_fault allow deny five)
+  pub checked_contents : f ≡ (Ok tt) → (c : Result ⊤ Refusal) → c ≡ checked_of (contents_fault allow deny five)
       → c ≡ checked_of (tables_frame five or_else contents_fault allow deny five)
   checked_contents k c is_c = is_c ∙ sym (rw (frame_sound five f is_f k))
 
-  pub checked_whole : f ≡ Framing.Sound → tables_in five ≡ tables_of five
+  pub checked_whole : f ≡ (Ok tt) → tables_in five ≡ tables_of five
   checked_whole k = tables_in_of five (sym is_f ∙ k)
 
 module _ (o : Option Refusal) where

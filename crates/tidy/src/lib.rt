@@ -26,7 +26,7 @@ use rules::Answer;
 use rules::naming::check_contents;
 use rules::search::are_sound;
 use section::{Fault, Refusal};
-use tables::entry::Framing;
+use tables::entry::FrameFault;
 
 // A pass that looks for nothing, as a check.
 fn check_by(pass: Result<Option<Answer>, Refusal>) -> Result<(), Refusal>
@@ -56,9 +56,9 @@ fn check_framed(allow: &[u8], deny: &[u8], tables: &[u8]) -> Result<(), Refusal>
         ≡ checked_of (tables_frame tables.now or_else contents_fault allow.now deny.now tables.now) }
 {
     match tables::entry::frame(tables) {
-        Framing::Cut => Err(section::Tables::refusal(Fault::CutShort, 0)),
-        Framing::Trailing => Err(section::placeless(Fault::TrailingBytes)),
-        Framing::Sound => check_whole(allow, deny, tables),
+        Err(FrameFault::Cut) => Err(section::Tables::refusal(Fault::CutShort, 0)),
+        Err(FrameFault::Trailing) => Err(section::placeless(Fault::TrailingBytes)),
+        Ok(()) => check_whole(allow, deny, tables),
     }
 }
 

@@ -1,6 +1,6 @@
 -- Laws of notes: what their words say of a place, and of a name.
 -- Assumes nothing.
-use Rattle.std.specs.Prelude.{None, Option, Some}
+use Rattle.std.specs.Prelude.{None, Option, Some, Err, Ok, Result, ⊤}
 use Prim.Native.Nat.{ℕ, ◌+◌, ◌-◌, ◌*◌, ◌/◌, ◌%◌, ◌≤◌, ◌<◌}
 use native.Mathlib.Omega.{arith}
 use mathlib.Core.Bool.{Bool, true, false, true≢false, and-false}
@@ -15,8 +15,8 @@ use Rattle.text.proofs.ScanLaws.{take_rest}
 use Rattle.tables.specs.Table.{Table, is_table_name, table_name}
 use Rattle.tables.specs.Code.{place_named, first_word, after_word}
 use Rattle.tables.proofs.WordLaws.{words_none, words_more}
-use Rattle.views.specs.declared.Naming.{Naming}
-use Rattle.views.specs.declared.Naming.TheVariants as Naming
+use Rattle.views.specs.declared.NamingFault.{NamingFault}
+use Rattle.views.specs.declared.NamingFault.TheVariants as NamingFault
 use Rattle.views.specs.declared.Reference.{Reference}
 use Rattle.views.specs.View.{bit_at, is_deep, naming_at, marked_at, placed_naming, naming_of, noted_match, reference_of, name_leads, word_leads, text_leads}
 use Rattle.views.specs.Names.{noted_place}
@@ -39,10 +39,10 @@ module _ (notes : List ℕ) (i : ℕ) where
     deep_inside r e = rw same_place e
 
   module _ (x : Bool) (is_x : x ≡ is_deep notes i) where
-    pub naming_deep : x ≡ true → Naming.Deep ≡ naming_at notes i
+    pub naming_deep : x ≡ true → Err NamingFault.Deep ≡ naming_at notes i
     naming_deep e = rw (← is_x, e)
 
-    pub naming_sound : x ≡ false → Naming.Sound ≡ naming_at notes i
+    pub naming_sound : x ≡ false → Ok tt ≡ naming_at notes i
     naming_sound e = rw (← is_x, e)
 
   module _ (k : ℕ) where
@@ -70,7 +70,7 @@ module _ (notes : List ℕ) (i : ℕ) where
 
 -- ## Of a name
 
-abbrev reference : Naming → Bool → ℕ → Reference
+abbrev reference : Result ⊤ NamingFault → Bool → ℕ → Reference
 reference n m t = record { naming = n; matches = m; tried = t }
 
 pub no_match : (k : ℕ) (o : Option ℕ) → holds (marked_at k []) o ≡ false
@@ -102,15 +102,15 @@ full_notes [] h = absurd (h refl)
 full_notes (x ∷ l) h = refl
 
 module _ (k : ℕ) (t : List ℕ) (notes n : List ℕ) where
-  pub look_unjudged : length notes ≡ 0 → reference Naming.Sound false 0 ≡ reference_of k t notes n
+  pub look_unjudged : length notes ≡ 0 → reference (Ok tt) false 0 ≡ reference_of k t notes n
   unfolding reference_of naming_of noted_match noted_tried
   look_unjudged h = by notes h
     where
       by : (l : List ℕ) → length l ≡ 0
-          → reference Naming.Sound false 0
-          ≡ reference (when is_empty l then Naming.Sound else placed_naming l (noted_place t l n)) (holds (marked_at k l) (noted_place t l n))
+          → reference (Ok tt) false 0
+          ≡ reference (when is_empty l then Ok tt else placed_naming l (noted_place t l n)) (holds (marked_at k l) (noted_place t l n))
           (placed_count k l (noted_place t l n))
-      by [] h = ap₂ (reference Naming.Sound) (sym (no_match k (noted_place t [] n))) (sym (no_count k (noted_place t [] n)))
+      by [] h = ap₂ (reference (Ok tt)) (sym (no_match k (noted_place t [] n))) (sym (no_count k (noted_place t [] n)))
       by (x ∷ l) h = absurd (omega arith)
 
   module _ (full : length notes ≡ 0 → ⊥) where
@@ -119,13 +119,13 @@ module _ (k : ℕ) (t : List ℕ) (notes n : List ℕ) where
     unfolding reference_of naming_of noted_match noted_tried
     judged o e = rw (full_notes notes full, e)
 
-    pub look_missing : (p : Option ℕ) → p ≡ noted_place t notes n → p ≡ None → reference Naming.Missing false 0 ≡ reference_of k t notes n
+    pub look_missing : (p : Option ℕ) → p ≡ noted_place t notes n → p ≡ None → reference (Err NamingFault.Missing) false 0 ≡ reference_of k t notes n
     look_missing p is-p e = sym (judged None (place_none (noted_place t notes n) (sym e ∙ is-p)))
 
-    pub look_found : (p : Option ℕ) → p ≡ noted_place t notes n → (i : ℕ) → p ≡ Some i → (x : Naming) → x ≡ naming_at notes i
+    pub look_found : (p : Option ℕ) → p ≡ noted_place t notes n → (i : ℕ) → p ≡ Some i → (x : Result ⊤ NamingFault) → x ≡ naming_at notes i
         → (m : Bool) → m ≡ marked_at k notes i → (c : ℕ) → c ≡ counted_at k notes i → reference x m c ≡ reference_of k t notes n
     look_found p is-p i e x is_x m is_m c is_c =
-        ap₂ (λ (y : Naming) (b : Bool). reference y b c) is_x is_m ∙ ap (reference (naming_at notes i) (marked_at k notes i)) is_c
+        ap₂ (λ (y : Result ⊤ NamingFault) (b : Bool). reference y b c) is_x is_m ∙ ap (reference (naming_at notes i) (marked_at k notes i)) is_c
         ∙ sym (judged (Some i) (place_some i (noted_place t notes n) (sym e ∙ is-p)))
 
 -- ## Of a text

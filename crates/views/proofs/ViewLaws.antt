@@ -6,7 +6,7 @@
 --   naming_right               == what such notes say of a name
 --   names_only; unjudged, unmatched == what notes of two words say; what no notes say
 -- Assumes nothing.
-use Rattle.std.specs.Prelude.{None, Option, Some}
+use Rattle.std.specs.Prelude.{None, Option, Some, Err, Ok}
 use Prim.Native.Nat.{ℕ, zero, suc, ◌+◌, ◌/◌, ◌%◌, ◌≤◌, ◌<◌}
 use native.Mathlib.Omega.{arith}
 use mathlib.Core.Bool.{Bool, true, false, not, true≢false}
@@ -21,8 +21,8 @@ use Rattle.tables.specs.Tried.{capped, tried_of}
 use Rattle.tables.specs.Code.{tables_in, place_named, tables_checked}
 use Rattle.tables.proofs.EntryLaws.{none_some}
 use Rattle.tables.proofs.TableLaws.{patterns_words, missing_place, named_place, numbered, first_numbered, names_zero}
-use Rattle.views.specs.declared.Naming.{Naming}
-use Rattle.views.specs.declared.Naming.TheVariants as Naming
+use Rattle.views.specs.declared.NamingFault.{NamingFault}
+use Rattle.views.specs.declared.NamingFault.TheVariants as NamingFault
 use Rattle.views.specs.View.{Marks, no_table, table_at, name_leads, word_leads, text_leads, past_at, is_deep, Deep, placed_naming, naming_of}
 use Rattle.views.specs.Names.{noted_place}
 use Rattle.views.specs.View.{marked_at, placed_count, noted_match, noted_tried}
@@ -124,29 +124,29 @@ module _ (ts : List Table) (sound : Closed ts) where
 
     -- what the notes say of a name, where they find its place
     pub naming_right : (t : List ℕ) (n : List ℕ) → noted_place t notes n ≡ place_named ts n → (length notes ≡ 0 → ⊥)
-        → naming_of t notes n ≡ (when is_missing ts n then Naming.Missing else when leads_past ts 4 n then Naming.Deep else Naming.Sound)
+        → naming_of t notes n ≡ (when is_missing ts n then Err NamingFault.Missing else when leads_past ts 4 n then Err NamingFault.Deep else Ok tt)
     unfolding naming_of
     naming_right t n is-place full = rw (full_notes notes full, missing_place ts n, is-place) (by (place_named ts n) refl)
       where
         by : (o : Option ℕ) → place_named ts n ≡ o
-            → placed_naming notes o ≡ (when not (is_some o) then Naming.Missing else when leads_past ts 4 n then Naming.Deep else Naming.Sound)
+            → placed_naming notes o ≡ (when not (is_some o) then Err NamingFault.Missing else when leads_past ts 4 n then Err NamingFault.Deep else Ok tt)
         by None e = refl
-        by (Some i) e = ap (λ (b : Bool). when b then Naming.Deep else Naming.Sound) (deep_right n i e)
+        by (Some i) e = ap (λ (b : Bool). when b then Err NamingFault.Deep else Ok tt) (deep_right n i e)
 
 -- ## Where depth is not judged, and where nothing is
 
 module _ (t : List ℕ) (n : List ℕ) where
   -- notes of two words tell a missing name and no more
-  pub names_only : naming_of t (0 ∷ 0 ∷ []) n ≡ (when is_missing (tables_in t) n then Naming.Missing else Naming.Sound)
+  pub names_only : naming_of t (0 ∷ 0 ∷ []) n ≡ (when is_missing (tables_in t) n then Err NamingFault.Missing else Ok tt)
   unfolding naming_of
   names_only = rw (missing_place (tables_in t) n, other_place t (0 ∷ 0 ∷ []) n (λ e. omega arith)) (by (place_named (tables_in t) n))
     where
-      by : (o : Option ℕ) → placed_naming (0 ∷ 0 ∷ []) o ≡ (when not (is_some o) then Naming.Missing else Naming.Sound)
+      by : (o : Option ℕ) → placed_naming (0 ∷ 0 ∷ []) o ≡ (when not (is_some o) then Err NamingFault.Missing else Ok tt)
       by None = refl
-      by (Some i) = ap (λ (b : Bool). when b then Naming.Deep else Naming.Sound) (sym (deep_outside (0 ∷ 0 ∷ []) i (i / 64 + 2) refl (omega arith)))
+      by (Some i) = ap (λ (b : Bool). when b then Err NamingFault.Deep else Ok tt) (sym (deep_outside (0 ∷ 0 ∷ []) i (i / 64 + 2) refl (omega arith)))
 
   -- no notes say that a table may be named and matches nothing
-  pub unjudged : naming_of t [] n ≡ Naming.Sound
+  pub unjudged : naming_of t [] n ≡ Ok tt
   unfolding naming_of
   unjudged = refl
 

@@ -8,7 +8,7 @@
 -- stand the counts of what is tried, 64 for the client, 64 for the server, and what tells their names. Where there are no notes at all, names are
 -- not judged and nothing matches.
 -- Assumes nothing: these are definitions.
-use Rattle.std.specs.Prelude.{ℕ, zero, suc, ◌+◌, ◌*◌, ◌/◌, ◌%◌, ◌^◌, ◌<◌, Bool, true, false, not, ◌&&◌, ◌||◌, List, [], ◌≡◌, length, get_or, eqb, ltb, None, Option, Some}
+use Rattle.std.specs.Prelude.{ℕ, zero, suc, ◌+◌, ◌*◌, ◌/◌, ◌%◌, ◌^◌, ◌<◌, Bool, true, false, not, ◌&&◌, ◌||◌, List, [], ◌≡◌, length, get_or, eqb, ltb, None, Option, Some, Err, Ok, Result, ⊤}
 use Rattle.std.specs.Int.Bits.{bit_or}
 use Rattle.text.specs.Basics.{when◌then◌else◌, holds, is_empty, any, sum_until}
 use Rattle.text.specs.Text.{first_among}
@@ -17,8 +17,8 @@ use Rattle.patterns.specs.Code.{host_matches}
 use Rattle.tables.specs.Table.{Table, table, table_name}
 use Rattle.tables.specs.Code.{words, place_named, CleanWords, CleanTexts}
 use Rattle.views.specs.Names.{noted_place}
-use Rattle.views.specs.declared.Naming.{Naming}
-use Rattle.views.specs.declared.Naming.TheVariants as Naming
+use Rattle.views.specs.declared.NamingFault.{NamingFault}
+use Rattle.views.specs.declared.NamingFault.TheVariants as NamingFault
 use Rattle.views.specs.declared.Reference.{Reference}
 use Rattle.views.specs.declared.Row.{Row}
 use Rattle.views.specs.declared.Rows.{Rows}
@@ -148,15 +148,15 @@ unfoldable pub Deep : List Table → ℕ → List ℕ → Type 0
 Deep ts d notes = (i : ℕ) → i < length ts → is_deep notes i ≡ past_at ts d i
 
 -- what the notes say of the table at the place i
-abbrev pub naming_at : List ℕ → ℕ → Naming
-naming_at notes i = when is_deep notes i then Naming.Deep else Naming.Sound
+abbrev pub naming_at : List ℕ → ℕ → Result ⊤ NamingFault
+naming_at notes i = when is_deep notes i then Err NamingFault.Deep else Ok tt
 
-abbrev pub placed_naming : List ℕ → Option ℕ → Naming
-placed_naming notes None = Naming.Missing
+abbrev pub placed_naming : List ℕ → Option ℕ → Result ⊤ NamingFault
+placed_naming notes None = Err NamingFault.Missing
 placed_naming notes (Some i) = naming_at notes i
 
-unfoldable pub naming_of : List ℕ → List ℕ → List ℕ → Naming
-naming_of t notes n = when is_empty notes then Naming.Sound else placed_naming notes (noted_place t notes n)
+unfoldable pub naming_of : List ℕ → List ℕ → List ℕ → Result ⊤ NamingFault
+naming_of t notes n = when is_empty notes then Ok tt else placed_naming notes (noted_place t notes n)
 
 -- what the notes say of a named table: whether it matches
 unfoldable pub noted_match : ℕ → List ℕ → List ℕ → List ℕ → Bool

@@ -28,8 +28,7 @@ pub mod names;
 
 // Whether a table may be named: it is there and leads no more than four deep.
 #[derive(Clone, Copy)]
-pub enum Naming {
-    Sound,
+pub enum NamingFault {
     Missing,
     Deep,
 }
@@ -37,7 +36,7 @@ pub enum Naming {
 // What is found of a named table.
 #[derive(Clone, Copy)]
 pub struct Reference {
-    pub naming: Naming,
+    pub naming: Result<(), NamingFault>,
     pub matches: bool,
     pub tried: u64,
 }
@@ -322,13 +321,13 @@ fn is_deep(notes: &[u64], i: usize) -> bool
 }
 
 // Whether the table at the place i may be named.
-fn naming_at(notes: &[u64], i: usize) -> Naming
+fn naming_at(notes: &[u64], i: usize) -> Result<(), NamingFault>
     ensures { result ≡ naming_at notes.now i }
 {
     if is_deep(notes, i) {
-        return Naming::Deep;
+        return Err(NamingFault::Deep);
     }
-    Naming::Sound
+    Ok(())
 }
 
 // Whether the word k of the notes marks the table at the place i.
@@ -367,14 +366,14 @@ pub fn look_up(tables: &[u8], notes: &[u64], k: usize, name: &[u8]) -> Reference
 {
     if notes.len() == 0 {
         return Reference {
-            naming: Naming::Sound,
+            naming: Ok(()),
             matches: false,
             tried: 0,
         };
     }
     match find_noted(tables, notes, name) {
         None => Reference {
-            naming: Naming::Missing,
+            naming: Err(NamingFault::Missing),
             matches: false,
             tried: 0,
         },

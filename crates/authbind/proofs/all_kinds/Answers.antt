@@ -1,16 +1,13 @@
-use borrow.Author.Rules.{rules}
-use Rattle.text.proofs.Search.{outright}
-use Rattle.authbind.proofs.AnswerLaws.{kinds_start, kinds_other, kinds_more, kinds_end}
+-- `authbind::all_kinds` meets its contract: each answer is tested, by std's `all`.
+-- Assumes nothing.
+use Rattle.std.proofs.Common.{◌∙◌, rules, tests}
+use Rattle.std.proofs.lemmas.Iterator.{YieldsList-from_slice}
+use Rattle.std.proofs.lemmas.Iterator.Search.{all_from_yields_List}
+use Rattle.authbind.specs.Code.{is_access}
+use Rattle.authbind.proofs.AnswerLaws.{kinds_all}
 use Rattle.authbind.proofs.all_kinds.Goals as goal
 
-pub loop-i-init : goal.loop-i-init
-loop-i-init c = outright (search (kinds_start, rules))
-
-pub returns-then-answers-i-gt2 : goal.returns-then-answers-i-gt2
-returns-then-answers-i-gt2 c = outright (search (kinds_other, rules))
-
-pub loop-i-preserved : goal.loop-i-preserved
-loop-i-preserved c = outright (search (kinds_more, rules))
-
 pub returns : goal.returns
-returns c = outright (search (kinds_end, rules))
+returns c =
+    all_from_yields_List is_access _ _ _ c.all.ensures.ran (YieldsList-from_slice c.args.answers.now cc) (λ x b q k. search (rules, tests))
+    ∙ kinds_all c.args.answers.now

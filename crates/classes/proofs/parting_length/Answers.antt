@@ -7,8 +7,8 @@ use Rattle.classes.proofs.parting_length.Goals as goal
 pub loop-i-preserved : goal.loop-i-preserved
 loop-i-preserved c = outright (search (passed_more, rules))
 
-pub returns-else-is_parting : goal.returns-else-is_parting
-returns-else-is_parting c = outright (search (passed_stop, rules))
+pub returns-then-not-is_parting : goal.returns-then-not-is_parting
+returns-then-not-is_parting c = outright (search (passed_stop, rules))
 
 pub returns : goal.returns
 returns c = outright (search (span_len_end, rules))

@@ -12,8 +12,8 @@ pub settle_by-requires : goal.settle_by-requires
 settle_by-requires c =
     record { tables_value = search (untabled, rules); tables_value_2 = search (texts_sound, rules); unasked = search (texts_unasked, rules) }
 
-pub returns-in-Err : goal.returns-in-Err
-returns-in-Err c = outright (search (texts_refused, rules))
+pub returns-in_err-answer : goal.returns-in_err-answer
+returns-in_err-answer c = outright (search (texts_refused, rules))
 
-pub returns-in-Ok : goal.returns-in-Ok
-returns-in-Ok c = outright (search (texts_settled, rules))
+pub returns : goal.returns
+returns c = outright (search (texts_settled, rules))

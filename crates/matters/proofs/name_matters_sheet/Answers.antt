@@ -10,5 +10,5 @@ returns-then-not-fits c = outright (search (sheet_unfit, rules))
 pub settle_in_sheet-requires : goal.settle_in_sheet-requires
 settle_in_sheet-requires c = record { request_value = search (sheet_fits, rules); request_value_2 = search (sheet_answered, rules) }
 
-pub returns-in-Err : goal.returns-in-Err
-returns-in-Err c = outright (search (sheet_refused, rules))
+pub returns-in_err-answer : goal.returns-in_err-answer
+returns-in_err-answer c = outright (search (sheet_refused, rules))

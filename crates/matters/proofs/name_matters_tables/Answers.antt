@@ -11,8 +11,8 @@ pub settle_by-requires : goal.settle_by-requires
 settle_by-requires c =
     record { tables_value = search (tables_whole, rules); tables_value_2 = search (tables_sound, rules); unasked = search (tables_unasked, rules) }
 
-pub returns-in-Err : goal.returns-in-Err
-returns-in-Err c = outright (search (tables_refused, rules))
+pub returns-in_err-answer : goal.returns-in_err-answer
+returns-in_err-answer c = outright (search (tables_refused, rules))
 
-pub returns-in-Ok : goal.returns-in-Ok
-returns-in-Ok c = outright (search (tables_settled, rules))
+pub returns : goal.returns
+returns c = outright (search (tables_settled, rules))

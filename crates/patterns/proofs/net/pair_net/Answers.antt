@@ -2,5 +2,5 @@
 use Rattle.patterns.proofs.NetLaws.{pair_net_values}
 use Rattle.patterns.proofs.net.pair_net.Goals as goal
 
-pub returns-in-Some-mask : goal.returns-in-Some-mask
-returns-in-Some-mask c = pair_net_values _ _ _ _ c.in-Some.is c.in-Some-mask.is
+pub returns : goal.returns
+returns c = pair_net_values _ _ _ _ c.in_ok-n.was c.in_ok-m.was

@@ -2,5 +2,5 @@
 use Rattle.patterns.proofs.NetLaws.{prefix_with_values}
 use Rattle.patterns.proofs.net.pair_prefix.Goals as goal
 
-pub returns-in-Some-length : goal.returns-in-Some-length
-returns-in-Some-length c = prefix_with_values _ _ _ _ _ c.in-Some.is c.in-Some-length.is
+pub returns : goal.returns
+returns c = prefix_with_values _ _ _ _ _ c.in_ok-high.was c.in_ok-n.was

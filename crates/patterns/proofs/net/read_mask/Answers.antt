@@ -10,8 +10,8 @@ leading_ones_v4-requires c = outright (search (mask_length, rules))
 pub returns-in-Some : goal.returns-in-Some
 returns-in-Some c = outright (search (mask_written, rules))
 
-pub returns-in-None-read_decimal : goal.returns-in-None-read_decimal
-returns-in-None-read_decimal c = outright (search (mask_none, rules))
+pub returns-in_err-m-in-None : goal.returns-in_err-m-in-None
+returns-in_err-m-in-None c = outright (search (mask_none, rules))
 
-pub returns-in-Some-read_decimal : goal.returns-in-Some-read_decimal
-returns-in-Some-read_decimal c = outright (search (mask_ones, rules))
+pub returns-in_ok-m-in-None : goal.returns-in_ok-m-in-None
+returns-in_ok-m-in-None c = outright (search (mask_ones, rules))
