@@ -268,18 +268,18 @@ abbrev decided_by : List ℕ → Byuid.FileBind → Outcome ByuidDecision
 decided_by text b = Ok (byuid_decision text b.mark b.asked.port b.asked.address b.asked.uid)
 
 module _ (mark port kind high low uid : ℕ) (m : Mark) (is_m : m ≡ mark_by mark) (p : ℕ) (is-p : p ≡ port_by port)
-    (b : Addr) (is_b : b ≡ address_from mark port kind high low) (o : Result Decision Refusal) (a : GateAnswer) (text : List ℕ) where
+    (b : Addr) (is_b : b ≡ address_from mark port kind high low) (o : Outcome ByuidDecision) (a : GateAnswer) (text : List ℕ) where
   file_bind_read : decide_byuid text (Some (Byuid.file_bind m (Byuid.bind p b uid))) ≡ decide_byuid text (byuid_file_bind mark port kind high low uid)
   unfolding decide_byuid
   file_bind_read =
       ap (λ (x : Outcome ByuidDecision). (over_limit S.byuid text or_else byuid_fault text) before x)
       (byuid_file_read port kind high low uid p is-p (decided_by text) mark m is_m b is_b)
 
-  pub byuid_by : o ≡ Byuid.byuid_ruling (decide_byuid text (Some (Byuid.file_bind m (Byuid.bind p b uid)))) → a ≡ byuid_numbers o
+  pub byuid_by : o ≡ decide_byuid text (Some (Byuid.file_bind m (Byuid.bind p b uid))) → a ≡ byuid_numbers o
       → a ≡ byuid_answer (decide_byuid text (byuid_file_bind mark port kind high low uid))
   byuid_by e f = byuid_numbers_lem _ o a e f ∙ ap byuid_answer file_bind_read
 
-module _ (port kind high low uid p : ℕ) (b : Addr) (is-p : p ≡ port_by port) (is_b : b ≡ address_by port kind high low) (o : Result Decision Refusal) (a : GateAnswer) where
+module _ (port kind high low uid p : ℕ) (b : Addr) (is-p : p ≡ port_by port) (is_b : b ≡ address_by port kind high low) (o : Outcome ByuidDecision) (a : GateAnswer) where
   bind_read : (text : List ℕ)
       → decide_byuid text (Byuid.from_file Plain (Some (Byuid.bind p b uid))) ≡ decide_byuid text (Byuid.from_file Plain (byuid_bind port kind high low uid))
   unfolding decide_byuid
@@ -296,12 +296,12 @@ module _ (port kind high low uid p : ℕ) (b : Addr) (is-p : p ≡ port_by port)
       by (Err r) = refl
       by (Ok x) = bind_read (bytes_at sheet x.byuid)
 
-  pub sheet_byuid_by : (sheet : List ℕ) → o ≡ Byuid.byuid_ruling (decide_byuid_sheet sheet (Some (Byuid.bind p b uid))) → a ≡ byuid_numbers o
+  pub sheet_byuid_by : (sheet : List ℕ) → o ≡ decide_byuid_sheet sheet (Some (Byuid.bind p b uid)) → a ≡ byuid_numbers o
       → a ≡ byuid_answer (decide_byuid_sheet sheet (byuid_bind port kind high low uid))
   sheet_byuid_by sheet e f = byuid_numbers_lem _ o a e f ∙ ap byuid_answer (sheet_bind_read sheet)
 
 module _ (uid protocol port : ℕ) (s : Settings) (groups groups' : List ℕ) (x : Target)
-    (is_x : x ≡ target_of protocol port) (is-groups : groups' ≡ (when x.fit then groups else replicate 17 0)) (o : Result Decision Refusal) (a : GateAnswer) where
+    (is_x : x ≡ target_of protocol port) (is-groups : groups' ≡ (when x.fit then groups else replicate 17 0)) (o : Outcome PortaclDecision) (a : GateAnswer) where
   entry_read : (text : List ℕ) → decide_portacl text s (Some (Portacl.bind uid groups' x.protocol x.port))
       ≡ decide_portacl text s (portacl_bind uid groups protocol port)
   unfolding decide_portacl
@@ -309,7 +309,7 @@ module _ (uid protocol port : ℕ) (s : Settings) (groups groups' : List ℕ) (x
       ap (λ (y : Outcome PortaclDecision). (over_limit S.portacl text or_else portacl_fault text) before y)
       (portacl_read uid protocol port groups groups' x is_x is-groups (λ b. Ok (portacl_decision text s b)))
 
-  pub portacl_by : (text : List ℕ) → o ≡ Portacl.portacl_ruling (decide_portacl text s (Some (Portacl.bind uid groups' x.protocol x.port)))
+  pub portacl_by : (text : List ℕ) → o ≡ decide_portacl text s (Some (Portacl.bind uid groups' x.protocol x.port))
       → a ≡ portacl_numbers o → a ≡ portacl_answer (decide_portacl text s (portacl_bind uid groups protocol port))
   portacl_by text e f = portacl_numbers_lem _ o a e f ∙ ap portacl_answer (entry_read text)
 
@@ -323,7 +323,7 @@ module _ (uid protocol port : ℕ) (s : Settings) (groups groups' : List ℕ) (x
       by (Err r) = refl
       by (Ok y) = entry_read (bytes_at sheet y.portacl)
 
-  pub sheet_portacl_by : (sheet : List ℕ) → o ≡ Portacl.portacl_ruling (decide_portacl_sheet sheet s (Some (Portacl.bind uid groups' x.protocol x.port)))
+  pub sheet_portacl_by : (sheet : List ℕ) → o ≡ decide_portacl_sheet sheet s (Some (Portacl.bind uid groups' x.protocol x.port))
       → a ≡ portacl_numbers o → a ≡ portacl_answer (decide_portacl_sheet sheet s (portacl_bind uid groups protocol port))
   sheet_portacl_by sheet e f = portacl_numbers_lem _ o a e f ∙ ap portacl_answer (sheet_entry_read sheet)
 

@@ -312,7 +312,7 @@ module _ (sheet : List ℕ) (all : Option (List RequestNumbers)) (d o : List ℕ
   pub answering_text : length rest ≤ 0 → o ≡ after (all_answers sheet all) d
   answering_text h = w.text ∙ ap (λ (s : List ℕ). after s d) (sym (all_done h))
 
-  module _ (h : 0 < length rest) (x : Option Fields) (is_x : x ≡ (fields_at rest)) where
+  module _ (h : 0 < length rest) (x : Option Fields) (is_x : x ≡ fields_at rest) where
     no_cut : x ≡ None → ⊥
     no_cut e = by w.most w.parts_left
       where

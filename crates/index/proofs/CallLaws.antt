@@ -25,7 +25,6 @@ use Rattle.tables.proofs.EntryLaws.{some_same}
 use Rattle.sheet.specs.declared.Parts.{Parts}
 use Rattle.sheet.specs.Sheet.{unpack}
 use Rattle.sheet.proofs.FrameLaws.{bind_answered, refusing_answered}
-use Rattle.sheet.proofs.UnpackLaws.{unpacked_refused, unpacked_parts}
 use Rattle.codes.specs.Requests.{RequestNumbers}
 use Rattle.index.specs.Index.{index_bytes, write_index, read_request, parted, read_requests, answer_bytes, lone_answer, answers_to, answer_all, verdicts}
 use Rattle.index.specs.Code.{counted_of, all_answers, Fitting}
@@ -33,10 +32,10 @@ use Rattle.index.proofs.AnswerLaws.{length_answer, length_answers}
 
 -- ## Writing the index
 
-module _ (sheet : List ℕ) (x : Result Parts Refusal) (is_x : x ≡ (unpack sheet)) where
+module _ (sheet : List ℕ) (x : Result Parts Refusal) (is_x : x ≡ unpack sheet) where
   module _ (g : Refusal) (e : x ≡ Err g) where
     not_unpacked : unpack sheet ≡ Err g
-    not_unpacked = unpacked_refused (unpack sheet) g (sym is_x ∙ e)
+    not_unpacked = sym is_x ∙ e
 
     pub write_refused : (n : ℕ) → Err g ≡ written_of (write_index sheet n)
     unfolding write_index
@@ -57,7 +56,7 @@ module _ (sheet : List ℕ) (x : Result Parts Refusal) (is_x : x ≡ (unpack she
 
   module _ (p : Parts) (e : x ≡ Ok p) where
     pub unpack_is : unpack sheet ≡ Ok p
-    unpack_is = unpacked_parts (unpack sheet) p (sym is_x ∙ e)
+    unpack_is = sym is_x ∙ e
 
     pub write_answer : (n : ℕ) (r : Result ℕ Refusal) → r ≡ written_of (within_room n (index_bytes sheet p)) → r ≡ written_of (write_index sheet n)
     unfolding write_index

@@ -296,14 +296,6 @@ module _ (sheet : List ℕ) (base : ℕ) (v : Verdict) (f : File) (e : Entry) (x
 
 -- ## The loop over the entries
 
-sought_some : (o : Option Answer) (a : Answer) → o ≡ Some a → o ≡ Some a
-sought_some None a e = let z : ◌≡◌ {A = ℕ} 0 1 = cc in absurd (omega arith)
-sought_some (Some b) a e = cc
-
-sought_none : (o : Option Answer) → o ≡ None → o ≡ None
-sought_none None e = refl
-sought_none (Some b) e = let z : ◌≡◌ {A = ℕ} 0 1 = cc in absurd (omega arith)
-
 cons_left : (es : List Entry) (rest : List ℕ) → rest ≡ table_bytes es → 32 ≤ length rest → (e : Entry) × ((fs : List Entry) × (es ≡ e ∷ fs))
 unfolding table_bytes
 cons_left [] rest b h = absurd (omega (arith, ap length b))
@@ -382,7 +374,7 @@ module _ (sheet : List ℕ) (base : ℕ) (v : Verdict) (f : File) (q : Query) wh
 
       module _ (e : Entry) (is-e : e ≡ entry_at rest) (x : Looked)
           (is_x : x ≡ looked_for (query_found q (entry_rule sheet e)) (capped (query_looked q (entry_rule sheet e))))
-          (n : ℕ) (is-n : n ≡ capped (k + x.looked)) (o : Option Answer) (is-o : o ≡ (rule_answer_at sheet base v f e x.found)) where
+          (n : ℕ) (is-n : n ≡ capped (k + x.looked)) (o : Option Answer) (is-o : o ≡ rule_answer_at sheet base v f e x.found) where
         is_head : e ≡ head
         is_head = is-e ∙ head_is
 
@@ -400,7 +392,7 @@ module _ (sheet : List ℕ) (base : ℕ) (v : Verdict) (f : File) (q : Query) wh
         pub seeks_found : (a : Answer) → o ≡ Some a → ◌≡◌ {A = Seeking} (record { sought = Some a; looked = n }) (seek_in sheet base v f q whole)
         unfolding seek_in
         seeks_found a g =
-            let s : ans head ≡ Some a = sym answer_here ∙ sought_some (rule_answer_at sheet base v f e x.found) a (sym is-o ∙ g) in
+            let s : ans head ≡ Some a = sym answer_here ∙ sym is-o ∙ g in
             let z : k + (entry_looked sheet q head + 0) ≡ k + entry_looked sheet q head = omega arith in
             sym (ap₂ seeking
             (finds_on ∙ ap (λ (u : Option Answer). u or_else first ans others) s)
@@ -409,7 +401,7 @@ module _ (sheet : List ℕ) (base : ℕ) (v : Verdict) (f : File) (q : Query) wh
 
         pub seeks_more : o ≡ None → Seeks whole (take (length rest - 32) (drop 32 rest)) n
         seeks_more g =
-            let s : ans head ≡ None = sym answer_here ∙ sought_none (rule_answer_at sheet base v f e x.found) (sym is-o ∙ g) in
+            let s : ans head ≡ None = sym answer_here ∙ sym is-o ∙ g in
             record {
               left = others;
               bytes = rest_on;

@@ -88,14 +88,6 @@ module _ (t : List ℕ) (at : ℕ) where
     unfolding text_at
     text_whole k = rw (lt-leb (length t) at h, ← is-n, lt-leb (length t - at) n k)
 
-text_none : (o : Option Part) → o ≡ None → o ≡ None
-text_none None e = refl
-text_none (Some p) e = let z : ◌≡◌ {A = ℕ} 0 1 = cc in absurd (omega arith)
-
-text_some : (o : Option Part) (p : Part) → o ≡ Some p → o ≡ Some p
-text_some None p e = let z : ◌≡◌ {A = ℕ} 0 1 = cc in absurd (omega arith)
-text_some (Some q) p e = cc
-
 -- what was read of a text at its place
 abbrev text_by : List ℕ → Option Part → Option (List ℕ × List ℕ)
 text_by s None = None
@@ -159,22 +151,14 @@ module _ (t : List ℕ) (at : ℕ) where
   unfolding host_at
   host_short h = rw (lt-ltb (length t - at) 18 h)
 
-  module _ (h : 18 ≤ length t - at) (x : Option Part) (is_x : x ≡ (text_at (at + 18) t)) where
+  module _ (h : 18 ≤ length t - at) (x : Option Part) (is_x : x ≡ text_at (at + 18) t) where
     pub host_cut : x ≡ None → None ≡ host_at at t
     unfolding host_at
-    host_cut e = rw (le-ltb (length t - at) 18 h, text_none (text_at (at + 18) t) (sym is_x ∙ e))
+    host_cut e = rw (le-ltb (length t - at) 18 h, sym is_x ∙ e)
 
     pub host_whole : (p : Part) → x ≡ Some p → (n : HostNumbers) → n ≡ numbers_at at t → Some (host_fields n p) ≡ host_at at t
     unfolding host_at
-    host_whole p e n is-n = rw (le-ltb (length t - at) 18 h, text_some (text_at (at + 18) t) p (sym is_x ∙ e), is-n)
-
-host_none : (o : Option HostFields) → o ≡ None → o ≡ None
-host_none None e = refl
-host_none (Some p) e = let z : ◌≡◌ {A = ℕ} 0 1 = cc in absurd (omega arith)
-
-host_some : (o : Option HostFields) (p : HostFields) → o ≡ Some p → o ≡ Some p
-host_some None p e = let z : ◌≡◌ {A = ℕ} 0 1 = cc in absurd (omega arith)
-host_some (Some q) p e = cc
+    host_whole p e n is-n = rw (le-ltb (length t - at) 18 h, sym is_x ∙ e, is-n)
 
 abbrev host_placed : List ℕ → Option HostFields → Option ((HostNumbers × List ℕ) × List ℕ)
 host_placed s None = None
@@ -248,27 +232,27 @@ module _ (d : Part) (c s : HostFields) (t : List ℕ) where
   unfolding user_from
   user_past h = rw (le-leb (length t) (part_end s.name) h)
 
-  module _ (h : part_end s.name < length t) (x : Option Part) (is_x : x ≡ (text_at (part_end s.name + 1) t)) where
+  module _ (h : part_end s.name < length t) (x : Option Part) (is_x : x ≡ text_at (part_end s.name + 1) t) where
     pub user_cut : x ≡ None → None ≡ user_from d c s t
     unfolding user_from
-    user_cut e = rw (lt-leb (length t) (part_end s.name) h, text_none (text_at (part_end s.name + 1) t) (sym is_x ∙ e))
+    user_cut e = rw (lt-leb (length t) (part_end s.name) h, sym is_x ∙ e)
 
     pub user_whole : (p : Part) → x ≡ Some p → (u : ℕ) → u ≡ get_or t (part_end s.name) 0
         → Some (fields_of d c s u p) ≡ user_from d c s t
     unfolding user_from
-    user_whole p e u is-u = rw (lt-leb (length t) (part_end s.name) h, text_some (text_at (part_end s.name + 1) t) p (sym is_x ∙ e), is-u)
+    user_whole p e u is-u = rw (lt-leb (length t) (part_end s.name) h, sym is_x ∙ e, is-u)
 
     pub user_end : (p : Part) → x ≡ Some p → (m : ℕ) → length t < m → p.place + p.len < m
-    user_end p e m h = omega (arith, (text_within t (part_end s.name + 1) p (text_some (text_at (part_end s.name + 1) t) p (sym is_x ∙ e))).1)
+    user_end p e m h = omega (arith, (text_within t (part_end s.name + 1) p (sym is_x ∙ e)).1)
 
-module _ (d : Part) (t : List ℕ) (x : Option HostFields) (is_x : x ≡ (host_at (part_end d) t)) where
+module _ (d : Part) (t : List ℕ) (x : Option HostFields) (is_x : x ≡ host_at (part_end d) t) where
   pub hosts_cut : x ≡ None → None ≡ hosts_from d t
   unfolding hosts_from
-  hosts_cut e = rw (host_none (host_at (part_end d) t) (sym is_x ∙ e))
+  hosts_cut e = rw (sym is_x ∙ e)
 
   module _ (c : HostFields) (e : x ≡ Some c) where
     client_is : host_at (part_end d) t ≡ Some c
-    client_is = host_some (host_at (part_end d) t) c (sym is_x ∙ e)
+    client_is = sym is_x ∙ e
 
     pub client_within : part_end c.name ≤ length t
     client_within = host_within t (part_end d) c client_is
@@ -276,14 +260,14 @@ module _ (d : Part) (t : List ℕ) (x : Option HostFields) (is_x : x ≡ (host_a
     pub client_end : (m : ℕ) → length t < m → c.name.place + c.name.len < m
     client_end m h = omega (arith, client_within)
 
-    module _ (y : Option HostFields) (is_y : y ≡ (host_at (part_end c.name) t)) where
+    module _ (y : Option HostFields) (is_y : y ≡ host_at (part_end c.name) t) where
       pub hosts_cut_2 : y ≡ None → None ≡ hosts_from d t
       unfolding hosts_from
-      hosts_cut_2 f = rw (client_is, host_none (host_at (part_end c.name) t) (sym is_y ∙ f))
+      hosts_cut_2 f = rw (client_is, sym is_y ∙ f)
 
       module _ (s : HostFields) (f : y ≡ Some s) where
         server_is : host_at (part_end c.name) t ≡ Some s
-        server_is = host_some (host_at (part_end c.name) t) s (sym is_y ∙ f)
+        server_is = sym is_y ∙ f
 
         pub server_within : part_end s.name ≤ length t
         server_within = host_within t (part_end c.name) s server_is
@@ -292,14 +276,14 @@ module _ (d : Part) (t : List ℕ) (x : Option HostFields) (is_x : x ≡ (host_a
         unfolding hosts_from
         hosts_both r is-r = is-r ∙ sym (rw (client_is, server_is))
 
-module _ (t : List ℕ) (x : Option Part) (is_x : x ≡ (text_at 0 t)) where
+module _ (t : List ℕ) (x : Option Part) (is_x : x ≡ text_at 0 t) where
   pub request_cut : x ≡ None → None ≡ fields_at t
   unfolding fields_at
-  request_cut e = rw (text_none (text_at 0 t) (sym is_x ∙ e))
+  request_cut e = rw (sym is_x ∙ e)
 
   module _ (d : Part) (e : x ≡ Some d) where
     daemon_is : text_at 0 t ≡ Some d
-    daemon_is = text_some (text_at 0 t) d (sym is_x ∙ e)
+    daemon_is = sym is_x ∙ e
 
     pub daemon_within : part_end d ≤ length t
     daemon_within = (text_within t 0 d daemon_is).1
@@ -408,17 +392,9 @@ module _ (t : List ℕ) where
   fields_end f None e = let z : ◌≡◌ {A = ℕ} 0 1 = cc e in absurd (omega arith)
   fields_end f (Some d) e = hosts_end d f (host_at (part_end d) t) e
 
-request_none : (o : Option Fields) → o ≡ None → o ≡ None
-request_none None e = refl
-request_none (Some p) e = let z : ◌≡◌ {A = ℕ} 0 1 = cc in absurd (omega arith)
-
-request_some : (o : Option Fields) (p : Fields) → o ≡ Some p → o ≡ Some p
-request_some None p e = let z : ◌≡◌ {A = ℕ} 0 1 = cc in absurd (omega arith)
-request_some (Some q) p e = cc
-
-module _ (t : List ℕ) (x : Option Fields) (is_x : x ≡ (fields_at t)) (f : Fields) (e : x ≡ Some f) where
+module _ (t : List ℕ) (x : Option Fields) (is_x : x ≡ fields_at t) (f : Fields) (e : x ≡ Some f) where
   fields_are : fields_at t ≡ Some f
-  fields_are = request_some (fields_at t) f (sym is_x ∙ e)
+  fields_are = sym is_x ∙ e
 
   ends : (0 < f.end) × (f.end ≤ length t)
   unfolding fields_at
@@ -463,9 +439,9 @@ parted_cons_some k x t n u e = rw e (by (parted k u))
     by None = refl
     by (Some rs) = refl
 
-module _ (t : List ℕ) (h : 0 < length t) (k : ℕ) (x : Option Fields) (is_x : x ≡ (fields_at t)) where
+module _ (t : List ℕ) (h : 0 < length t) (k : ℕ) (x : Option Fields) (is_x : x ≡ fields_at t) where
   pub parted_cut : x ≡ None → parted (suc k) t ≡ None
-  parted_cut e = by t h (request_placed t ∙ ap (request_by t) (request_none (fields_at t) (sym is_x ∙ e)))
+  parted_cut e = by t h (request_placed t ∙ ap (request_by t) (sym is_x ∙ e))
     where
       by : (t : List ℕ) → 0 < length t → read_request t ≡ None → parted (suc k) t ≡ None
       by [] h e = absurd (omega arith)
@@ -513,7 +489,7 @@ module _ (bytes rest : List ℕ) (k : ℕ) (w : Parting bytes rest k) where
         let z : 32 - k ≡ 0 = omega arith in
         sym (w.same ∙ ap (λ (j : ℕ). counted_from k (parted j rest)) z ∙ ap (counted_from k) (parted_none rest h))
 
-    module _ (n : k ≡ 32 → ⊥) (x : Option Fields) (is_x : x ≡ (fields_at rest)) where
+    module _ (n : k ≡ 32 → ⊥) (x : Option Fields) (is_x : x ≡ fields_at rest) where
       left_is : 32 - k ≡ suc (32 - (k + 1))
       left_is = omega (arith, w.few, n)
 

@@ -6,7 +6,7 @@
 --   verdicts sheet index requests room == the call that answers them
 -- Numbers have four bytes, most significant first, unless said.
 -- Assumes nothing: these are definitions.
-use Rattle.std.specs.Prelude.{ℕ, zero, suc, ◌+◌, ◌-◌, ◌/◌, Bool, false, not, ◌||◌, List, [], ◌∷◌, ◌++◌, length, take, drop, leb, Err, None, Option, Some, unwrap_or}
+use Rattle.std.specs.Prelude.{ℕ, zero, suc, ◌+◌, ◌-◌, ◌/◌, Bool, false, not, ◌||◌, List, [], ◌∷◌, ◌++◌, length, take, drop, leb, Err, None, Ok, Option, Some, unwrap_or}
 use Rattle.text.specs.Basics.{when◌then◌else◌, ◌>>=◌, given}
 use Rattle.text.specs.Text.{equal}
 use Rattle.text.specs.Number.{from_digits, to_digits}

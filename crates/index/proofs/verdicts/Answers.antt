@@ -14,8 +14,8 @@ answer_parts-requires c = outright (search (unpack_is, index_is, rules))
 pub returns-then-is_index : goal.returns-then-is_index
 returns-then-is_index c = record { answer = search (verdicts_answer, rules); holds = search (verdicts_holds, rules) }
 
-pub returns-in-Err : goal.returns-in-Err
-returns-in-Err c = record { answer = search (verdicts_refused, rules); holds = search (verdicts_untouched, rules) }
+pub returns-in_err-parts : goal.returns-in_err-parts
+returns-in_err-parts c = record { answer = search (verdicts_refused, rules); holds = search (verdicts_untouched, rules) }
 
-pub returns-else-is_index : goal.returns-else-is_index
-returns-else-is_index c = record { answer = search (verdicts_wrong, rules); holds = search (wrong_untouched, rules) }
+pub returns : goal.returns
+returns c = record { answer = search (verdicts_wrong, rules); holds = search (wrong_untouched, rules) }

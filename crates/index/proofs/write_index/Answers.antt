@@ -7,8 +7,11 @@ use Rattle.index.proofs.write_index.Goals as goal
 pub write_parts-requires : goal.write_parts-requires
 write_parts-requires c = outright (search (unpack_is, rules))
 
-pub returns-in-Err : goal.returns-in-Err
-returns-in-Err c = record { answer = search (write_refused, rules); holds = search (write_untouched, rules) }
+pub returns-in_err-parts : goal.returns-in_err-parts
+returns-in_err-parts c = record { answer = search (write_refused, rules); holds = search (write_untouched, rules) }
 
-pub returns-in-Ok : goal.returns-in-Ok
-returns-in-Ok c = record { answer = search (write_answer, rules); holds = search (write_holds, rules) }
+pub returns : goal.returns
+returns c = record {
+  answer = search (write_answer, rules);
+  holds = write_holds _ _ c.unpack.ensures _ c.in_ok-parts.was _ _ _ c.write_parts.ensures.holds;
+}

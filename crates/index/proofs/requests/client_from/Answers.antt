@@ -5,19 +5,19 @@ use Rattle.index.proofs.RequestLaws.{hosts_cut, client_within, client_end, hosts
 use Rattle.index.proofs.requests.client_from.Goals as goal
 
 pub overflow_add-client : goal.overflow_add-client
-overflow_add-client c = outright (search (client_end, rules))
+overflow_add-client c = outright (search (client_end c.args.daemon _ _ c.host_at.ensures _ c.in_ok-client.was, rules))
 
-pub host_at-requires-in-Some : goal.host_at-requires-in-Some
-host_at-requires-in-Some c = outright (search (client_within, rules))
+pub host_at-requires-2 : goal.host_at-requires-2
+host_at-requires-2 c = outright (search (client_within, rules))
 
 pub user_from-requires : goal.user_from-requires
-user_from-requires c = outright (search (server_within, rules))
+user_from-requires c = server_within c.args.daemon _ _ c.host_at.ensures _ c.in_ok-client.was _ c.host_at-2.ensures _ c.in_ok-server.was
 
-pub returns-in-None : goal.returns-in-None
-returns-in-None c = outright (search (hosts_cut, rules))
+pub returns-in_err-client : goal.returns-in_err-client
+returns-in_err-client c = outright (search (hosts_cut, rules))
 
-pub returns-in-None-host_at : goal.returns-in-None-host_at
-returns-in-None-host_at c = outright (search (hosts_cut_2, rules))
+pub returns-in_err-server : goal.returns-in_err-server
+returns-in_err-server c = outright (search (hosts_cut_2, rules))
 
-pub returns-in-Some-host_at : goal.returns-in-Some-host_at
-returns-in-Some-host_at c = outright (search (hosts_both, rules))
+pub returns : goal.returns
+returns c = hosts_both c.args.daemon _ _ c.host_at.ensures _ c.in_ok-client.was _ c.host_at-2.ensures _ c.in_ok-server.was _ c.user_from.ensures

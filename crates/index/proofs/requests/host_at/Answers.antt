@@ -7,8 +7,8 @@ use Rattle.index.proofs.requests.host_at.Goals as goal
 pub returns-then-bytes-at-lt18 : goal.returns-then-bytes-at-lt18
 returns-then-bytes-at-lt18 c = outright (search (host_short, rules))
 
-pub returns-in-None : goal.returns-in-None
-returns-in-None c = outright (search (host_cut, rules))
+pub returns-in_err-name : goal.returns-in_err-name
+returns-in_err-name c = outright (search (host_cut, rules))
 
-pub returns-in-Some : goal.returns-in-Some
-returns-in-Some c = outright (search (host_whole, rules))
+pub returns : goal.returns
+returns c = outright (search (host_whole, rules))

@@ -7,8 +7,8 @@ use Rattle.index.proofs.requests.request_at.Goals as goal
 pub client_from-requires : goal.client_from-requires
 client_from-requires c = outright (search (daemon_within, rules))
 
-pub returns-in-None : goal.returns-in-None
-returns-in-None c = outright (search (request_cut, rules))
+pub returns-in_err-daemon : goal.returns-in_err-daemon
+returns-in_err-daemon c = outright (search (request_cut, rules))
 
-pub returns-in-Some : goal.returns-in-Some
-returns-in-Some c = outright (search (request_whole, rules))
+pub returns : goal.returns
+returns c = outright (search (request_whole, rules))
