@@ -1,13 +1,12 @@
 -- Laws of the names: their parts one after the other, how long they are, and which test has which.
 -- Assumes nothing.
 use Rattle.std.specs.Prelude.{Err, Ok}
-use Prim.Native.Nat.{ℕ, zero, suc, ◌+◌, ◌*◌, ◌/◌, ◌^◌, ◌<◌, ◌≤◌}
-use mathlib.Core.Bool.{Bool, true, false, not, ◌&&◌, ◌||◌}
-use mathlib.Core.List.{List, [], ◌∷◌, ◌++◌}
-use mathlib.Core.Path.{◌≡◌, refl, sym, ap, ◌∙◌}
+use Prim.Native.Nat.{ℕ, zero, suc, ◌+◌, ◌*◌, ◌^◌, ◌<◌, ◌≤◌}
+use mathlib.Core.Bool.{Bool, true, false, not}
+use mathlib.Core.List.{List, [], ◌++◌}
+use mathlib.Core.Path.{◌≡◌, refl, ap, ◌∙◌}
 use native.Mathlib.Omega.{arith}
-use borrow.Author.Tests.{lt-ltb, le-ltb, eq-eqb, ne_eqb, eqb-true, eqb-false}
-use lib.Dec.{ltb, eqb}
+use borrow.Author.Tests.{lt-ltb, le-ltb, eq-eqb, ne_eqb}
 use lib.ListN.{length, take, drop, get_or, length-append}
 use lib.Seq.{take-length, take-paste}
 use Rattle.text.specs.Basics.{when◌then◌else◌}
@@ -26,9 +25,8 @@ use Rattle.address.specs.Address.{hex_groups, text_v4, text_v6, addr_text}
 use Rattle.address_format.proofs.WriteLaws.{length_addr_text, length_hex_groups, addr_text_v4}
 use Rattle.address_format.proofs.WriteText.{Wrote, wrote_nil, front_room, rest_room, rest_all, second_room, third_room, third_all}
 use Rattle.authbind.specs.declared.File.{File}
-use Rattle.authbind.specs.declared.File.TheVariants as File
 use Rattle.authbind.specs.Authbind.{unabbreviated, tests, by_uid}
-use Rattle.authbind.specs.Code.{has_third, count_tests, file_of, folder_of, mark_for, third_text, address_in, number_in, name_for}
+use Rattle.authbind.specs.Code.{count_tests, file_of, folder_of, mark_for, third_text, address_in, number_in, name_for}
 
 -- ## Which test has which name
 

@@ -1,15 +1,14 @@
 -- Laws of the call: where the answers lead along the tests, and what each check follows from.
 -- Assumes nothing.
 use Rattle.std.specs.Prelude.{Err, Ok, Result, Some}
-use Prim.Native.Nat.{ℕ, zero, suc, ◌+◌, ◌*◌, ◌/◌, ◌^◌, ◌<◌, ◌≤◌}
+use Prim.Native.Nat.{ℕ, suc, ◌+◌, ◌*◌, ◌/◌, ◌^◌, ◌<◌, ◌≤◌}
 use mathlib.Core.Bool.{Bool, true, false, not, ◌&&◌, ◌||◌}
 use mathlib.Core.List.{List, [], ◌∷◌, map}
 use mathlib.Core.Path.{◌≡◌, refl, sym, ap, ◌∙◌}
 use native.Mathlib.Omega.{arith}
-use native.Mathlib.Nat.{zero-add}
-use borrow.Author.Tests.{le-ltb, ltb-true, ltb-false, leb-true, leb-false, eqb-true, eqb-false, eq-eqb, ne_eqb}
+use borrow.Author.Tests.{le-ltb, ltb-true, ltb-false, leb-true, leb-false, eqb-true, eqb-false, ne_eqb}
 use lib.Dec.{leb, ltb, eqb}
-use lib.ListN.{length, drop, get_or, drop_of_length-le}
+use lib.ListN.{length, drop, drop_of_length-le}
 use lib.Seq.{drop-cons}
 use Rattle.text.specs.Basics.{when◌then◌else◌, given, all}
 use Rattle.text.specs.Basics.{◌>>=◌ as ◌and_then◌}
@@ -20,16 +19,14 @@ use Rattle.address.specs.declared.Addr.{Addr}
 use Rattle.address.specs.declared.Addr.TheVariants as A
 use Rattle.address.specs.Address.{addr_case}
 use Rattle.byuid.specs.Byuid.{bind, is_ruled}
-use Rattle.authbind.specs.declared.Access.TheVariants.{Absent, Allowed, Other}
 use Rattle.authbind.specs.declared.File.{File}
-use Rattle.authbind.specs.declared.File.TheVariants as File
 use Rattle.authbind.specs.declared.Next.{Next}
 use Rattle.authbind.specs.declared.Next.TheVariants as N
 use Rattle.authbind.specs.declared.Turn.{Turn}
 use Rattle.authbind.specs.declared.Turn.TheVariants as T
 use Rattle.authbind.specs.Authbind.{tests, by_uid, Step, test, read, granted, denied, not_ruled, walk, Asked, asked, asking, address_known, dotted, left_out}
 use Rattle.authbind.specs.Authbind.{with_room, next_step, name_written, next_of}
-use Rattle.authbind.specs.Code.{is_access, access_by, settled_by, turn_at, count_tests, file_of, name_for, test_of, read_of, step_at}
+use Rattle.authbind.specs.Code.{is_access, access_by, turn_at, count_tests, file_of, name_for, test_of, read_of, step_at}
 use Rattle.authbind.proofs.AnswerLaws.{each_access}
 use Rattle.authbind.proofs.NameLaws.{test_name, byuid_name, count_tests_lem}
 

@@ -11,18 +11,19 @@ use Rattle.text.specs.Basics.{when◌then◌else◌}
 use Rattle.text.specs.Text.{bytes, equal, in_range}
 use Rattle.text.specs.Number.{decimal}
 use Rattle.section.specs.declared.Fault.TheVariants as F
+use Rattle.section.specs.declared.Refusal.{Refusal}
 use Rattle.section.specs.Refusal.{Outcome, placeless}
 use Rattle.address.specs.declared.Addr.{Addr}
 use Rattle.address.specs.Address.{addr_case, text_v4, text_v6, addr_text}
 use Rattle.authbind.specs.declared.Access.{Access}
 use Rattle.authbind.specs.declared.Access.TheVariants.{Absent, Allowed, Other}
 use Rattle.authbind.specs.declared.File.{File}
-use Rattle.authbind.specs.declared.File.TheVariants as File
 use Rattle.authbind.specs.declared.Turn.{Turn}
 use Rattle.authbind.specs.declared.Turn.TheVariants as T
 use Rattle.authbind.specs.declared.Next.{Next}
 use Rattle.authbind.specs.declared.Next.TheVariants as N
 use Rattle.authbind.specs.Authbind.{unabbreviated, Step, test, read, granted, denied, with_room}
+use Rattle.section.specs.declared.Refusal.{Refusal}
 
 abbrev pub is_access : ℕ → Bool
 is_access b = leb b 2

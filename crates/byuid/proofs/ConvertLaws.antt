@@ -6,22 +6,22 @@
 --   convert_text_same, convert_text_again == a text without such lines stays, and so does a converted one
 -- Assumes nothing.
 use Rattle.std.specs.Prelude.{Err, None, Ok, Option, Some}
-use Prim.Native.Nat.{ℕ, suc, ◌+◌, ◌-◌, ◌*◌, ◌^◌, ◌<◌, ◌≤◌}
-use mathlib.Core.Bool.{Bool, true, false, not, ◌&&◌, ◌||◌, true≢false, and-false}
+use Prim.Native.Nat.{ℕ, suc, ◌+◌, ◌-◌, ◌<◌, ◌≤◌}
+use mathlib.Core.Bool.{Bool, true, false, not, ◌&&◌, true≢false, and-false}
 use mathlib.Core.List.{List, [], ◌∷◌, ◌++◌, map, append_assoc, append-nil}
-use mathlib.Core.Path.{◌≡◌, refl, sym, ap, ap₂, ◌∙◌}
+use mathlib.Core.Path.{◌≡◌, refl, sym, ap, ◌∙◌}
 use native.Mathlib.Omega.{arith}
 use native.Mathlib.Numerals.{add-one}
-use borrow.Author.Tests.{lt-ltb, le-ltb, ltb-true, ltb-false, leb-true, leb-false, lt-leb, le-leb}
+use borrow.Author.Tests.{lt-ltb, le-ltb, ltb-true, ltb-false, leb-true, leb-false, lt-leb}
 use lib.Dec.{leb, ltb}
 use lib.ListN.{length, take, drop, set, length-append, length-map, length-set, length-drop, length-take, drop_of_length-le}
 use lib.Seq.{length-take-le, take_all, take-length, drop-drop, drop-cons, set-append_seam}
-use Rattle.text.specs.Basics.{when◌then◌else◌, ◌>>=◌, ◌or_else◌, holds, any, all}
+use Rattle.text.specs.Basics.{when◌then◌else◌, ◌or_else◌, holds, any, all}
 use Rattle.text.specs.Text.{bytes, in_range, split_once, split, intercalate}
 use Rattle.text.specs.Scan.{index_of, put_at, after}
 use Rattle.text.proofs.BasicLaws.{and_true, all_append}
-use Rattle.text.proofs.Intercalate.{free, all_append_left, all_append_right, split_intercalate}
-use Rattle.text.proofs.PasteLaws.{length_put_at, after_nil, length_after, text_more}
+use Rattle.text.proofs.Intercalate.{free, split_intercalate}
+use Rattle.text.proofs.PasteLaws.{after_nil, text_more}
 use Rattle.text.proofs.ScanLaws.{take_rest, split_mark, split_no_mark, split_once_mark, split_once_no_mark}
 use Rattle.section.specs.declared.Fault.TheVariants as F
 use Rattle.section.specs.declared.Refusal.{Refusal}
@@ -30,13 +30,13 @@ use Rattle.section.specs.Section as S
 use Rattle.section.specs.Section.{over_limit}
 use Rattle.address.specs.declared.Addr.{Addr}
 use Rattle.address.specs.declared.Addr.TheVariants as A
-use Rattle.address.specs.Address.{read_v4, read_v6}
+use Rattle.address.specs.Address.{read_v4}
 use Rattle.byuid.specs.declared.Decision.{Decision}
 use Rattle.byuid.specs.declared.Mark.{Mark}
 use Rattle.byuid.specs.Byuid.{Range, read_comma_form, read_colon_form, within, line_grants, is_retired, retired_fault, byuid_fault, byuid_decision, FileBind}
 use Rattle.byuid.specs.Byuid.{address_known, decide_byuid}
-use Rattle.byuid.specs.Convert.{exchanged, convert_line, convert_text, convert, line_granted, decision_before, decided_before}
-use Rattle.byuid.proofs.FormLaws.{free_before, no_mark, first_mark, digits_free, Form, form, unread, retired_form, new_form, before_free, new_form_v4}
+use Rattle.byuid.specs.Convert.{convert_line, convert_text, convert, line_granted, decision_before, decided_before}
+use Rattle.byuid.proofs.FormLaws.{no_mark, digits_free, Form, unread, retired_form, new_form, before_free, new_form_v4}
 use Rattle.byuid.proofs.FormLaws.{new_form_v6, retired_no_comma_v4, retired_no_comma_v6}
 use Rattle.byuid.proofs.LineLaws.{rest}
 use Rattle.byuid.proofs.SplitLaws.{split_some, split_all_free, intercalate_split}
@@ -163,7 +163,7 @@ pub split_convert_text : (t : List ℕ) → split "\n" (convert_text t) ≡ map 
 unfolding convert_text
 split_convert_text t =
     let some : 0 < length (map convert_line (split "\n" t)) = omega (arith, length-map (split "\n" t) convert_line, split_some "\n" t) in
-    split_intercalate "\n" (map convert_line (split "\n" t)) Some (all_converted (split "\n" t) (split_all_free "\n" t))
+    split_intercalate "\n" (map convert_line (split "\n" t)) some (all_converted (split "\n" t) (split_all_free "\n" t))
 
 none_retired : (n : ℕ) (ls : List (List ℕ)) → retired_fault n (map convert_line ls) ≡ None
 unfolding retired_fault

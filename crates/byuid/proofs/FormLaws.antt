@@ -6,16 +6,16 @@
 --   new_form_v4, new_form_v6 == the new form is read as the retired one was, and as no line of IPv6
 -- Assumes nothing.
 use Rattle.std.specs.Prelude.{None, Option, Some}
-use Prim.Native.Nat.{ℕ, suc, ◌+◌, ◌<◌, ◌≤◌, ◌-◌, ◌%◌, ◌^◌}
+use Prim.Native.Nat.{ℕ, suc, ◌<◌, ◌≤◌}
 use mathlib.Core.Bool.{Bool, true, false, not, ◌&&◌, ◌||◌, true≢false, or-true}
 use mathlib.Core.List.{List, [], ◌∷◌, ◌++◌, append_assoc}
 use mathlib.Core.Path.{◌≡◌, refl, sym, ap, ap₂, ◌∙◌}
 use native.Mathlib.Omega.{arith}
 use borrow.Author.Tests.{eqb-true, eqb-false, eq-eqb, ne_eqb, not-true}
-use lib.Dec.{eqb, leb, ltb}
-use lib.ListN.{length, take, drop, length-append}
-use Rattle.text.specs.Basics.{when◌then◌else◌, ◌>>=◌, ◌or_else◌, given, holds, any, all, each, is_empty}
-use Rattle.text.specs.Text.{bytes, equal, is_digit, char_range, in_range, starts_with, cons_first, split_once, split, among}
+use lib.Dec.{eqb}
+use lib.ListN.{length}
+use Rattle.text.specs.Basics.{when◌then◌else◌, ◌>>=◌, ◌or_else◌, given, any, all, is_empty}
+use Rattle.text.specs.Text.{bytes, equal, is_digit, char_range, in_range, cons_first, split_once, split, among}
 use Rattle.text.specs.Number.{from_digits, to_digits, read_decimal}
 use Rattle.text.proofs.BasicLaws.{and_true, all_append}
 use Rattle.text.proofs.Digits.{length_to_digits}

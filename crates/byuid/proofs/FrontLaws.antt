@@ -5,7 +5,7 @@
 --   range_unread, range_end, range_comma, range_other == the same of a range whose min was read
 -- Assumes nothing.
 use Rattle.std.specs.Prelude.{None, Option, Some}
-use Prim.Native.Nat.{ℕ, suc, ◌+◌, ◌-◌, ◌*◌, ◌<◌, ◌≤◌}
+use Prim.Native.Nat.{ℕ, suc, ◌+◌, ◌*◌, ◌<◌, ◌≤◌}
 use mathlib.Core.Bool.{Bool, true, false, not, ◌&&◌, ◌||◌}
 use mathlib.Core.List.{List, [], ◌∷◌, ◌++◌, append_assoc}
 use mathlib.Core.Path.{◌≡◌, refl, sym, ap, subst, ◌∙◌}
@@ -28,11 +28,10 @@ use Rattle.address.specs.declared.fields.Run.TheVariants as R
 use Rattle.address.specs.declared.fields.Step.{Step}
 use Rattle.address.specs.declared.fields.Step.TheVariants as S
 use Rattle.address.proofs.FieldLaws.{follows_address, address_start, address_end_lem}
-use Rattle.address.proofs.ReadLaws.{as_number_none, as_number_some}
 use Rattle.byuid.specs.Byuid.{Range, read_range, read_net, read_port, read_comma_form}
 use Rattle.byuid.specs.Code.{inside, inside_both, membership, both_of, net_from, field_byte, address_end, as_front, front_v4, range_from, form_of}
 use Rattle.byuid.proofs.FormLaws.{no_mark, first_mark, free_append, v4_none}
-use Rattle.byuid.proofs.NumberLaws.{inside_one}
+use Rattle.byuid.proofs.NumberLaws.{pair_first, pair_second, inside_one}
 use Rattle.byuid.proofs.LineLaws.{rest, both_held, addresses_of, comma_form}
 
 abbrev ranges : Range → Range → Option (Range × Range)
@@ -115,19 +114,19 @@ module _ (s : List ℕ) (r : Run) (is-r : r ≡ run_from 0 0 0 0 false s) where
   unfolding front_v4
   front_failed q = let e : read_v4 (take (address_end s) s) ≡ None = subst (Lands 0 (address_end s) (read_v4 (take (address_end s) s))) q landed_front in rw e
 
-  module _ (i n k v : ℕ) (d : Bool) (q : r ≡ R.At i n k v d) (a : Option ℕ) (is-a : a ≡ (ended_address n k v d)) where
+  module _ (i n k v : ℕ) (d : Bool) (q : r ≡ R.At i n k v d) (a : Option ℕ) (is-a : a ≡ ended_address n k v d) where
     ended : (i ≡ 0 + address_end s) × (read_v4 (take (address_end s) s) ≡ ended_address n k v d)
     ended = subst (Lands 0 (address_end s) (read_v4 (take (address_end s) s))) q landed_front
 
     pub front_nothing : a ≡ None → None ≡ front_v4 s
     unfolding front_v4
-    front_nothing e = rw (ended.1 ∙ as_number_none (ended_address n k v d) (sym is-a ∙ e))
+    front_nothing e = rw (ended.1 ∙ sym is-a ∙ e)
 
     pub front_value : (m : ℕ) → a ≡ Some m → Some (m, i) ≡ front_v4 s
     unfolding front_v4
     front_value m e =
         let f : i ≡ address_end s = omega (arith, ended.0) in
-        rw (ended.1 ∙ as_number_some (ended_address n k v d) m (sym is-a ∙ e)) (ap (λ (j : ℕ). Some (m, j)) f)
+        rw (ended.1 ∙ sym is-a ∙ e) (ap (λ (j : ℕ). Some (m, j)) f)
 
 -- ## The text around the byte after an address
 
@@ -411,8 +410,8 @@ module _ (l : List ℕ) (front : Option (ℕ × ℕ)) (is_front : front ≡ fron
         by : (o : Option ℕ) → read_v4 (take (address_end l) l) ≡ o → as_front (address_end l) o ≡ Some (n, i) → (i ≡ address_end l) × (read_v4 (take i l) ≡ Some n)
         by None k h = let z : ◌≡◌ {A = ℕ} 0 1 = cc in absurd (omega arith)
         by (Some m) k h =
-            let e : address_end l ≡ i = cc in
-            let f : m ≡ n = cc in
+            let e : address_end l ≡ i = pair_second h in
+            let f : m ≡ n = pair_first h in
             (sym e, rw (← e, ← f) k)
 
     module _ (h : length l ≤ i) where

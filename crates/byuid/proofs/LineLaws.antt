@@ -15,7 +15,6 @@ use Rattle.text.specs.Number.{read_decimal}
 use Rattle.text.specs.Scan.{index_of}
 use Rattle.text.proofs.ScanLaws.{take_rest, split_once_mark, split_once_no_mark}
 use Rattle.address.specs.Address.{read_v4, read_v6}
-use Rattle.address.proofs.ReadLaws.{as_number_none, as_number_some}
 use Rattle.address.specs.Code.{as_v6}
 use Rattle.address.specs.declared.Addr.{Addr}
 use Rattle.address.specs.declared.Addr.TheVariants as A
@@ -56,14 +55,14 @@ module _ (f : List ℕ → Option ℕ) (s : List ℕ) (i : ℕ) (is-i : i ≡ in
   range_alone h v is_v e = rw (split_once_no_mark 45 s i is-i h) (alone_held f s n v r is_v e)
 
 -- one number of one word
-module _ (f : List ℕ → Option ℕ) (s : List ℕ) (i : ℕ) (is-i : i ≡ index_of 45 s) (n : ℕ) (h : length s ≤ i) (v : Option ℕ) (is_v : v ≡ (f s)) where
+module _ (f : List ℕ → Option ℕ) (s : List ℕ) (i : ℕ) (is-i : i ≡ index_of 45 s) (n : ℕ) (h : length s ≤ i) (v : Option ℕ) (is_v : v ≡ f s) where
   pub one_nothing : v ≡ None → None ≡ membership (inside n) (read_range f s)
   unfolding read_range membership
-  one_nothing e = rw (split_once_no_mark 45 s i is-i h, as_number_none (f s) (sym is_v ∙ e))
+  one_nothing e = rw (split_once_no_mark 45 s i is-i h, sym is_v ∙ e)
 
   pub one_value : (m : ℕ) → v ≡ Some m → Some (eqb m n) ≡ membership (inside n) (read_range f s)
   unfolding read_range
-  one_value m e = rw (split_once_no_mark 45 s i is-i h, as_number_some (f s) m (sym is_v ∙ e)) (inside_one m n)
+  one_value m e = rw (split_once_no_mark 45 s i is-i h, sym is_v ∙ e) (inside_one m n)
 
 module _ (w : ℕ) (f : List ℕ → Option ℕ) (s : List ℕ) (i : ℕ) (is-i : i ≡ index_of 47 s) (n : ℕ) where
   pub net_no_mark : length s ≤ i → None ≡ membership (inside n) (read_net w f s)
@@ -81,14 +80,14 @@ module _ (w : ℕ) (f : List ℕ → Option ℕ) (s : List ℕ) (i : ℕ) (is-i 
     net_mark a b e r q = q ∙ rw (take_rest s (i + 1), split_once_mark 47 s i is-i h, as_v6_some (f (take i s)) a b (sym is_v ∙ e))
 
   -- the same where the address was read as one word
-  module _ (h : i < length s) (v : Option ℕ) (is_v : v ≡ (f (take i s))) where
+  module _ (h : i < length s) (v : Option ℕ) (is_v : v ≡ f (take i s)) where
     pub word_nothing : v ≡ None → None ≡ membership (inside n) (read_net w f s)
     unfolding read_net membership
-    word_nothing e = rw (split_once_mark 47 s i is-i h, as_number_none (f (take i s)) (sym is_v ∙ e))
+    word_nothing e = rw (split_once_mark 47 s i is-i h, sym is_v ∙ e)
 
     pub word_mark : (a : ℕ) → v ≡ Some a → (r : Option Bool) → r ≡ membership (inside n) (net_from w a (rest s i)) → r ≡ membership (inside n) (read_net w f s)
     unfolding read_net net_from
-    word_mark a e r q = q ∙ rw (take_rest s (i + 1), split_once_mark 47 s i is-i h, as_number_some (f (take i s)) a (sym is_v ∙ e))
+    word_mark a e r q = q ∙ rw (take_rest s (i + 1), split_once_mark 47 s i is-i h, sym is_v ∙ e)
 
 -- of addresses with a slash only a net is read, and of others only a range
 module _ (s : List ℕ) (i : ℕ) (is-i : i ≡ index_of 47 s) (n : ℕ) where
@@ -150,12 +149,12 @@ module _ (s : List ℕ) (i : ℕ) (is-i : i ≡ index_of 44 s) where
   unfolding ports_of
   ports_no_mark h = rw (split_once_no_mark 44 s i is-i h)
 
-  module _ (h : i < length s) (x : Option ℕ) (is_x : x ≡ (read_decimal 65535 (take i s))) where
+  module _ (h : i < length s) (x : Option ℕ) (is_x : x ≡ read_decimal 65535 (take i s)) where
     pub ports_no_min : x ≡ None → false ≡ holds in_order (ports_of s)
     unfolding ports_of ends_of
-    ports_no_min e = rw (split_once_mark 44 s i is-i h, as_number_none (read_port (take i s)) (sym is_x ∙ e))
+    ports_no_min e = rw (split_once_mark 44 s i is-i h, sym is_x ∙ e)
 
-    module _ (low : ℕ) (e : x ≡ Some low) (y : Option ℕ) (is_y : y ≡ (read_decimal 65535 (rest s i))) where
+    module _ (low : ℕ) (e : x ≡ Some low) (y : Option ℕ) (is_y : y ≡ read_decimal 65535 (rest s i)) where
       after_mark : y ≡ read_port (drop (i + 1) s)
       after_mark = is_y ∙ rw (take_rest s (i + 1))
 
@@ -164,8 +163,8 @@ module _ (s : List ℕ) (i : ℕ) (is-i : i ≡ index_of 44 s) where
       ports_no_max f =
           rw (
             split_once_mark 44 s i is-i h,
-            as_number_some (read_port (take i s)) low (sym is_x ∙ e),
-            as_number_none (read_port (drop (i + 1) s)) (sym after_mark ∙ f),
+            sym is_x ∙ e,
+            sym after_mark ∙ f,
           )
 
       pub ports_two : (high : ℕ) → y ≡ Some high → leb low high ≡ holds in_order (ports_of s)
@@ -173,8 +172,8 @@ module _ (s : List ℕ) (i : ℕ) (is-i : i ≡ index_of 44 s) where
       ports_two high f =
           rw (
             split_once_mark 44 s i is-i h,
-            as_number_some (read_port (take i s)) low (sym is_x ∙ e),
-            as_number_some (read_port (drop (i + 1) s)) high (sym after_mark ∙ f),
+            sym is_x ∙ e,
+            sym after_mark ∙ f,
           )
 
 -- a net and the ports after it, in order

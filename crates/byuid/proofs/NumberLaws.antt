@@ -1,6 +1,6 @@
 -- Laws of numbers: those of two words, ranges of them, and nets, over the width.
 -- Assumes nothing.
-use Rattle.std.specs.Prelude.{None, Option, Some}
+use Rattle.std.specs.Prelude.{None, Option, Some, unwrap_or}
 use Prim.Native.Nat.{ℕ, suc, ◌+◌, ◌-◌, ◌*◌, ◌/◌, ◌%◌, ◌^◌, ◌<◌, ◌≤◌}
 use mathlib.Core.Bool.{Bool, true, false, ◌&&◌, and-false}
 use mathlib.Core.List.{List}
@@ -15,9 +15,17 @@ use Rattle.text.specs.Text.{in_range}
 use Rattle.text.specs.Number.{read_decimal}
 use Rattle.address.specs.Address.{same_prefix}
 use Rattle.address.specs.Code.{as_v6}
-use Rattle.address.proofs.ReadLaws.{read_decimal_le, as_number_none, as_number_some}
+use Rattle.address.proofs.ReadLaws.{read_decimal_le}
 use Rattle.byuid.specs.Byuid.{Range}
 use Rattle.byuid.specs.Code.{inside, membership, between_of, ends_of, net_from}
+
+-- the parts of a pair that was read
+module _ {a b x y : ℕ} (e : ◌≡◌ {A = Option (ℕ × ℕ)} (Some (a, b)) (Some (x, y))) where
+  pub pair_first : a ≡ x
+  pair_first = ap (λ (o : Option (ℕ × ℕ)). (unwrap_or {T = ℕ × ℕ} o (0, 0)).0) e
+
+  pub pair_second : b ≡ y
+  pair_second = ap (λ (o : Option (ℕ × ℕ)). (unwrap_or {T = ℕ × ℕ} o (0, 0)).1) e
 
 -- ## Two words
 
@@ -45,8 +53,8 @@ as_v6_none (Some n) e = let z : ◌≡◌ {A = ℕ} 0 1 = cc in absurd (omega ar
 pub as_v6_some : (o : Option ℕ) (a b : ℕ) → as_v6 o ≡ Some (a, b) → o ≡ Some (a * 2 ^ 64 + b)
 as_v6_some None a b e = let z : ◌≡◌ {A = ℕ} 0 1 = cc in absurd (omega arith)
 as_v6_some (Some n) a b e =
-    let p : n / 2 ^ 64 ≡ a = cc in
-    let q : n % 2 ^ 64 ≡ b = cc in
+    let p : n / 2 ^ 64 ≡ a = pair_first e in
+    let q : n % 2 ^ 64 ≡ b = pair_second e in
     ap Some (sym (div-add-mod' n (2 ^ 64)) ∙ rw (p, q))
 
 -- ## Ranges
@@ -94,19 +102,19 @@ unfolding membership inside
 inside_one m n = ap Some (eqb_range m n)
 
 -- the same of numbers of one word
-module _ (f : List ℕ → Option ℕ) (x y : List ℕ) (n : ℕ) (v : Option ℕ) (is_v : v ≡ (f x)) where
+module _ (f : List ℕ → Option ℕ) (x y : List ℕ) (n : ℕ) (v : Option ℕ) (is_v : v ≡ f x) where
   pub ends_no_min : v ≡ None → None ≡ membership (inside n) (ends_of f x y)
   unfolding membership ends_of
-  ends_no_min e = rw (as_number_none (f x) (sym is_v ∙ e))
+  ends_no_min e = rw (sym is_v ∙ e)
 
-  module _ (min : ℕ) (e : v ≡ Some min) (w : Option ℕ) (is-w : w ≡ (f y)) where
+  module _ (min : ℕ) (e : v ≡ Some min) (w : Option ℕ) (is-w : w ≡ f y) where
     pub ends_no_max : w ≡ None → None ≡ membership (inside n) (ends_of f x y)
     unfolding membership ends_of
-    ends_no_max q = rw (as_number_some (f x) min (sym is_v ∙ e), as_number_none (f y) (sym is-w ∙ q))
+    ends_no_max q = rw (sym is_v ∙ e, sym is-w ∙ q)
 
     pub ends_two : (max : ℕ) → w ≡ Some max → Some (leb min n && leb n max) ≡ membership (inside n) (ends_of f x y)
     unfolding membership ends_of inside
-    ends_two max q = rw (as_number_some (f x) min (sym is_v ∙ e), as_number_some (f y) max (sym is-w ∙ q))
+    ends_two max q = rw (sym is_v ∙ e, sym is-w ∙ q)
 
 -- ## Nets
 
@@ -143,18 +151,19 @@ module _ (k n a : ℕ) (clear : n % 2 ^ k ≡ 0) where
           let h : a / size < n / size = leb-false (n / size) (a / size) p in
           rw (ne_eqb (n / size) (a / size) (λ e. omega arith), lt-leb n a (omega (arith, first, split_at.1, next (a / size) (n / size) h)))
 
+-- a length that was read
+pub len_le : (w : ℕ) (t : List ℕ) (v : Option ℕ) → v ≡ read_decimal w t → (m : ℕ) → v ≡ Some m → m ≤ w
+len_le w t v is_v m e = read_decimal_le w m t (sym is_v ∙ e)
+
 -- the net of n, of w bits, with its length in t
-module _ (w n a : ℕ) (t : List ℕ) (v : Option ℕ) (is_v : v ≡ (read_decimal w t)) where
+module _ (w n a : ℕ) (t : List ℕ) (v : Option ℕ) (is_v : v ≡ read_decimal w t) where
   pub len_nothing : v ≡ None → None ≡ membership (inside a) (net_from w n t)
   unfolding net_from membership
-  len_nothing e = rw (as_number_none (read_decimal w t) (sym is_v ∙ e))
+  len_nothing e = rw (sym is_v ∙ e)
 
   module _ (m : ℕ) (e : v ≡ Some m) where
     is_read : read_decimal w t ≡ Some m
-    is_read = as_number_some (read_decimal w t) m (sym is_v ∙ e)
-
-    pub len_le : m ≤ w
-    len_le = read_decimal_le w m t is_read
+    is_read = sym is_v ∙ e
 
     module _ (x : Bool) (is_x : x ≡ eqb (n % 2 ^ (w - m)) 0) where
       pub len_set : x ≡ false → None ≡ membership (inside a) (net_from w n t)

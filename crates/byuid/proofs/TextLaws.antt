@@ -7,7 +7,7 @@ use mathlib.Core.List.{List, [], ◌∷◌}
 use mathlib.Core.Path.{◌≡◌, refl, sym, ap, ◌∙◌}
 use native.Mathlib.Omega.{arith}
 use borrow.Author.Tests.{ltb-true, ltb-false}
-use lib.Dec.{ltb, eqb}
+use lib.Dec.{ltb}
 use lib.ListN.{length, take, drop, length-drop, drop_of_length-le}
 use lib.Seq.{take_all, drop-drop}
 use Rattle.text.specs.Basics.{when◌then◌else◌, any}
@@ -150,7 +150,7 @@ module _ (t : List ℕ) (a : Addr) (p : ℕ) (w : Result Bool ℕ) (is-w : w ≡
     fault_none : byuid_fault t ≡ None
     fault_none = byuid_fault_walk ∙ rw e
 
-    pub check_sound : (Ok tt) ≡ checked_of (byuid_fault t)
+    pub check_sound : Ok tt ≡ checked_of (byuid_fault t)
     check_sound = rw fault_none
 
     granting : g ≡ any (line_grants a p) (split "\n" t)

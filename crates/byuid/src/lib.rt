@@ -124,7 +124,7 @@ pub fn decide(text: &[u8], mark: Mark, port: u16, addr: Addr, uid: u32) -> Resul
     }
     let held_against = searched_for(mark, port, addr, uid);
     match walk_lines(text, held_against, port) {
-        Err(number) => Err(section::Byuid::refusal(Fault::RetiredForm, number)),
+        Err(n) => Err(section::Byuid::refusal(Fault::RetiredForm, n)),
         Ok(granted) => answer_by(port, addr, uid, granted),
     }
 }

@@ -2,14 +2,14 @@
 -- Assumes nothing.
 use Rattle.std.specs.Prelude.{Err, None, Ok, Result, ⊤}
 use Prim.Native.Nat.{ℕ, zero, suc, ◌+◌, ◌<◌, ◌≤◌}
-use mathlib.Core.Bool.{Bool, true, false, ◌&&◌, ◌||◌}
-use mathlib.Core.List.{List, [], ◌∷◌, ◌++◌}
+use mathlib.Core.Bool.{Bool, true, false, ◌&&◌}
+use mathlib.Core.List.{List, [], ◌++◌}
 use mathlib.Core.Path.{◌≡◌, refl, sym, ap, ap₂, ◌∙◌}
 use native.Mathlib.Omega.{arith}
 use borrow.Author.Tests.{lt-ltb, le-ltb, eq-eqb, ne_eqb}
 use lib.Dec.{ltb, eqb}
 use lib.ListN.{length, get_or, replicate, length-replicate, get_or-replicate}
-use Rattle.text.specs.Basics.{when◌then◌else◌, holds, any}
+use Rattle.text.specs.Basics.{when◌then◌else◌}
 use Rattle.text.specs.Scan.{after}
 use Rattle.section.specs.declared.Fault.TheVariants as F
 use Rattle.section.specs.declared.Refusal.{Refusal}
@@ -17,7 +17,7 @@ use Rattle.section.specs.Refusal.{Outcome, refusal, placeless, within_rooms, fir
 use Rattle.section.specs.Section as S
 use Rattle.portacl.specs.declared.Protocol.{Protocol}
 use Rattle.portacl.specs.declared.Protocol.TheVariants.{Tcp, Udp}
-use Rattle.portacl.specs.Portacl.{bind, entries, portacl_fault}
+use Rattle.portacl.specs.Portacl.{portacl_fault}
 use Rattle.portacl.specs.Code.{entries_data, notes}
 use Rattle.portacl.proofs.NoteLaws.{notes_here}
 use Rattle.portacl.proofs.DecideLaws.{checked_of_refused, checked_of_sound}

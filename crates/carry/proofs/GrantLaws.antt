@@ -8,11 +8,10 @@ use mathlib.Core.Bool.{Bool, true, false, not, ◌&&◌, ◌||◌, or-false, or_
 use mathlib.Core.List.{List, [], ◌∷◌, ◌++◌}
 use mathlib.Core.Path.{◌≡◌, refl, sym, ap, ap₂, ◌∙◌}
 use native.Mathlib.Omega.{arith}
-use borrow.Author.Tests.{le-leb, lt-leb, leb-true, leb-false, eq-eqb, ne_eqb, eqb-true, eqb-false, not-true}
+use borrow.Author.Tests.{le-leb, lt-leb, leb-true, ne_eqb, eqb-true, eqb-false, not-true}
 use lib.Arith.{digits_lt}
 use lib.Dec.{leb, eqb}
-use lib.ListN.{length}
-use Rattle.text.specs.Basics.{when◌then◌else◌, ◌>>=◌, ◌or_else◌, given, holds, any, all, each, is_some}
+use Rattle.text.specs.Basics.{when◌then◌else◌, ◌>>=◌, ◌or_else◌, any, all, each}
 use Rattle.text.specs.Text.{bytes, equal, lower, split, split_once, in_range, is_digit}
 use Rattle.text.specs.Number.{from_digits, to_digits, numeral, decimal, read_decimal}
 use Rattle.text.proofs.BasicLaws.{all_append, and_true}
@@ -21,8 +20,7 @@ use Rattle.text.proofs.Numeral.{all_numeral, is_digit_digit_byte, read_decimal_d
 use Rattle.address.specs.declared.Addr.{Addr}
 use Rattle.address.specs.declared.Addr.TheVariants as A
 use Rattle.address.specs.Address.{read_v4, read_v6, read_group, read_groups, read_compressed, read_last_group}
-use Rattle.section.specs.declared.Refusal.{Refusal}
-use Rattle.byuid.specs.Byuid.{Range, read_range, read_net, read_port, read_comma_form, read_colon_form, line_grants, is_retired, retired_fault, byuid_fault}
+use Rattle.byuid.specs.Byuid.{read_range, read_net, read_port, read_comma_form, read_colon_form, line_grants, is_retired, retired_fault, byuid_fault}
 use Rattle.carry.specs.Carry.{port_lines, span_lines}
 
 digits : (q : ℕ) → all is_digit (decimal q) ≡ true

@@ -47,6 +47,9 @@ use Rattle.codes.specs.declared.request.Target.{Target}
 use Rattle.codes.specs.Answers.{byuid_word, portacl_word, refusal_answer, word_answer, answer_numbers, refused_check, accepted, refused_parts, found_parts, refused_written, count_written}
 use Rattle.codes.specs.Answers.{name_matters, place_numbers, refused_two, count_two, with_count, refused_next, next_with, granted, denied, not_ruled, test, read, refused_address, address_numbers}
 use Rattle.codes.specs.Requests.{name_state, user_state, address_of, protocol_of, mark_of, is_port, RequestNumbers, known_name, known_user}
+use Rattle.section.specs.declared.Refusal.{Refusal}
+use Rattle.sheet.specs.declared.Parts.{Parts}
+use Rattle.matters.specs.declared.Place.{Place}
 
 -- ## Requests
 

@@ -29,6 +29,7 @@ use Rattle.lists.specs.ListCode.{list_more, list_end}
 use Rattle.lists.specs.ListCode.{naming_fault_of, lowest_of, client_words, bad_command_after, rest_fault}
 use Rattle.lists.proofs.ExceptLaws.{no_element, any_element, except_daemon_start, except_client_start, except_daemon, except_client}
 use Rattle.lists.proofs.JoinedLaws.{has_bad_percent_joined, after_separator_joined, parse_rule_joined}
+use Rattle.section.specs.declared.Fault.{Fault}
 
 -- ## One list
 

@@ -43,6 +43,7 @@ use Rattle.lists.specs.PassCode.{step_looks, turn}
 use Rattle.lists.specs.PassCode.{list_pass, list_all, pass_start, pass_step, pass_end, pass_from, list_seen, is_yes, then_found, rest_seen, rule_seen}
 use Rattle.lists.proofs.CheckLaws.{list_from_start, list_from_nil, list_from_cons, rest_fault_is, check_rule_none, check_rule_some}
 use Rattle.lists.proofs.WalkLaws.{line_found_none, line_found_some, line_looked_none, line_looked_some}
+use Rattle.section.specs.declared.Fault.{Fault}
 
 -- ## The sides of EXCEPT
 

@@ -31,6 +31,7 @@ use Rattle.lists.specs.declared.check.ListCheck.{ListCheck}
 use Rattle.lists.specs.Check.{except_misplaced}
 use Rattle.lists.specs.Walk.{on_found, included, excluded}
 use Rattle.lists.specs.Looked.{looked_included, looked_excluded}
+use Rattle.section.specs.declared.Fault.{Fault}
 
 -- ## Checking a list
 

@@ -52,6 +52,7 @@ use Rattle.matters.specs.declared.Telling.TheVariants as T
 use Rattle.matters.specs.Matters.{place, same_found, fresh_name, told_of, told_by, told_at}
 use Rattle.matters.specs.Code.{Finder, finder_by, name_agrees, half_agrees, asked_list, list_told_on, list_told, clients_told, parsed_by, kind_told, text_told_by}
 use Rattle.matters.specs.Code.{telling_of, settled_by, ended_by}
+use Rattle.section.specs.declared.Refusal.{Refusal}
 
 -- ## A request at places of a block
 

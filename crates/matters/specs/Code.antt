@@ -48,6 +48,8 @@ use Rattle.matters.specs.declared.Told.TheVariants as Told
 use Rattle.matters.specs.declared.Telling.{Telling}
 use Rattle.matters.specs.declared.Telling.TheVariants as T
 use Rattle.matters.specs.Matters.{place, place_of, same_found, fresh_name, half_holds, told_by, told_at}
+use Rattle.section.specs.declared.Refusal.{Refusal}
+use Rattle.rules.specs.declared.Answer.{Answer}
 
 pub record Finder : Type 0 where
   pub daemons : List (List ℕ) → Found

@@ -24,7 +24,6 @@ use Rattle.portacl.specs.declared.Protocol.TheVariants.{Tcp, Udp}
 use Rattle.portacl.specs.declared.Settings.{Settings}
 use Rattle.portacl.specs.Portacl.{bind, Bind, read_word, read_entry, entries, entry_fault, portacl_fault, portacl_decision, decide_portacl}
 use Rattle.portacl.specs.Code.{entry_data, id_data, protocol_data, port_data, grants_to, entries_data, walk, decision_of}
-use Rattle.portacl.proofs.WalkLaws.{as_entry_none, as_entry_some}
 
 -- what an entry that was read grants
 abbrev pub grants_of : Option Entry → Option (Bind → Bool)
@@ -47,12 +46,12 @@ read_entry_entry_data e =
     step (read_decimal 65535 d.1) _ _ λ port. refl
 
 -- whether there is an entry, from the code's answer
-module _ (e : List ℕ) (r : Option Entry) (is-r : r ≡ (entry_data e)) where
+module _ (e : List ℕ) (r : Option Entry) (is-r : r ≡ entry_data e) where
   pub entry_none : r ≡ None → false ≡ is_some (read_entry e)
-  entry_none k = rw (read_entry_entry_data e, as_entry_none (entry_data e) (sym is-r ∙ k))
+  entry_none k = rw (read_entry_entry_data e, sym is-r ∙ k)
 
   pub entry_some : (x : Entry) → r ≡ Some x → true ≡ is_some (read_entry e)
-  entry_some x k = rw (read_entry_entry_data e, as_entry_some x (entry_data e) (sym is-r ∙ k))
+  entry_some x k = rw (read_entry_entry_data e, sym is-r ∙ k)
 
 -- ## The entries
 
@@ -100,7 +99,7 @@ module _ (t : List ℕ) (b : Bind) (w : Result Bool ℕ) (is-w : w ≡ walk b 1 
     fault_none : portacl_fault t ≡ None
     fault_none = portacl_fault_walk ∙ rw e
 
-    pub check_sound : (Ok tt) ≡ checked_of (portacl_fault t)
+    pub check_sound : Ok tt ≡ checked_of (portacl_fault t)
     check_sound = rw fault_none
 
     granting : g ≡ any (holds λ grants. grants b) (entries t)
@@ -168,7 +167,7 @@ module _ (t : List ℕ) (s : Settings) (uid : ℕ) (groups : List ℕ) (protocol
       unfolding decide_portacl
       decide_unsound r q = rw (← is-o, e, checked_of_refused (portacl_fault t) r (sym is_c ∙ q))
 
-      pub decide_many : c ≡ (Ok tt) → (r : Refusal) → r ≡ placeless F.BadRequest → Err r ≡ ruling
+      pub decide_many : c ≡ Ok tt → (r : Refusal) → r ≡ placeless F.BadRequest → Err r ≡ ruling
       unfolding decide_portacl
       decide_many q r is-r = rw (← is-o, e, checked_of_sound (portacl_fault t) (sym is_c ∙ q), lt-leb (length groups) 16 many, is-r)
 

@@ -40,23 +40,15 @@ any_contains x l r e = e ∙ by l
 -- ## Numbers and words
 
 -- a number of at most m that was read, and then f of it
-module _ (m : ℕ) (f : ℕ → Option Entry) (t : List ℕ) (k : Option ℕ) (is-k : k ≡ (read_decimal m t)) where
+module _ (m : ℕ) (f : ℕ → Option Entry) (t : List ℕ) (k : Option ℕ) (is-k : k ≡ read_decimal m t) where
   abbrev number : Option Entry
-  number = (read_decimal m t >>= f)
+  number = read_decimal m t >>= f
 
   pub number_none : k ≡ None → None ≡ number
-  number_none e = by (read_decimal m t) (sym is-k ∙ e)
-    where
-      by : (o : Option ℕ) → o ≡ None → None ≡ (o >>= f)
-      by None e = refl
-      by (Some n) e = let z : ◌≡◌ {A = ℕ} 0 1 = cc in absurd (omega arith)
+  number_none e = rw (sym is-k ∙ e)
 
   pub number_some : (n : ℕ) → k ≡ Some n → (r : Option Entry) → r ≡ f n → r ≡ number
-  number_some n e r h = by (read_decimal m t) (sym is-k ∙ e)
-    where
-      by : (o : Option ℕ) → o ≡ Some n → r ≡ (o >>= f)
-      by None e = let z : ◌≡◌ {A = ℕ} 0 1 = cc in absurd (omega arith)
-      by (Some j) e = let q : j ≡ n = cc in h ∙ rw (← q)
+  number_some n e r h = h ∙ rw (sym is-k ∙ e)
 
 -- ## A part up to the first colon, at i, and what follows it
 
@@ -80,7 +72,7 @@ module _ {A : Type 0} (f : List ℕ → Option A) (g : A → List ℕ → Option
 
 -- a number of at most m
 module _ (m : ℕ) (g : ℕ → List ℕ → Option Entry) (s : List ℕ) (i : ℕ) (is-i : i ≡ index_of 58 s) (n : i ≡ length s → ⊥) (h : i ≤ length s)
-    (k : Option ℕ) (is-k : k ≡ (read_decimal m (take i s))) where
+    (k : Option ℕ) (is-k : k ≡ read_decimal m (take i s)) where
   pub number_first_none : k ≡ None → None ≡ parts (read_decimal m) g s
   number_first_none e = rw (parts_some (read_decimal m) g s i is-i n h) (number_none m (λ a. g a (after s i)) (take i s) k is-k e)
 

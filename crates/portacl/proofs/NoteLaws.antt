@@ -24,7 +24,7 @@ use Rattle.portacl.specs.declared.Protocol.{Protocol}
 use Rattle.portacl.specs.declared.Protocol.TheVariants.{Tcp, Udp}
 use Rattle.portacl.specs.Portacl.{bind, Bind, protocol_word, entries, entry_fault, portacl_fault}
 use Rattle.portacl.specs.Code.{entry_data, entries_data, grants_to, fault_in, is_for, noted, notes}
-use Rattle.portacl.proofs.WalkLaws.{entries_from, as_entry_none, as_entry_some, next}
+use Rattle.portacl.proofs.WalkLaws.{entries_from, next}
 use Rattle.portacl.proofs.DecideLaws.{grants_of, entries_entries_data}
 
 -- ## The fault
@@ -102,7 +102,7 @@ module _ (uid : ℕ) (p : Protocol) (x : Entry) (m : List ℕ) (s : Bool) (is-s 
 
 module _ (t : List ℕ) (uid : ℕ) (m₀ u₀ m u : List ℕ) (n at : ℕ) (w : Noting t uid m₀ u₀ m u n at) where
   module _ (h : length t < at) where
-    pub noting_end : (Ok tt) ≡ checked_of (portacl_fault t)
+    pub noting_end : Ok tt ≡ checked_of (portacl_fault t)
     unfolding fault_in entries_from
     noting_end = rw (portacl_fault_fault_in t, w.fault, lt-leb at (length t) h)
 
@@ -115,7 +115,7 @@ module _ (t : List ℕ) (uid : ℕ) (m₀ u₀ m u : List ℕ) (n at : ℕ) (w :
     noting_end_udp = sym (w.over_udp ∙ rw (lt-leb at (length t) h))
 
   module _ (h : at ≤ length t) (i : ℕ) (is-i : i ≡ index_of 44 (take (length t - at) (drop at t))) (l : i ≤ length (take (length t - at) (drop at t)))
-      (r : Option Entry) (is-r : r ≡ (entry_data (take (at + i - at) (drop at t)))) where
+      (r : Option Entry) (is-r : r ≡ entry_data (take (at + i - at) (drop at t))) where
     more : entries_from at t ≡ entry_data (take (at + i - at) (drop at t)) ∷ entries_from (at + i + 1) t
     more =
         let q : at + i - at ≡ i = omega arith in
@@ -123,7 +123,7 @@ module _ (t : List ℕ) (uid : ℕ) (m₀ u₀ m u : List ℕ) (n at : ℕ) (w :
 
     module _ (e : r ≡ None) where
       none_read : entry_data (take (at + i - at) (drop at t)) ≡ None
-      none_read = as_entry_none (entry_data (take (at + i - at) (drop at t))) (sym is-r ∙ e)
+      none_read = sym is-r ∙ e
 
       pub noting_bad : (f : Refusal) → f ≡ refusal F.BadEntry (S.portacl).order n → Err f ≡ checked_of (portacl_fault t)
       unfolding fault_in
@@ -141,7 +141,7 @@ module _ (t : List ℕ) (uid : ℕ) (m₀ u₀ m u : List ℕ) (n at : ℕ) (w :
         → Noting t uid m₀ u₀ m' u' (n + 1) (at + i + 1)
     unfolding notes fault_in
     noting_on x e m' u' is_m is-u =
-        let here = as_entry_some x (entry_data (take (at + i - at) (drop at t))) (sym is-r ∙ e) in
+        let here = sym is-r ∙ e in
         record {
           within = let k : i ≤ length t - at = rw (take_rest t at, length-drop at t) at l in omega arith;
           numbered = let k = w.numbered in omega arith;

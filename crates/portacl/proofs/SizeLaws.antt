@@ -2,7 +2,7 @@
 --   granted_bytes == the weights of the ports granted over tcp, and of those over udp, are together at most as many as the list's bytes
 -- Assumes nothing.
 use Rattle.std.specs.Prelude.{None, Option, Some}
-use Prim.Native.Nat.{ℕ, zero, suc, ◌+◌, ◌*◌, ◌<◌, ◌≤◌}
+use Prim.Native.Nat.{ℕ, zero, suc, ◌+◌, ◌<◌, ◌≤◌}
 use Prim.Native.String.{String}
 use mathlib.Core.Bool.{Bool, true, false, not, ◌&&◌, ◌||◌}
 use mathlib.Core.List.{List, [], ◌∷◌, ◌++◌, map}
@@ -20,7 +20,7 @@ use Rattle.text.proofs.BasicLaws.{and_true}
 use Rattle.portacl.specs.declared.Entry.{Entry}
 use Rattle.portacl.specs.declared.Protocol.{Protocol}
 use Rattle.portacl.specs.declared.Protocol.TheVariants.{Tcp, Udp}
-use Rattle.portacl.specs.Portacl.{bind, Bind, read_word, protocol_word, entries}
+use Rattle.portacl.specs.Portacl.{bind, read_word, protocol_word, entries}
 use Rattle.portacl.specs.Code.{entry_data, id_data, protocol_data, port_data, entries_data, grants_to, is_for}
 use Rattle.portacl.proofs.NoteLaws.{granting, granted_alone, any_granted}
 use Rattle.portacl.proofs.DecideLaws.{entries_entries_data}

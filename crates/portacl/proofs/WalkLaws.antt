@@ -18,15 +18,6 @@ use Rattle.portacl.specs.declared.Entry.{Entry}
 use Rattle.portacl.specs.Portacl.{Bind}
 use Rattle.portacl.specs.Code.{entry_data, grants_to, entries_data, walk}
 
--- what was read, from the code's answer
-pub as_entry_none : (o : Option Entry) → o ≡ None → o ≡ None
-as_entry_none None e = refl
-as_entry_none (Some x) e = let z : ◌≡◌ {A = ℕ} 0 1 = cc in absurd (omega arith)
-
-pub as_entry_some : (x : Entry) (o : Option Entry) → o ≡ Some x → o ≡ Some x
-as_entry_some x None e = let z : ◌≡◌ {A = ℕ} 0 1 = cc in absurd (omega arith)
-as_entry_some x (Some y) e = cc
-
 -- the entries from a place on: past the end there is none
 unfoldable pub entries_from : ℕ → List ℕ → List (Option Entry)
 entries_from at t = when leb at (length t) then map entry_data (split "," (drop at t)) else []
@@ -68,7 +59,7 @@ module _ (t : List ℕ) (b : Bind) (g : Bool) (n at : ℕ) (w : Walking t b g n 
   walking_end h = sym (w.so_far ∙ rw (lt-leb at (length t) h))
 
   module _ (h : at ≤ length t) (i : ℕ) (is-i : i ≡ index_of 44 (take (length t - at) (drop at t))) (l : i ≤ length (take (length t - at) (drop at t)))
-      (r : Option Entry) (is-r : r ≡ (entry_data (take (at + i - at) (drop at t)))) where
+      (r : Option Entry) (is-r : r ≡ entry_data (take (at + i - at) (drop at t))) where
     more : walk b 1 false (entries_data t) ≡ walk b n g (entry_data (take (at + i - at) (drop at t)) ∷ entries_from (at + i + 1) t)
     more =
         let q : at + i - at ≡ i = omega arith in
@@ -76,12 +67,12 @@ module _ (t : List ℕ) (b : Bind) (g : Bool) (n at : ℕ) (w : Walking t b g n 
 
     pub walking_bad : r ≡ None → Err n ≡ walk b 1 false (entries_data t)
     unfolding walk
-    walking_bad e = sym (more ∙ rw (as_entry_none (entry_data (take (at + i - at) (drop at t))) (sym is-r ∙ e)))
+    walking_bad e = sym (more ∙ rw (sym is-r ∙ e))
 
     pub walking_on : (x : Entry) → r ≡ Some x → (y : Bool) → y ≡ grants_to x b → Walking t b (g || y) (n + 1) (at + i + 1)
     unfolding walk
     walking_on x e y is_y = record {
       within = let k : i ≤ length t - at = rw (take_rest t at, length-drop at t) at l in omega arith;
       numbered = let k = w.numbered in omega arith;
-      so_far = more ∙ rw (as_entry_some x (entry_data (take (at + i - at) (drop at t))) (sym is-r ∙ e), is_y);
+      so_far = more ∙ rw (sym is-r ∙ e, is_y);
     }

@@ -286,13 +286,11 @@ pub fn decide(
         return Err(section::Portacl::refusal(Fault::OverLimit, 0));
     }
     if 16 < groups.len() {
-        return match check(text) {
-            Err(refusal) => Err(refusal),
-            Ok(()) => Err(section::placeless(Fault::BadRequest)),
-        };
+        check(text)?;
+        return Err(section::placeless(Fault::BadRequest));
     }
     match walk_entries(text, uid, groups, protocol, port) {
-        Err(number) => Err(section::Portacl::refusal(Fault::BadEntry, number)),
+        Err(n) => Err(section::Portacl::refusal(Fault::BadEntry, n)),
         Ok(granted) => Ok(by_settings(settings, uid, port, granted)),
     }
 }

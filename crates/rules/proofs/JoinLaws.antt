@@ -25,6 +25,8 @@ use Rattle.lists.specs.Walk.{rule_found_by}
 use Rattle.lists.specs.Looked.{rule_looked_by}
 use Rattle.lists.specs.Code.{NoNewline, line_found, line_looked, judged_fault}
 use Rattle.rules.specs.FileCode.{Query, query_found, query_looked, examined_as, rule_examined}
+use Rattle.section.specs.declared.Fault.{Fault}
+use Rattle.elements.specs.declared.Looked.{Looked}
 
 -- ## Parting at a separator
 

@@ -347,11 +347,13 @@ fn pass_lines(
                     looked: 0,
                 };
             }
-            Ok(None) => {}
-            Ok(Some(a)) => {
-                found = Ok(Some(a));
-                searching = false;
-            }
+            Ok(answer) => match answer {
+                None => {}
+                Some(a) => {
+                    found = Ok(Some(a));
+                    searching = false;
+                }
+            },
         }
         looked = so_far;
         i = step.next;

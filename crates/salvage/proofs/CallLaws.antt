@@ -41,6 +41,7 @@ use Rattle.salvage.specs.Salvage.{bad_line, salvaged_by, salvaged, changes_by, c
 use Rattle.salvage.specs.Salvage.{salvage}
 use Rattle.salvage.specs.Code.{bad_by, made_of, made_texts, made_list, sizes_of, grown_by, Small}
 use Rattle.salvage.proofs.BridgeLaws.{bad_told, made_texts_lem, made_list_lem}
+use Rattle.rules.specs.declared.Answer.{Answer}
 
 -- ## Section five
 

@@ -51,7 +51,7 @@ module _ {A : Type 0} where
   given_none true a e = cc
   given_none false a e = refl
 
-  pub answered_same : (a b : A) → Ok a ≡ Ok b → a ≡ b
+  pub answered_same : (a b : A) → ◌≡◌ {A = Outcome A} (Ok a) (Ok b) → a ≡ b
   answered_same a b e = cc
 
   pub append_five : (a b c d e : List A) → a ++ b ++ c ++ d ++ e ≡ a ++ (b ++ (c ++ (d ++ e)))

@@ -13,13 +13,15 @@ use Rattle.section.specs.declared.Cursor.{Cursor}
 use Rattle.section.specs.declared.Fault.TheVariants as F
 use Rattle.section.specs.declared.Part.{Part}
 use Rattle.section.specs.declared.Refusal.{Refusal}
-use Rattle.section.specs.Refusal.{Outcome, ◌>>=◌, refusal}
+use Rattle.section.specs.Refusal.{◌>>=◌, refusal}
 use Rattle.section.specs.Section as S
 use Rattle.section.specs.Section.{Section, part}
 use Rattle.section.specs.Code.{cursor_at}
+use Rattle.sheet.specs.declared.Parts.{Parts}
 use Rattle.sheet.specs.Sheet.{section_at, part_end, rest_after, frame}
 use Rattle.sheet.specs.Code.{section_of, from_deny, from_byuid, from_portacl}
 use Rattle.sheet.proofs.FrameLaws.{section_at_answered}
+use Rattle.sheet.specs.declared.Parts.{Parts}
 
 -- ## One section
 
@@ -68,33 +70,25 @@ module _ (sheet : List ℕ) (c : Cursor) (rest : List ℕ) (is-rest : rest ≡ d
 
 -- ## The frame
 
-read_refused : (o : Outcome Part) (g : Refusal) → o ≡ Err g → o ≡ Err g
-read_refused (Err r) g e = cc
-read_refused (Ok p) g e = let z : ◌≡◌ {A = ℕ} 0 1 = cc in absurd (omega arith)
-
-read_found : (o : Outcome Part) (p : Part) → o ≡ Ok p → o ≡ Ok p
-read_found (Err r) p e = let z : ◌≡◌ {A = ℕ} 0 1 = cc in absurd (omega arith)
-read_found (Ok q) p e = cc
-
 -- what was read at a section's cursor
 module _ (s : Section) (at : ℕ)
-    (sheet : List ℕ) {c : Cursor} (is_c : c ≡ cursor_at s at) {x : (Result Part Refusal)} (is_x : x ≡ (section_at (section_of c) c.at sheet)) where
+    (sheet : List ℕ) {c : Cursor} (is_c : c ≡ cursor_at s at) {x : Result Part Refusal} (is_x : x ≡ section_at (section_of c) c.at sheet) where
   is_read : x ≡ section_at s at sheet
   is_read = rw is_c at is_x
 
   refused_at : (g : Refusal) → x ≡ Err g → section_at s at sheet ≡ Err g
-  refused_at g e = read_refused (section_at s at sheet) g (sym is_read ∙ e)
+  refused_at g e = sym is_read ∙ e
 
   found_at : (p : Part) → x ≡ Ok p → section_at s at sheet ≡ Ok p
-  found_at p e = read_found (section_at s at sheet) p (sym is_read ∙ e)
+  found_at p e = sym is_read ∙ e
 
 pub found_within : (sheet : List ℕ) (c : Cursor) (x : Result Part Refusal) → x ≡ section_at (section_of c) c.at sheet → (p : Part)
     → x ≡ Ok p → part_end p ≤ length sheet
 found_within sheet c x is_x p e =
-    let f = section_at_answered (section_of c) c.at sheet p (read_found (section_at (section_of c) c.at sheet) p (sym is_x ∙ e)) in
+    let f = section_at_answered (section_of c) c.at sheet p (sym is_x ∙ e) in
     omega (arith, f.place, f.within)
 
-module _ (sheet : List ℕ) (c : Cursor) (x : Result Part Refusal) (is_x : x ≡ (section_at (section_of c) c.at sheet)) where
+module _ (sheet : List ℕ) (c : Cursor) (x : Result Part Refusal) (is_x : x ≡ section_at (section_of c) c.at sheet) where
   module _ (is_c : c ≡ cursor_at S.allow 0) where
     pub allow_refused : (g : Refusal) → x ≡ Err g → Err g ≡ frame sheet
     unfolding frame

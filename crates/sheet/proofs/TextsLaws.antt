@@ -82,41 +82,11 @@ pub checked_refused : (o : Option Refusal) (g : Refusal) → checked_of o ≡ Er
 checked_refused None g e = let z : ◌≡◌ {A = ℕ} 0 1 = cc in absurd (omega arith)
 checked_refused (Some h) g e = cc
 
-module _ (o : Option Refusal) (c : Result ⊤ Refusal) (is_c : c ≡ checked_of o) where
-  pub entries_refused : (g : Refusal) → c ≡ Err g → Err g ≡ checked_of o
-  entries_refused g e = by o (sym is_c ∙ e)
-    where
-      by : (o : Option Refusal) → checked_of o ≡ Err g → Err g ≡ checked_of o
-      by None k = let z : ◌≡◌ {A = ℕ} 0 1 = cc in absurd (omega arith)
-      by (Some h) k = cc
-
-  pub entries_sound : c ≡ Ok tt → Ok tt ≡ checked_of o
-  entries_sound e = by o (sym is_c ∙ e)
-    where
-      by : (o : Option Refusal) → checked_of o ≡ Ok tt → Ok tt ≡ checked_of o
-      by None k = refl
-      by (Some h) k = let z : ◌≡◌ {A = ℕ} 0 1 = cc in absurd (omega arith)
-
-module _ (o : Option Refusal) (c : Result ⊤ Refusal) (is_c : c ≡ checked_of o) where
-  pub byuid_refused : (g : Refusal) → c ≡ Err g → Err g ≡ checked_of o
-  byuid_refused g e = by o (sym is_c ∙ e)
-    where
-      by : (o : Option Refusal) → checked_of o ≡ Err g → Err g ≡ checked_of o
-      by None k = let z : ◌≡◌ {A = ℕ} 0 1 = cc in absurd (omega arith)
-      by (Some h) k = cc
-
-  pub byuid_sound : c ≡ Ok tt → Ok tt ≡ checked_of o
-  byuid_sound e = by o (sym is_c ∙ e)
-    where
-      by : (o : Option Refusal) → checked_of o ≡ Ok tt → Ok tt ≡ checked_of o
-      by None k = refl
-      by (Some h) k = let z : ◌≡◌ {A = ℕ} 0 1 = cc in absurd (omega arith)
-
 module _ (p : Result (Option Answer) Refusal) where
   pub by_faulty : (g : Refusal) → p ≡ Err g → Err g ≡ checked_by p
   by_faulty g e = rw e
 
-  pub by_unmatched : p ≡ (Ok None) → Ok tt ≡ checked_by p
+  pub by_unmatched : p ≡ Ok None → Ok tt ≡ checked_by p
   by_unmatched e = rw e
 
   pub by_matched : (a : Answer) → p ≡ Ok (Some a) → Ok tt ≡ checked_by p
@@ -134,7 +104,7 @@ module _ (a d : List ℕ) (q : Result (Option Answer) Refusal) (is-q : q ≡ pas
   lines_checked : x ≡ checked_of (lines_fault a d)
   lines_checked = pass_checked (lines_fault a d) q is-q x is_x
 
-  pub lines_sound : x ≡ (Ok tt) → lines_fault a d ≡ None
+  pub lines_sound : x ≡ Ok tt → lines_fault a d ≡ None
   lines_sound e = checked_sound (lines_fault a d) (sym lines_checked ∙ e)
 
   module _ (b p t : List ℕ) where

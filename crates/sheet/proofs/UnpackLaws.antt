@@ -1,5 +1,4 @@
 -- Laws of unpacking, shaped as the calls and tests of the code hand their facts over.
---   framed_refused, framed_parts, unpacked_refused, unpacked_parts == what an answer of frame and of unpack says
 -- Assumes nothing.
 use Rattle.std.specs.Prelude.{Err, None, Ok, Option, Result, Some, ⊤}
 use Prim.Native.Nat.{ℕ}
@@ -8,31 +7,23 @@ use mathlib.Core.List.{List}
 use mathlib.Core.Path.{◌≡◌, refl, sym, ◌∙◌}
 use Rattle.section.specs.Section.{bytes_at}
 use Rattle.section.specs.declared.Refusal.{Refusal}
-use Rattle.section.specs.Refusal.{Outcome, ◌>>=◌, refusing, checked_of}
+use Rattle.section.specs.Refusal.{◌>>=◌, refusing, checked_of}
 use Rattle.sheet.specs.declared.Parts.{Parts}
 use Rattle.sheet.specs.Sheet.{texts, texts_at, texts_fault, frame, unpack}
-
-pub framed_refused : (o : Outcome Parts) (g : Refusal) → o ≡ Err g → o ≡ Err g
-framed_refused (Err r) g e = cc
-framed_refused (Ok p) g e = let z : ◌≡◌ {A = ℕ} 0 1 = cc in absurd (omega arith)
-
-pub framed_parts : (o : Outcome Parts) (p : Parts) → o ≡ Ok p → o ≡ Ok p
-framed_parts (Err r) p e = let z : ◌≡◌ {A = ℕ} 0 1 = cc in absurd (omega arith)
-framed_parts (Ok q) p e = cc
 
 pub texts_in_sheet : (sheet : List ℕ) (p : Parts) (a d b q t : List ℕ) → a ≡ bytes_at sheet p.allow → d ≡ bytes_at sheet p.deny
     → b ≡ bytes_at sheet p.byuid → q ≡ bytes_at sheet p.portacl → t ≡ bytes_at sheet p.tables
     → (x : Result ⊤ Refusal) → x ≡ checked_of (texts_fault (texts a d b q t)) → x ≡ checked_of (texts_fault (texts_at sheet p))
 texts_in_sheet sheet p a d b q t is-a is_d is_b is-q is-t x is_x = is_x ∙ rw (is-a, is_d, is_b, is-q, is-t)
 
-module _ (sheet : List ℕ) (x : Result Parts Refusal) (is_x : x ≡ (frame sheet)) where
+module _ (sheet : List ℕ) (x : Result Parts Refusal) (is_x : x ≡ frame sheet) where
   pub unframed : (g : Refusal) → x ≡ Err g → Err g ≡ unpack sheet
   unfolding unpack
-  unframed g e = rw (framed_refused (frame sheet) g (sym is_x ∙ e))
+  unframed g e = rw (sym is_x ∙ e)
 
   module _ (p : Parts) (e : x ≡ Ok p) where
     pub is_framed : frame sheet ≡ Ok p
-    is_framed = framed_parts (frame sheet) p (sym is_x ∙ e)
+    is_framed = sym is_x ∙ e
 
     module _ (y : Result ⊤ Refusal) (is_y : y ≡ checked_of (texts_fault (texts_at sheet p))) where
       pub unpack_refused : (g : Refusal) → y ≡ Err g → Err g ≡ unpack sheet
@@ -50,11 +41,3 @@ module _ (sheet : List ℕ) (x : Result Parts Refusal) (is_x : x ≡ (frame shee
           by : (o : Option Refusal) → checked_of o ≡ Ok tt → Ok p ≡ refusing o p
           by None k = refl
           by (Some h) k = let z : ◌≡◌ {A = ℕ} 0 1 = cc in absurd (omega arith)
-
-pub unpacked_refused : (o : Outcome Parts) (g : Refusal) → o ≡ Err g → o ≡ Err g
-unpacked_refused (Err r) g e = cc
-unpacked_refused (Ok p) g e = let z : ◌≡◌ {A = ℕ} 0 1 = cc in absurd (omega arith)
-
-pub unpacked_parts : (o : Outcome Parts) (p : Parts) → o ≡ Ok p → o ≡ Ok p
-unpacked_parts (Err r) p e = let z : ◌≡◌ {A = ℕ} 0 1 = cc in absurd (omega arith)
-unpacked_parts (Ok q) p e = cc

@@ -31,23 +31,22 @@ use Rattle.sheet.specs.Code.{contents_fault}
 use Rattle.sheet.proofs.TextsLaws.{checked_sound, checked_refused, texts_fault_parts}
 use Rattle.sheet.proofs.FrameLaws.{given_none, take_drop_take, SectionAt, Framed, frame_answered, answered_frame, answered_unpack, with_tables}
 use Rattle.sheet.proofs.FrameLaws.{portacl_end, limits_framed}
-use Rattle.sheet.proofs.UnpackLaws.{framed_refused, framed_parts}
 
 -- ## The check
 
-module _ (sheet : List ℕ) (x : Result Parts Refusal) (is_x : x ≡ (frame sheet)) where
+module _ (sheet : List ℕ) (x : Result Parts Refusal) (is_x : x ≡ frame sheet) where
   pub four_refused : (g : Refusal) → x ≡ Err g → Err g ≡ checked_of (four_frame sheet)
   unfolding four_frame
-  four_refused g e = rw (framed_refused (frame sheet) g (sym is_x ∙ e))
+  four_refused g e = rw (sym is_x ∙ e)
 
   module _ (p : Parts) (e : x ≡ Ok p) where
     pub four_trailing : 0 < p.tables.len → (g : Refusal) → g ≡ placeless F.TrailingBytes → Err g ≡ checked_of (four_frame sheet)
     unfolding four_frame
-    four_trailing h g is-g = rw (framed_parts (frame sheet) p (sym is_x ∙ e), lt-ltb 0 p.tables.len h, is-g)
+    four_trailing h g is-g = rw (sym is_x ∙ e, lt-ltb 0 p.tables.len h, is-g)
 
     pub four_sound : p.tables.len ≤ 0 → Ok tt ≡ checked_of (four_frame sheet)
     unfolding four_frame
-    four_sound h = rw (framed_parts (frame sheet) p (sym is_x ∙ e), le-ltb 0 p.tables.len h)
+    four_sound h = rw (sym is_x ∙ e, le-ltb 0 p.tables.len h)
 
 -- ## The answers
 

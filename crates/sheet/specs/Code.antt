@@ -1,4 +1,4 @@
--- What the contracts of inner functions cite, and the enums of the code. Nothing here needs to be believed for the meaning of documents 01
+-- What the contracts of inner functions cite. Nothing here needs to be believed for the meaning of documents 01
 -- and 02.
 --   checked_by p      == a pass that looks for nothing, as a check
 --   limits_fault allow deny byuid portacl, contents_fault allow deny byuid portacl tables == texts_fault before, and after, the frame of the tables
@@ -13,12 +13,14 @@ use Rattle.section.specs.declared.Refusal.{Refusal}
 use Rattle.section.specs.Refusal.{Outcome, ◌>>=◌}
 use Rattle.section.specs.Section as S
 use Rattle.section.specs.Section.{Section, over_limit}
+use Rattle.rules.specs.declared.Answer.{Answer}
 use Rattle.rules.specs.Check.{tables_fault}
 use Rattle.rules.specs.Code.{lines_fault}
 use Rattle.byuid.specs.Byuid.{byuid_fault}
 use Rattle.portacl.specs.Portacl.{portacl_fault}
 use Rattle.sheet.specs.declared.Parts.{Parts}
 use Rattle.sheet.specs.Sheet.{section_at, part_end, rest_after}
+use Rattle.rules.specs.declared.Answer.{Answer}
 
 -- ## Texts
 

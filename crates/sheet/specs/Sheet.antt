@@ -5,7 +5,7 @@
 --   four_frame sheet   == the refusal of a sheet of document 01 by its frame
 --   upgrade sheet room == such a sheet with an empty fifth section, into room bytes
 -- Assumes nothing: these are definitions.
-use Rattle.std.specs.Prelude.{ℕ, ◌+◌, ◌-◌, List, [], ◌∷◌, ◌++◌, length, take, drop, ltb, Err, Ok, Option, Result, Some}
+use Rattle.std.specs.Prelude.{ℕ, ◌+◌, ◌-◌, List, [], ◌∷◌, ◌++◌, length, take, drop, ltb, Err, Ok, Option, Some}
 use Rattle.text.specs.Basics.{when◌then◌else◌, ◌or_else◌, given}
 use Rattle.text.specs.Number.{from_digits, to_digits}
 use Rattle.section.specs.declared.Fault.TheVariants as F

@@ -29,6 +29,7 @@ use Rattle.tables.specs.Table.{tables_frame}
 use Rattle.rules.specs.Check.{line_fault}
 use Rattle.rules.specs.Code.{contents_fault}
 use Rattle.tidy.specs.Tidy.{same_list, all_alone, rule_of, dropped, accepted_bytes, numbers_of}
+use Rattle.rules.specs.declared.Answer.{Answer}
 
 -- ## The checks
 

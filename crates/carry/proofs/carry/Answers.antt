@@ -13,13 +13,13 @@ returns-then-uid-eq0 c = let both = carry_root _ _ _ _ _ c.over.ensures
     c.note_ports.ensures.answer (search rules) c.if-uid-eq0.true _ c.placeless.ensures in
     record { answer = both.0; lower = both.1.0; upper = both.1.1 }
 
-pub returns-in-Err : goal.returns-in-Err
-returns-in-Err c = let both = carry_bad _ _ _ _ _ c.over.ensures
-    c.if-over.false _ c.note_ports.ensures.answer _
-    (search rules) in record { answer = both.0; lower = both.1.0; upper = both.1.1 }
+pub returns-in_err-note_ports : goal.returns-in_err-note_ports
+returns-in_err-note_ports c = let both = carry_bad _ c.args.uid c.args.plain.now c.args.marked.now _ c.over.ensures
+    c.if-over.false _ c.note_ports.ensures.answer _ c.in_err-note_ports.was in
+    record { answer = search (both.0, rules); lower = both.1.0; upper = both.1.1 }
 
-pub returns-else-uid-eq0 : goal.returns-else-uid-eq0
-returns-else-uid-eq0 c = let both = carry_written _ _
+pub returns : goal.returns
+returns c = let both = carry_written _ _
     c.args.plain.now
     c.args.marked.now
     _

@@ -8,14 +8,14 @@ use Rattle.portacl.proofs.decide.Goals as goal
 pub returns-then-over : goal.returns-then-over
 returns-then-over c = outright (search (decide_over_lem, rules))
 
-pub returns-in-Err : goal.returns-in-Err
-returns-in-Err c = outright (search (decide_unsound, rules))
+pub returns-in_err-check : goal.returns-in_err-check
+returns-in_err-check c = outright (search (decide_unsound, rules))
 
-pub returns-in-Ok : goal.returns-in-Ok
-returns-in-Ok c = outright (search (decide_many, rules))
+pub returns-then-groups-gt16 : goal.returns-then-groups-gt16
+returns-then-groups-gt16 c = outright (search (decide_many, rules))
 
 pub returns-in-Err : goal.returns-in-Err
 returns-in-Err c = outright (search (decide_bad, rules))
 
-pub returns-in-Ok-walk_entries : goal.returns-in-Ok-walk_entries
-returns-in-Ok-walk_entries c = outright (search (decide_answer, rules))
+pub returns-in-Ok : goal.returns-in-Ok
+returns-in-Ok c = outright (search (decide_answer, rules))

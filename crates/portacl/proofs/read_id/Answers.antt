@@ -16,12 +16,13 @@ returns-then-colon-s c = let a = c.args in
 pub slice_bounds-read_decimal-end : goal.slice_bounds-read_decimal-end
 slice_bounds-read_decimal-end c = sym (length-take-le _ _ (search rules))
 
-pub returns-in-None : goal.returns-in-None
+pub returns-in_err-id : goal.returns-in_err-id
 unfolding id_data
-returns-in-None c = let a = c.args in
+returns-in_err-id c = let a = c.args in
     search (number_first_none 4294967295 (protocol_data a.group), rules)
 
-pub returns-in-Some : goal.returns-in-Some
+pub returns : goal.returns
 unfolding id_data
-returns-in-Some c = let a = c.args in
-    search (number_first_some 4294967295 (protocol_data a.group), rules)
+returns c = let a = c.args in
+    number_first_some 4294967295 (protocol_data a.group) a.s.now _ (search rules) (search rules) (search rules) _ c.read_decimal.ensures _ c.in_ok-id.was _
+    c.read_protocol.ensures

@@ -6,10 +6,10 @@ use borrow.Author.Rules.{rules}
 use Rattle.text.proofs.Search.{outright}
 use Rattle.portacl.proofs.read_port.Goals as goal
 
-pub returns-in-None : goal.returns-in-None
+pub returns-in_err-port : goal.returns-in_err-port
 unfolding port_data
-returns-in-None c = outright (search (number_none, rules))
+returns-in_err-port c = outright (search (number_none, rules))
 
-pub returns-in-Some : goal.returns-in-Some
+pub returns : goal.returns
 unfolding port_data
-returns-in-Some c = outright (search (number_some, rules))
+returns c = outright (search (number_some, rules))

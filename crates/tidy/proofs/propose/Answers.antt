@@ -6,8 +6,9 @@ use Rattle.tidy.proofs.propose.Goals as goal
 pub propose_sound-requires : goal.propose_sound-requires
 propose_sound-requires c = (search (passed_short, rules), search (passed_sound, rules))
 
-pub returns-in-Err : goal.returns-in-Err
-returns-in-Err c = record { answer = search (propose_refused, rules); holds = search (propose_unwritten, rules) }
+pub returns-in_err-check_file : goal.returns-in_err-check_file
+returns-in_err-check_file c = let e = propose_refused _ _ _ _ c.check_file.ensures c.args.out.now _ c.in_err-check_file.was in
+    record { answer = search rules; holds = propose_unwritten _ _ _ _ c.check_file.ensures _ _ c.in_err-check_file.was }
 
-pub returns-in-Ok : goal.returns-in-Ok
-returns-in-Ok c = record { answer = search (propose_made, rules); holds = search (propose_written, rules) }
+pub returns : goal.returns
+returns c = record { answer = search (propose_made, rules); holds = search (propose_written, rules) }

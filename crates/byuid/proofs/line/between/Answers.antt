@@ -4,5 +4,5 @@ use Rattle.text.proofs.Search.{outright}
 use Rattle.byuid.proofs.NumberLaws.{between_value}
 use Rattle.byuid.proofs.line.between.Goals as goal
 
-pub returns-in-Some-max : goal.returns-in-Some-max
-returns-in-Some-max c = outright (search (between_value, rules))
+pub returns : goal.returns
+returns c = outright (search (between_value, rules))

@@ -4,5 +4,5 @@ use Rattle.text.proofs.Search.{outright}
 use Rattle.byuid.proofs.LineLaws.{both_is}
 use Rattle.byuid.proofs.line.both.Goals as goal
 
-pub returns-in-Some-b : goal.returns-in-Some-b
-returns-in-Some-b c = outright (search (both_is, rules))
+pub returns : goal.returns
+returns c = outright (search (both_is, rules))

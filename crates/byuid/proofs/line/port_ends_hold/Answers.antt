@@ -4,11 +4,11 @@ use Rattle.text.proofs.Search.{outright}
 use Rattle.byuid.proofs.NumberLaws.{ends_no_min, ends_no_max, ends_two}
 use Rattle.byuid.proofs.line.port_ends_hold.Goals as goal
 
-pub returns-in-None : goal.returns-in-None
-returns-in-None c = outright (search (ends_no_min, rules))
+pub returns-in_err-min : goal.returns-in_err-min
+returns-in_err-min c = outright (search (ends_no_min, rules))
 
-pub returns-in-None-read_decimal : goal.returns-in-None-read_decimal
-returns-in-None-read_decimal c = outright (search (ends_no_max, rules))
+pub returns-in_err-max : goal.returns-in_err-max
+returns-in_err-max c = outright (search (ends_no_max, rules))
 
-pub returns-in-Some-read_decimal : goal.returns-in-Some-read_decimal
-returns-in-Some-read_decimal c = outright (search (ends_two, rules))
+pub returns : goal.returns
+returns c = outright (search (ends_two, rules))

@@ -12,8 +12,8 @@ slice_bounds-port_ends_hold-end c = sym (length-take-le _ _ (search rules))
 pub returns-then-hyphen-s : goal.returns-then-hyphen-s
 returns-then-hyphen-s c = outright (search (range_mark, rules))
 
-pub returns-in-None : goal.returns-in-None
-returns-in-None c = outright (search (one_nothing, rules))
+pub returns-in_err-n : goal.returns-in_err-n
+returns-in_err-n c = outright (search (one_nothing, rules))
 
-pub returns-in-Some : goal.returns-in-Some
-returns-in-Some c = outright (search (one_value, rules))
+pub returns : goal.returns
+returns c = outright (search (one_value, rules))

@@ -8,8 +8,8 @@ use Rattle.sheet.proofs.frame.frame.Goals as goal
 pub from_deny-requires : goal.from_deny-requires
 from_deny-requires c = outright (search (found_within, rules))
 
-pub returns-in-Err : goal.returns-in-Err
-returns-in-Err c = outright (search (allow_refused, rules))
+pub returns-in_err-allow : goal.returns-in_err-allow
+returns-in_err-allow c = outright (search (allow_refused, rules))
 
-pub returns-in-Ok : goal.returns-in-Ok
-returns-in-Ok c = outright (search (allow_found, rules))
+pub returns : goal.returns
+returns c = outright (search (allow_found, rules))

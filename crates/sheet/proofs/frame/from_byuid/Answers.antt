@@ -8,8 +8,8 @@ use Rattle.sheet.proofs.frame.from_byuid.Goals as goal
 pub from_portacl-requires : goal.from_portacl-requires
 from_portacl-requires c = outright (search (found_within, rules))
 
-pub returns-in-Err : goal.returns-in-Err
-returns-in-Err c = outright (search (byuid_refused, rules))
+pub returns-in_err-byuid : goal.returns-in_err-byuid
+returns-in_err-byuid c = outright (search (byuid_refused, rules))
 
-pub returns-in-Ok : goal.returns-in-Ok
-returns-in-Ok c = outright (search (byuid_found, rules))
+pub returns : goal.returns
+returns c = outright (search (byuid_found, rules))

@@ -8,8 +8,8 @@ use Rattle.sheet.proofs.frame.from_deny.Goals as goal
 pub from_byuid-requires : goal.from_byuid-requires
 from_byuid-requires c = outright (search (found_within, rules))
 
-pub returns-in-Err : goal.returns-in-Err
-returns-in-Err c = outright (search (deny_refused, rules))
+pub returns-in_err-deny : goal.returns-in_err-deny
+returns-in_err-deny c = outright (search (deny_refused, rules))
 
-pub returns-in-Ok : goal.returns-in-Ok
-returns-in-Ok c = outright (search (deny_found, rules))
+pub returns : goal.returns
+returns c = outright (search (deny_found, rules))

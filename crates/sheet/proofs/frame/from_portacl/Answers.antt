@@ -8,8 +8,8 @@ use Rattle.sheet.proofs.frame.from_portacl.Goals as goal
 pub rest_after-requires : goal.rest_after-requires
 rest_after-requires c = outright (search (found_within, rules))
 
-pub returns-in-Err : goal.returns-in-Err
-returns-in-Err c = outright (search (portacl_refused, rules))
+pub returns-in_err-portacl : goal.returns-in_err-portacl
+returns-in_err-portacl c = outright (search (portacl_refused, rules))
 
-pub returns-in-Ok : goal.returns-in-Ok
-returns-in-Ok c = outright (search (portacl_found, rules))
+pub returns : goal.returns
+returns c = portacl_found _ _ _ c.section_at.ensures _ _ _ (search rules) _ (search rules) _ c.rest_after.ensures

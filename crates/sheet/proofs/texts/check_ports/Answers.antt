@@ -5,8 +5,8 @@ use Rattle.text.proofs.Search.{outright}
 use Rattle.sheet.proofs.TextsLaws.{ports_portacl, ports_byuid}
 use Rattle.sheet.proofs.texts.check_ports.Goals as goal
 
-pub returns-in-Err : goal.returns-in-Err
-returns-in-Err c = outright (search (ports_portacl, rules))
+pub returns-in_err-check_portacl : goal.returns-in_err-check_portacl
+returns-in_err-check_portacl c = outright (search (ports_portacl, rules))
 
-pub returns-in-Ok : goal.returns-in-Ok
-returns-in-Ok c = outright (search (ports_byuid, rules))
+pub returns : goal.returns
+returns c = outright (search (ports_byuid, rules))

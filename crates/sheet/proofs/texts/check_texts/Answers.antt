@@ -8,11 +8,11 @@ use Rattle.sheet.proofs.texts.check_texts.Goals as goal
 pub check_contents-requires : goal.check_contents-requires
 check_contents-requires c = outright (search (frame_checked, rules))
 
-pub returns-in-Err : goal.returns-in-Err
-returns-in-Err c = outright (search (texts_limits, rules))
+pub returns-in_err-check_limits : goal.returns-in_err-check_limits
+returns-in_err-check_limits c = outright (search (texts_limits, rules))
 
-pub returns-in-Err-check_frame : goal.returns-in-Err-check_frame
-returns-in-Err-check_frame c = outright (search (texts_frame, rules))
+pub returns-in_err-check_frame : goal.returns-in_err-check_frame
+returns-in_err-check_frame c = outright (search (texts_frame, rules))
 
-pub returns-in-Ok-check_frame : goal.returns-in-Ok-check_frame
-returns-in-Ok-check_frame c = outright (search (texts_contents, rules))
+pub returns : goal.returns
+returns c = outright (search (texts_contents, rules))

@@ -8,8 +8,8 @@ use Rattle.sheet.proofs.upgrade.check_four.Goals as goal
 pub returns-then-following-gt0 : goal.returns-then-following-gt0
 returns-then-following-gt0 c = outright (search (four_trailing, rules))
 
-pub returns-in-Err : goal.returns-in-Err
-returns-in-Err c = outright (search (four_refused, rules))
+pub returns-in_err-parts : goal.returns-in_err-parts
+returns-in_err-parts c = outright (search (four_refused, rules))
 
-pub returns-else-following-gt0 : goal.returns-else-following-gt0
-returns-else-following-gt0 c = outright (search (four_sound, rules))
+pub returns : goal.returns
+returns c = outright (search (four_sound, rules))
