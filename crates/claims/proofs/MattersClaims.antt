@@ -66,7 +66,7 @@ answered_same : {A : Type 0} (a b : A) → ◌≡◌ {A = Outcome A} (Ok a) (Ok 
 answered_same a b e = ap (λ (o : Outcome _). elim o [ Err f ↦ a | Ok c ↦ c ]) e
 
 none_some : {A : Type 0} (a : A) → ◌≡◌ {A = Option A} None (Some a) → ⊥
-none_some a e = true≢false (ap (λ (o : Option {0} _). elim o [ None ↦ true | Some b ↦ false ]) e)
+none_some a e = true≢false (ap (λ (o : Option _). elim o [ None ↦ true | Some b ↦ false ]) e)
 
 -- a word tells the verdict, a section the file
 word_verdict : (v w : Verdict) → (verdict_word v).number ≡ (verdict_word w).number → v ≡ w
@@ -119,7 +119,7 @@ same_places a b k l s =
 -- ## The request for another user
 
 some_same : {A : Type 0} (a b : A) → ◌≡◌ {A = Option A} (Some a) (Some b) → a ≡ b
-some_same a b e = ap (λ (o : Option {0} _). unwrap_or o a) e
+some_same a b e = ap (λ (o : Option _). unwrap_or o a) e
 
 module _ (n : RequestNumbers) (r : Request) (is-r : request n ≡ Some r) where
   -- both hosts are read, and only the user is put in
