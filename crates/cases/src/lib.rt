@@ -66,13 +66,10 @@ fn repeat(block: &mut [u8], at: usize, n: usize, many: usize) -> usize {
         return MALFORMED;
     }
     let end = start + many;
-    let mut i = at;
-    while i < end {
-        let b = block[i - n];
-        block[i] = b;
-        i += 1;
+    for i in at..end {
+        block[i] = block[i - n];
     }
-    i
+    at.max(end)
 }
 
 // How many bytes <*N> repeats: those of the run before it, else one of its field.
@@ -241,10 +238,8 @@ pub fn numbers(block: &[u8], k: usize) -> [u32; 32]
     ensures { 32 ≡ length result }
 {
     let mut out = [0u32; 32];
-    let mut i = 0;
-    while i < 32 {
-        out[i] = number(block, std::num::wrapping_add_usize(k, i));
-        i += 1;
+    for (i, x) in out.iter_mut().enumerate() {
+        *x = number(block, std::num::wrapping_add_usize(k, i));
     }
     out
 }
@@ -315,14 +310,7 @@ pub fn room(out: &mut [u8], n: u32) -> &mut [u8] {
 }
 
 pub fn all_stops(s: &[u8]) -> bool {
-    let mut i = 0;
-    while i < s.len() {
-        if s[i] != b'.' {
-            return false;
-        }
-        i += 1;
-    }
-    true
+    s.iter().all(|b| *b == b'.')
 }
 
 // ## The calls
@@ -351,14 +339,7 @@ fn kind_of(kinds: &[u8], k: usize) -> u8 {
 // Whether a line has fields of these kinds.
 fn are_kinds(kinds: &[u8], block: &[u8]) -> bool {
     let n = fields(block);
-    let mut k = 0;
-    while k < n {
-        if !is_kind(kind_of(kinds, k), field(block, k)) {
-            return false;
-        }
-        k += 1;
-    }
-    kinds.len() <= n + 1
+    (0..n).all(|k| is_kind(kind_of(kinds, k), field(block, k))) && kinds.len() <= n + 1
 }
 
 fn is_call(call: &[u8], block: &[u8]) -> bool {
