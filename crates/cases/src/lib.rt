@@ -66,13 +66,10 @@ fn repeat(block: &mut [u8], at: usize, n: usize, many: usize) -> usize {
         return MALFORMED;
     }
     let end = start + many;
-    let mut i = at;
-    while i < end {
-        let b = block[i - n];
-        block[i] = b;
-        i += 1;
+    for i in at..end {
+        block[i] = block[i - n];
     }
-    i
+    at.max(end)
 }
 
 // How many bytes <*N> repeats: those of the run before it, else one of its field.
@@ -182,16 +179,12 @@ fn set_fields(block: &mut [u8], k: usize, end: usize) {
 // Reads a line into the block. Fields are parted by bars, and blanks around them do not count. A malformed line has no fields.
 pub fn read_line(block: &mut [u8], line: &[u8], kept: &[u8]) {
     let mut end = START;
-    let mut k = 0;
-    let mut i = 0;
     set_fields(block, 0, end);
-    while i < line.len() {
-        let left = &line[i..];
-        let n = text::index_of(left, b'|');
-        end = read_field(block, end, lines::command::trim(part(left, 0, n)), kept);
-        k += 1;
-        set_fields(block, k, end);
-        i = i + n + 1;
+    // Each part ends with its bar, so that after a bar at the end of the line no field begins.
+    for (k, with_bar) in line.split_inclusive(|b| *b == b'|').enumerate() {
+        let raw = with_bar.strip_suffix(b"|").unwrap_or(with_bar);
+        end = read_field(block, end, lines::command::trim(raw), kept);
+        set_fields(block, k + 1, end);
     }
 }
 
@@ -241,10 +234,8 @@ pub fn numbers(block: &[u8], k: usize) -> [u32; 32]
     ensures { 32 ≡ length result }
 {
     let mut out = [0u32; 32];
-    let mut i = 0;
-    while i < 32 {
-        out[i] = number(block, std::num::wrapping_add_usize(k, i));
-        i += 1;
+    for (i, x) in out.iter_mut().enumerate() {
+        *x = number(block, std::num::wrapping_add_usize(k, i));
     }
     out
 }
@@ -315,14 +306,7 @@ pub fn room(out: &mut [u8], n: u32) -> &mut [u8] {
 }
 
 pub fn all_stops(s: &[u8]) -> bool {
-    let mut i = 0;
-    while i < s.len() {
-        if s[i] != b'.' {
-            return false;
-        }
-        i += 1;
-    }
-    true
+    s.iter().all(|b| *b == b'.')
 }
 
 // ## The calls
@@ -351,14 +335,7 @@ fn kind_of(kinds: &[u8], k: usize) -> u8 {
 // Whether a line has fields of these kinds.
 fn are_kinds(kinds: &[u8], block: &[u8]) -> bool {
     let n = fields(block);
-    let mut k = 0;
-    while k < n {
-        if !is_kind(kind_of(kinds, k), field(block, k)) {
-            return false;
-        }
-        k += 1;
-    }
-    kinds.len() <= n + 1
+    (0..n).all(|k| is_kind(kind_of(kinds, k), field(block, k))) && kinds.len() <= n + 1
 }
 
 fn is_call(call: &[u8], block: &[u8]) -> bool {
@@ -369,19 +346,11 @@ fn is_call(call: &[u8], block: &[u8]) -> bool {
     false
 }
 
-// The place among the calls of the one that a line is for; beyond them where there is none. Calls are parted by blanks, and written as
-// a name, a colon and a letter for each field, the last of which stands for all that follow.
+// The place among the calls of the one that a line is for; beyond them, as many as their text has bytes, where there is none. Calls are
+// parted by blanks, and written as a name, a colon and a letter for each field, the last of which stands for all that follow.
 pub fn call(calls: &[u8], block: &[u8]) -> usize {
-    let mut place = 0;
-    let mut i = 0;
-    while i < calls.len() {
-        let left = &calls[i..];
-        let n = text::index_of(left, b' ');
-        if is_call(part(left, 0, n), block) {
-            return place;
-        }
-        place += 1;
-        i = i + n + 1;
-    }
-    place
+    calls
+        .split(|b| *b == b' ')
+        .position(|one| is_call(one, block))
+        .unwrap_or(calls.len())
 }
