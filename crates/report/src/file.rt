@@ -8,7 +8,7 @@ use std::rt::{Env, Files};
 const NO_TEXT: i32 = 84;
 
 // The front of the file of a name: all of it, or its first `most` bytes.
-pub fn read_front<R: Files + AllocGlobal>(rt: &R, name: &[u8], most: u64) -> io::Result<Vec<u8>> {
+fn read_front<R: Files + AllocGlobal>(rt: &R, name: &[u8], most: u64) -> io::Result<Vec<u8>> {
     let Ok(path) = std::str::from_utf8(name) else {
         return Err(io::Error::from_raw_os_error(NO_TEXT));
     };
@@ -26,7 +26,7 @@ fn reason(said: &str) -> &str {
 }
 
 // Writes a line: what failed, a colon and why, in the system's words.
-pub fn tell_failure(
+fn tell_failure(
     to: &impl Print,
     alloc: Global,
     what: &[u8],
