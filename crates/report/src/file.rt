@@ -26,12 +26,7 @@ fn reason(said: &str) -> &str {
 }
 
 // Writes a line: what failed, a colon and why, in the system's words.
-fn tell_failure(
-    to: &impl Print,
-    alloc: Global,
-    what: &[u8],
-    error: io::Error,
-) -> io::Result<()> {
+fn tell_failure(to: &impl Print, alloc: Global, what: &[u8], error: io::Error) -> io::Result<()> {
     let said = format!(in alloc; "{error}")?;
     to.write_all(what)?;
     to.print(": ")?;
