@@ -100,9 +100,9 @@ def equations(source, function, pattern):
 
 
 def kinds(source, function):
-    """of a chain `eqb n NUMBER .. CASE`: [(CASE, NUMBER)]"""
+    """of a chain `eqb n NUMBER .. CASE`, or `Some CASE`: [(CASE, NUMBER)]"""
     body = re.search(r"^%s [^=]*=((?:.|\n)*?)\n\n" % function, source, re.M)
-    found = re.findall(r"eqb \w+ (\d+)\b[^A-Z]*(?:[A-Z]\.)?([A-Z]\w*)", body.group(1)) if body else []
+    found = re.findall(r"eqb \w+ (\d+)\b(?:[^A-Z]|Some\b)*(?:[A-Z]\.)?([A-Z]\w*)", body.group(1)) if body else []
     if not found:
         raise Disagreement(f"no definition {function}")
     return [(case, number) for number, case in found]
