@@ -82,8 +82,8 @@ fn put_colon_groups(out: &mut [u8], at: usize, gs: &[u16]) -> usize
     ensures written { out.new ≡ put_at out.old at (colon_groups gs.now) }
 {
     let mut p = at;
-    for &g in gs {
-        p = put_next_group(out, p, g);
+    for i in 0..gs.len() {
+        p = put_next_group(out, p, gs[i]);
     }
     p
 }

@@ -14,14 +14,14 @@ use native.Mathlib.Omega.{arith}
 use native.Mathlib.Numerals.{add-one}
 use borrow.Author.Tests.{lt-ltb, le-ltb, ltb-true, ltb-false, leb-true, leb-false, lt-leb}
 use lib.Dec.{leb, ltb}
-use lib.ListN.{length, take, drop, set, length-append, length-map, length-set, length-drop, length-take, drop_of_length-le}
-use lib.Seq.{length-take-le, take_all, take-length, drop-drop, drop-cons, set-append_seam}
+use lib.ListN.{length, take, drop, get_or, set, length-append, length-map, length-set, length-drop, length-take, drop_of_length-le}
+use lib.Seq.{paste-zero, paste-suc, length-take-le, take_all, take-length, drop-drop, drop-cons, set-append_seam}
 use Rattle.text.specs.Basics.{when◌then◌else◌, ◌or_else◌, holds, any, all}
 use Rattle.text.specs.Text.{bytes, in_range, split_once, split, intercalate}
 use Rattle.text.specs.Scan.{index_of, put_at, after}
 use Rattle.text.proofs.BasicLaws.{and_true, all_append}
 use Rattle.text.proofs.Intercalate.{free, split_intercalate}
-use Rattle.text.proofs.PasteLaws.{after_nil, text_more}
+use Rattle.text.proofs.PasteLaws.{Pasted, after_nil, text_more}
 use Rattle.text.proofs.ScanLaws.{take_rest, split_mark, split_no_mark, split_once_mark, split_once_no_mark}
 use Rattle.section.specs.declared.Fault.TheVariants as F
 use Rattle.section.specs.declared.Refusal.{Refusal}
@@ -41,11 +41,26 @@ use Rattle.byuid.proofs.FormLaws.{new_form_v6, retired_no_comma_v4, retired_no_c
 use Rattle.byuid.proofs.LineLaws.{rest}
 use Rattle.byuid.proofs.SplitLaws.{split_some, split_all_free, intercalate_split}
 
+-- ## Bytes one by one
+
+pub pasted_step : (d s o : List ℕ) (at j : ℕ) → Pasted d s o at j → at + length s ≤ length d → j < length s → Pasted d s (set o (at + j) (get_or s j 0)) at (j + 1)
+pasted_step d s o at j p room h =
+    record {
+      text = rw (p.text, add-one) (paste-suc d at s j 0 (omega arith) h);
+      within = omega arith;
+      long = length-set o (at + j) (get_or s j 0) ∙ p.long;
+    }
+
 -- ## What becomes of a line
 
 pub convert_line_kept : (l : List ℕ) → is_retired l ≡ false → convert_line l ≡ l
 unfolding convert_line
 convert_line_kept l e = rw e
+
+pub line_empty : (d l : List ℕ) (at : ℕ) → length l ≡ 0 → d ≡ put_at d at (convert_line l)
+unfolding put_at read_colon_form split_once
+line_empty d [] at e = paste-zero d at [] ∙ sym (ap (put_at d at) (convert_line_kept [] (unread [] refl)))
+line_empty d (x ∷ l) at e = absurd (omega arith)
 
 module _ (l : List ℕ) (e : is_retired l ≡ true) where
   abbrev f : Form l

@@ -9,12 +9,29 @@ ghost use Rattle.byuid.specs.Convert.{convert as convert_of};
 use crate::line::is_retired;
 use section::{Byuid, Fault, Refusal};
 
+// Writes l from at on. Up to three bytes are written one by one, as lines that are empty or nearly so are many: a call that copies takes longer.
+fn put_bytes(out: &mut [u8], at: usize, l: &[u8])
+    requires { at + length l.now ≤ length out.old }
+    ensures { out.new ≡ put_at out.old at l.now }
+{
+    if 3 < l.len() {
+        text::put(out, at, l);
+        return;
+    }
+    for j in 0..l.len() {
+        out[at + j] = l[j];
+    }
+}
+
 // Writes a line from at on, the two marks exchanged where it is of the retired form.
 pub fn put_line(out: &mut [u8], at: usize, l: &[u8])
     requires { at + length l.now ≤ length out.old }
     ensures { out.new ≡ put_at out.old at (convert_line l.now) }
 {
-    text::put(out, at, l);
+    if l.len() == 0 {
+        return;
+    }
+    put_bytes(out, at, l);
     if is_retired(l) {
         let colon = text::index_of(l, b':');
         let low = colon + 1;

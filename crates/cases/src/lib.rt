@@ -346,11 +346,14 @@ fn is_call(call: &[u8], block: &[u8]) -> bool {
     false
 }
 
-// The place among the calls of the one that a line is for; beyond them, as many as their text has bytes, where there is none. Calls are
-// parted by blanks, and written as a name, a colon and a letter for each field, the last of which stands for all that follow.
+// The place among the calls of the one that a line is for; beyond them where there is none. Calls are parted by blanks, and written as
+// a name, a colon and a letter for each field, the last of which stands for all that follow.
 pub fn call(calls: &[u8], block: &[u8]) -> usize {
-    calls
+    match calls
         .split(|b| *b == b' ')
         .position(|one| is_call(one, block))
-        .unwrap_or(calls.len())
+    {
+        Some(place) => place,
+        None => calls.split_inclusive(|b| *b == b' ').count(),
+    }
 }

@@ -12,7 +12,7 @@ fn convert(rt: &impl Print, errors: &impl Print, name: &[u8], text: &[u8]) -> io
     let mut out = [0u8; 8192];
     let w = gate::gate_convert(&mut out, text);
     if w.number != 0 {
-        let why = "a byuid text has at most 8192 bytes";
+        let why = ": a byuid text has at most 8192 bytes\n";
         return report::file::tell_refusal(errors, name, w.number, w.section, why);
     }
     report::file::write_front(rt, &out, w.count)

@@ -149,7 +149,10 @@ pub fn count_requests(bytes: &[u8]) -> Option<u8>
         if count == 32 {
             return None;
         }
-        let fields = request_at(rest)?;
+        let fields = match request_at(rest) {
+            None => return None,
+            Some(fields) => fields,
+        };
         let end = fields.end;
         let next = &rest[end..];
         rest = next;

@@ -8,7 +8,7 @@ use std::rt::{Env, Files};
 const NO_TEXT: i32 = 84;
 
 // The front of the file of a name: all of it, or its first `most` bytes.
-fn read_front<R: Files + AllocGlobal>(rt: &R, name: &[u8], most: u64) -> io::Result<Vec<u8>> {
+pub fn read_front<R: Files + AllocGlobal>(rt: &R, name: &[u8], most: u64) -> io::Result<Vec<u8>> {
     let Ok(path) = std::str::from_utf8(name) else {
         return Err(io::Error::from_raw_os_error(NO_TEXT));
     };
@@ -26,14 +26,19 @@ fn reason(said: &str) -> &str {
 }
 
 // Writes a line: what failed, a colon and why, in the system's words.
-fn tell_failure(to: &impl Print, alloc: Global, what: &[u8], error: io::Error) -> io::Result<()> {
+pub fn tell_failure(
+    to: &impl Print,
+    alloc: Global,
+    what: &[u8],
+    error: io::Error,
+) -> io::Result<()> {
     let said = format!(in alloc; "{error}")?;
     to.write_all(what)?;
     to.print(": ")?;
     to.println(reason(said.as_str()))
 }
 
-// Writes a line: a file's name, the number that it is refused by and the section, and why.
+// Writes a line: a file's name, the number that it is refused by and the section, and why, with the colon before it and the newline.
 pub fn tell_refusal(
     errors: &impl Print,
     name: &[u8],
@@ -46,8 +51,7 @@ pub fn tell_refusal(
     errors.print(n)?;
     errors.print(" section ")?;
     errors.print(section)?;
-    errors.print(": ")?;
-    errors.println(why)
+    errors.print(why)
 }
 
 // The first n bytes of s; none where it has fewer.

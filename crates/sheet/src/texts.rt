@@ -73,11 +73,11 @@ fn check_byuid(text: &[u8]) -> Result<(), Refusal>
 }
 
 // The check of the texts of the port decisions.
-fn check_ports(byuid: &[u8], portacl: &[u8]) -> Result<(), Refusal>
-    ensures { result ≡ checked_of (portacl_fault portacl.now or_else byuid_fault byuid.now) }
+fn check_ports(lines: &[u8], entries: &[u8]) -> Result<(), Refusal>
+    ensures { result ≡ checked_of (portacl_fault entries.now or_else byuid_fault lines.now) }
 {
-    check_portacl(portacl)?;
-    check_byuid(byuid)
+    check_portacl(entries)?;
+    check_byuid(lines)
 }
 
 // The check of the lines and entries of the rules and of portacl, then of the tables and of what names them, then of the lines of byuid.

@@ -10,6 +10,7 @@ use crate::frame;
 use section::{Fault, Refusal};
 
 // The check of the frame of a sheet of four sections: no byte follows the fourth.
+#[tactic(auto, using(crate::proofs::UpgradeLaws::four_refused, crate::proofs::UpgradeLaws::four_trailing, crate::proofs::UpgradeLaws::four_sound))]
 fn check_four(sheet: &[u8]) -> Result<(), Refusal>
     ensures { result ≡ checked_of (four_frame sheet.now) }
 {

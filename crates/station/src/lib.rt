@@ -180,6 +180,7 @@ pub fn command(sheet: &[u8], answer: Answer) -> &[u8]
 }
 
 // Whether a caller may bind a port at an address, by the byuid text of a sheet, which is the plain file.
+#[tactic(auto, using(crate::proofs::DecideLaws::byuid_refused, crate::proofs::DecideLaws::byuid_decided))]
 pub fn decide_byuid(
     sheet: &[u8],
     port: u16,
@@ -194,6 +195,7 @@ pub fn decide_byuid(
 }
 
 // The decision on a bind by the portacl text of a sheet, which is unpacked first.
+#[tactic(auto, using(crate::proofs::DecideLaws::portacl_refused, crate::proofs::DecideLaws::portacl_decided), unfolding(crate::specs::Station::decide_portacl_sheet))]
 fn decide_unpacked(
     sheet: &[u8],
     settings: portacl::Settings,

@@ -72,11 +72,12 @@ all_equal_fold (x ∷ s) (y ∷ t) e = ap (λ b. eqb (lower x) (lower y) && b) (
 
 -- what a comparison e is that goes byte by byte, by k
 pub record ByBytes (e : List ℕ → List ℕ → Bool) (k : ℕ → ℕ) : Type 0 where
+  pub ended : e [] [] ≡ true
   pub more : (x y : ℕ) (s t : List ℕ) → e (x ∷ s) (y ∷ t) ≡ (eqb (k x) (k y) && e s t)
 
 pub equal_fold_by : ByBytes equal_fold lower
 unfolding equal equal_fold
-equal_fold_by = record { more = λ x y s t. refl }
+equal_fold_by = record { ended = refl; more = λ x y s t. refl }
 
 -- ## The leading bytes of a class
 

@@ -35,6 +35,7 @@ pub fn is_letter(b: u8) -> bool
 }
 
 // Whether two texts are equal.
+#[tactic(auto, using(crate::proofs::ScanLaws::pointwise_equal))]
 pub fn equal(a: &[u8], b: &[u8]) -> bool
     ensures { result ≡ equalTo a.now b.now }
 {
@@ -112,6 +113,7 @@ pub fn read_decimal(s: &[u8], max: u32) -> Option<u32>
 }
 
 // Writes s into out from at on, and answers the place after it.
+#[tactic(auto, using(crate::proofs::PasteLaws::put_at_mid))]
 pub fn put(out: &mut [u8], at: usize, s: &[u8]) -> usize
     requires { at + length s.now ≤ length out.old }
     ensures next { result ≡ at + length s.now }

@@ -312,7 +312,7 @@ all_one : (p : ℕ → Bool) (n : ℕ) → p n ≡ true → all p (n ∷ []) ≡
 unfolding all
 all_one p n e = rw e
 
-pub record NamingFault (marks₀ p marks : List ℕ) (i : ℕ) : Type 0 where
+pub record Naming (marks₀ p marks : List ℕ) (i : ℕ) : Type 0 where
   pub pre : List ℕ
   pub within : i ≤ length p
   pub read : read_words p ≡ (read_words (drop i p) >>= λ ns. Some (pre ++ ns))
@@ -325,7 +325,7 @@ after_nothing : (o : Option (List ℕ)) → o ≡ (o >>= λ ns. Some ([] ++ ns))
 after_nothing None = refl
 after_nothing (Some ns) = refl
 
-pub naming_start : (marks p : List ℕ) → NamingFault marks p marks 0
+pub naming_start : (marks p : List ℕ) → Naming marks p marks 0
 unfolding set_named all
 naming_start marks p = record { pre = []; within = omega arith; read = after_nothing (read_words p); names = refl; good = refl; long = refl }
 
@@ -348,7 +348,7 @@ read_four (a ∷ b ∷ c ∷ d ∷ t) h = refl
 pub refused_names : (marks₀ p marks : List ℕ) → false ≡ true → marks ≡ set_named marks₀ (numbers_of p)
 refused_names marks₀ p marks z = absurd (true≢false (sym z))
 
-module _ (marks₀ p marks : List ℕ) (i : ℕ) (h : NamingFault marks₀ p marks i) where
+module _ (marks₀ p marks : List ℕ) (i : ℕ) (h : Naming marks₀ p marks i) where
   refused_by_lem : (o : Option (List ℕ)) → read_words (drop i p) ≡ o → holds (all (λ n. not (eqb (get_or marks₀ n 0) 0))) (o >>= λ ns. Some (h.pre ++ ns)) ≡ false
       → false ≡ names_marked marks₀ p
   unfolding names_marked
@@ -386,7 +386,7 @@ module _ (marks₀ p marks : List ℕ) (i : ℕ) (h : NamingFault marks₀ p mar
     pub naming_unmarked : get_or marks n 0 ≡ 0 → false ≡ names_marked marks₀ p
     naming_unmarked e = unnamed (sym here ∙ eq-eqb (get_or marks n 0) 0 e)
 
-    pub naming_more : (get_or marks n 0 ≡ 0 → ⊥) → NamingFault marks₀ p (set marks n 2) (i + 4)
+    pub naming_more : (get_or marks n 0 ≡ 0 → ⊥) → Naming marks₀ p (set marks n 2) (i + 4)
     naming_more e = record {
       pre = h.pre ++ (n ∷ []);
       within = omega arith;

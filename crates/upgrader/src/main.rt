@@ -12,7 +12,7 @@ fn upgrade(rt: &impl Print, errors: &impl Print, name: &[u8], sheet: &[u8]) -> i
     let mut out = [0u8; 45074];
     let w = gate::gate_upgrade(&mut out, sheet);
     if w.number != 0 {
-        let why = "no sheet of four sections";
+        let why = ": no sheet of four sections\n";
         return report::file::tell_refusal(errors, name, w.number, w.section, why);
     }
     report::file::write_front(rt, &out, w.count)

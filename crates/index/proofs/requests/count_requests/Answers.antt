@@ -9,8 +9,8 @@ loop-rest-init c = outright (search (parting_start, rules))
 pub returns-then-count-eq32 : goal.returns-then-count-eq32
 returns-then-count-eq32 c = outright (search (parting_full, rules))
 
-pub returns-in_err-fields : goal.returns-in_err-fields
-returns-in_err-fields c = outright (search (parting_cut, rules))
+pub returns-in-None : goal.returns-in-None
+returns-in-None c = outright (search (parting_cut, rules))
 
 pub slice_bounds-next-count : goal.slice_bounds-next-count
 slice_bounds-next-count c = outright (search (fields_within, rules))
